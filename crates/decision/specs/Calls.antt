@@ -1,0 +1,148 @@
+-- A whole call: what the server answers, and what it leaves in the table and in the rooms.
+use mathlib.Core.Bool.{Bool, true, false, _&&_}
+use mathlib.Core.List.{List, [], _∷_, _++_}
+use Prim.Native.Nat.{ℕ}
+use lib.Dec.{eqb, leb}
+use lib.ListN.{length, drop}
+use Rattle.octets.specs.Choice.{pick, require, firstOf, within}
+use Rattle.octets.specs.Texts.{filled}
+use Rattle.message.specs.Codes.{Code, none, plain, userUnknown, numberOf, kindOf}
+use Rattle.message.specs.CallsThatGetNoAnswer.{messageNumber}
+use Rattle.message.specs.ReadingAMessage.{Request, Reading, refused, request, read}
+use Rattle.message.specs.WritingTheAnswer.{answer, answerRoom}
+use Rattle.table.specs.TheTable.{Access, rowBytes, readRow, tableNumber, rowAt, withRow, Found, row, nothing, lookup}
+use Rattle.table.specs.Soundness.{sound}
+use Rattle.decision.specs.Deciding.{Verdict, decide}
+
+-- A CALL AND ITS REPLY
+
+-- The message, the server's own host and realm names, the room for the answer, the room for a cut notice, and
+-- yes or no from the wireless gateway (WAG) about a policy.
+pub record Call : Type 0 where
+  pub message : List ℕ
+  pub host : List ℕ
+  pub realm : List ℕ
+  pub answer : List ℕ
+  pub notice : List ℕ
+  pub wag : Bool
+
+-- The result, in the numbers that the call returns: the answer's length; the code and which kind of code it is
+-- (0 no answer, 1 Result-Code, 2 Experimental-Result); the place taken by a new access, else 0; whether a cut was made
+-- (1, else 0) and the lengths of the cut access's Session-Id and gateway host, 0 without one.
+pub record Result : Type 0 where
+  pub length : ℕ
+  pub code : ℕ
+  pub kind : ℕ
+  pub place : ℕ
+  pub cut : ℕ
+  pub cutSession : ℕ
+  pub cutHost : ℕ
+
+-- The reply: the result, and all that stands in the two rooms afterwards.
+pub record Reply : Type 0 where
+  pub result : Result
+  pub answer : List ℕ
+  pub notice : List ℕ
+
+-- What a call leaves: its reply, and the whole table.
+pub record Left : Type 0 where
+  pub reply : Reply
+  pub table : List ℕ
+
+-- CALLS THAT GET NO DIAMETER ANSWER
+
+abbrev pub answerLeast : ℕ
+answerLeast = 5120
+
+abbrev pub noticeLength : ℕ
+noticeLength = 256
+
+-- In order: 1, the table is not 1 to 1,024 rows; 2, the own host or realm is not 1 to 128 bytes; 3, the answer room is
+-- under 5,120 bytes; 4, the notice room is under 256; then the message's own, 5 to 8. 0 where none fails.
+unfoldable pub callNumber : List ℕ → Call → ℕ
+callNumber t c =
+    firstOf
+    (tableNumber t
+    ∷ require (within 1 128 (length (c .host)) && within 1 128 (length (c .realm))) 2
+    ∷ require (leb answerLeast (length (c .answer))) 3
+    ∷ require (leb noticeLength (length (c .notice))) 4
+    ∷ messageNumber (c .message)
+    ∷ [])
+
+-- Each returns its number, kind "no answer", length 0, place 0 and no cut, and changes nothing.
+unfoldable pub silent : List ℕ → Call → ℕ → Left
+silent t c n =
+    record {
+      reply = record {
+        result = record { length = 0; code = n; kind = kindOf (none n); place = 0; cut = 0; cutSession = 0; cutHost = 0 };
+        answer = c .answer;
+        notice = c .notice;
+      };
+      table = t;
+    }
+
+-- THE CUT NOTICE
+
+-- Session-Id in bytes 0 to 127 and gateway host in 128 to 255, filled up with zeros; bytes past them, and without a cut
+-- the whole room, are untouched.
+unfoldable pub noticeRoom : List Access → List ℕ → List ℕ
+noticeRoom [] room = room
+noticeRoom (a ∷ as') room = filled (a .session) 128 ++ (filled (a .host) 128 ++ drop noticeLength room)
+
+unfoldable pub resultOf : (length place : ℕ) → Code → List Access → Result
+resultOf n place c [] =
+    record { length = n; code = numberOf c; kind = kindOf c; place = place; cut = 0; cutSession = 0; cutHost = 0 }
+resultOf n place c (a ∷ as') =
+    record { length = n; code = numberOf c; kind = kindOf c; place = place; cut = 1; cutSession = length (a .session); cutHost = length (a .host) }
+
+-- A CALL THAT IS ANSWERED
+
+unfoldable pub reply : Call → Code → (place : ℕ) → (cut : List Access) → Reply
+reply c code place cut =
+    record {
+      result = resultOf (length (answer (c .message) (c .host) (c .realm) code)) place code cut;
+      answer = answerRoom (c .message) (c .host) (c .realm) code (c .answer);
+      notice = noticeRoom cut (c .notice);
+    }
+
+-- A refusal: the code, no place, no cut, and the table as it was.
+unfoldable pub refusal : List ℕ → Call → Code → Left
+refusal t c code = record { reply = reply c code 0 []; table = t }
+
+-- The row that a verdict leaves: the bytes of what it says then; every code but 2001 leaves the table as it was.
+unfoldable pub settled : List ℕ → Call → ℕ → Verdict → Left
+settled t c i v =
+    record {
+      reply = reply c (v .code) (v .place) (v .cut);
+      table = pick (eqb (numberOf (v .code)) 2001) (withRow t i (rowBytes (v .after))) t;
+    }
+
+-- Any request: no row, USER_UNKNOWN; the row is unsound, 5012; else as decided.
+unfoldable pub onRow : List ℕ → Call → Request → Found → Left
+onRow t c q nothing = refusal t c userUnknown
+onRow t c q (row i) =
+    let r : List ℕ = rowAt t i in
+    let decided : Left = settled t c i (decide (q .ask) (c .wag) (readRow r)) in
+    pick (sound r) decided (refusal t c (plain 5012))
+
+-- The message is read; the first failing test gives the code.
+unfoldable pub onReading : List ℕ → Call → Reading → Left
+onReading t c (refused code) = refusal t c (plain code)
+onReading t c (request q) = onRow t c q (lookup t (q .user))
+
+unfoldable pub handle : List ℕ → Call → Left
+handle t c =
+    let answered : Left = onReading t c (read (c .message)) in
+    pick (eqb (callNumber t c) 0) answered (silent t c (callNumber t c))
+
+-- A LIST OF CALLS, one after another on one table: the replies, one for each call, and the table in the end.
+pub record Ran : Type 0 where
+  pub replies : List Reply
+  pub table : List ℕ
+
+unfoldable pub ranFirst : Left → Ran → Ran
+ranFirst l rest = record { replies = l .reply ∷ rest .replies; table = rest .table }
+
+unfoldable pub run : List ℕ → List Call → Ran
+run t [] = record { replies = []; table = t }
+run t (c ∷ cs) = ranFirst (handle t c) (run ((handle t c) .table) cs)

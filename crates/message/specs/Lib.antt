@@ -1,0 +1,5 @@
+pub mod Codes
+pub mod CallsThatGetNoAnswer
+pub mod ReadingAMessage
+pub mod WritingTheAnswer
+pub mod WorkedCases

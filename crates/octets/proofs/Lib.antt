@@ -1,0 +1,3 @@
+pub mod Lists
+pub mod Choice
+pub mod Texts

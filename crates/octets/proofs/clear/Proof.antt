@@ -1,0 +1,73 @@
+use mathlib.Core.List.{append-nil}
+use lib.Seq.{drop-length}
+use borrow.Author.Fill.{fill-more}
+use Rattle.octets.specs.Texts.{zeros}
+use mathlib.Core.Path.{_≡_, refl, sym, ap, _∙_}
+use mathlib.Core.List.{List, [], _∷_, _++_}
+use Prim.Native.Nat.{ℕ, suc, _+_, _-_, _*_, _/_, _%_, _^_, _<_, _≤_}
+use native.Mathlib.Omega.{arith}
+use native.Mathlib.Numerals.{add-one}
+use lib.ListN.{length, getD, take, drop, set, length-set, length-append, length-take, length-drop}
+use borrow.Author.Needs.{needs}
+use Rattle.octets.proofs.clear.Statement.{statement}
+use Rattle.octets.proofs.clear.Tie as tie
+use Rattle.octets.proofs.clear.Reads as reads
+use Rattle.octets.proofs.clear.Lts as lts
+
+abbrev Inv-loop : tie.InvT-loop
+Inv-loop s₀ i₀ s i = (i ≤ length s₀) × (length s ≡ length s₀) × (s ≡ zeros i ++ drop i s₀)
+
+abbrev μ-loop : tie.MeasureT-loop
+μ-loop s₀ i₀ s i = length s₀ - i
+
+-- src/lib.rt:87:5
+loop-holds : tie.Need-loop-holds Inv-loop μ-loop
+unfolding zeros
+loop-holds c = (search needs, search needs, refl)
+
+-- src/lib.rt:88:9
+slice-write-s : tie.Need-slice-write-s Inv-loop μ-loop
+slice-write-s c = search needs
+
+-- src/lib.rt:89:9
+add-i : tie.Need-add-i Inv-loop μ-loop
+add-i c = search needs
+
+-- src/lib.rt:87:5
+loop-less : tie.Need-loop-less Inv-loop μ-loop
+loop-less c = omega arith
+
+-- src/lib.rt:87:5
+loop-again : tie.Need-loop-again Inv-loop μ-loop
+unfolding zeros
+loop-again c =
+    let l = c .before in (
+      omega arith,
+      simp length-set (l .loop .inv .1),
+      rw (l .loop .inv .2) (fill-more (l .loop .i) 0 (l .before .args .s .now) (omega arith)),
+    )
+
+-- src/lib.rt:83:1
+same-length : tie.Need-same-length Inv-loop μ-loop
+same-length c = search needs
+
+-- src/lib.rt:83:1
+returns : tie.Need-returns Inv-loop μ-loop
+returns c =
+    let l = c .before in
+    let e : l .loop .i ≡ length (l .before .args .s .now) = omega arith in
+    l .loop .inv .2 ∙ rw (e, drop-length, append-nil)
+
+pub clear-spec : {M : Type 1} → statement M
+clear-spec =
+    tie.close
+    (tie.spec
+    Inv-loop
+    μ-loop
+    loop-holds
+    slice-write-s
+    add-i
+    loop-less
+    loop-again
+    same-length
+    returns)

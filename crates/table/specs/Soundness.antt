@@ -1,0 +1,121 @@
+-- The table: when a row is sound. Clause by clause, in the paper's order.
+use mathlib.Core.Bool.{Bool, true, false, _&&_, not}
+use mathlib.Core.List.{List, [], _∷_, map}
+use Prim.Native.Nat.{ℕ, zero, suc, _+_, _-_, _*_, _/_, _%_, _^_}
+use lib.Dec.{eqb, leb, ltb}
+use lib.ListN.{length, getD, take, drop}
+use Rattle.octets.specs.Choice.{pick, within}
+use Rattle.octets.specs.Lists.{every, keep, distinct, sumOf, upTo0}
+use Rattle.octets.specs.Texts.{part, same, allZero}
+use Rattle.table.specs.TheTable.{sums, Entry, Access, Subscriber, places, line, usedBits, rowLength, block, readEntries, orderLine, readRow}
+
+-- THE FORM
+
+-- A room of bytes holds n bytes of text, and zeros behind them.
+unfoldable pub zeroBehind : ℕ → List ℕ → Bool
+zeroBehind n room = allZero (drop n room)
+
+unfoldable pub isDigit : ℕ → Bool
+isDigit d = within 48 57 d
+
+-- A name: 1 to 15 ASCII decimal digits.
+unfoldable pub isName : List ℕ → Bool
+isName n = within 1 15 (length n) && every isDigit n
+
+-- Block 0: byte 0 is 1; the name's length 1 to 15, digits, zeros behind them; at most 4 entries; byte 19 zero;
+-- zeros behind the places on the order line; bytes 28 to 31 and 448 to 509 zero.
+unfoldable pub headForm : List ℕ → Bool
+headForm b =
+    eqb (getD b 0 0) 1 && (isName (part b 2 (getD b 1 0)) && (zeroBehind (getD b 1 0) (part b 2 15)
+    && (leb (getD b 18 0) 4 && (eqb (getD b 19 0) 0 && (zeroBehind (length (upTo0 (part b 20 8))) (part b 20 8)
+    && (allZero (part b 28 4) && allZero (part b 448 62)))))))
+
+-- An entry of 104 bytes: length 1 to 100, zeros behind the label, flags 0 to 3, limit 1 to 8, zero.
+unfoldable pub entryForm : List ℕ → Bool
+entryForm b =
+    within 1 100 (getD b 0 0) && (zeroBehind (getD b 0 0) (part b 1 100)
+    && (leb (getD b 101 0) 3 && (within 1 8 (getD b 102 0) && eqb (getD b 103 0) 0)))
+
+-- The first n entries have this form, and the bytes of the others are zero.
+unfoldable pub entriesForm : ℕ → List ℕ → Bool
+entriesForm zero b = allZero b
+entriesForm (suc n) b = entryForm (take 104 b) && entriesForm n (drop 104 b)
+
+-- Bit k of byte 17 says whether place k + 1 is in use.
+unfoldable pub inUse : List ℕ → ℕ → Bool
+inUse r k = eqb (getD (block r 0) 17 0 / 2 ^ (k - 1) % 2) 1
+
+-- A place in use: byte 0 is 2; lengths of Session-Id and host 1 to 128, of the policy at most 128; byte 4 is 0 or 1;
+-- bytes 6 and 7 zero; zeros behind each text; bytes 392 to 509 zero.
+unfoldable pub accessForm : List ℕ → Bool
+accessForm b =
+    eqb (getD b 0 0) 2 && (within 1 128 (getD b 2 0) && (within 1 128 (getD b 3 0) && (leb (getD b 5 0) 128
+    && (leb (getD b 4 0) 1 && (allZero (part b 6 2) && (zeroBehind (getD b 2 0) (part b 8 128)
+    && (zeroBehind (getD b 3 0) (part b 136 128) && (zeroBehind (getD b 5 0) (part b 264 128) && allZero (part b 392 118)))))))))
+
+-- A free place is a wholly zero block.
+unfoldable pub placeForm : List ℕ → ℕ → Bool
+placeForm r k = pick (inUse r k) (accessForm (block r k)) (allZero (block r k))
+
+unfoldable pub hasForm : List ℕ → Bool
+hasForm r =
+    eqb (length r) rowLength && (headForm (block r 0) && (entriesForm (getD (block r 0) 18 0) (part (block r 0) 32 416)
+    && every (placeForm r) places))
+
+-- THE SUMS
+
+-- Bytes 510 and 511 of each of the nine blocks are the second and first sum of its bytes 0 to 509.
+unfoldable pub sumsAgree : List ℕ → ℕ → Bool
+sumsAgree r k = same (part (block r k) 510 2) (sums (take 510 (block r k)))
+
+-- THE CONTENTS
+
+-- The order line lists exactly the places in use, once each: its numbers are places, all differ, and byte 17 has
+-- exactly their bits.
+unfoldable pub lineExact : List ℕ → Bool
+lineExact r =
+    every (within 1 8) (orderLine r) && (distinct eqb (orderLine r) && eqb (getD (block r 0) 17 0) (usedBits (orderLine r)))
+
+-- When two labels are the same.
+unfoldable pub sameLabel : List ℕ → List ℕ → Bool
+sameLabel a b = same a b
+
+unfoldable pub labels : List Entry → List (List ℕ)
+labels es = map (λ (e : Entry). e .label) es
+
+unfoldable pub limits : List Entry → List ℕ
+limits es = map (λ (e : Entry). e .limit) es
+
+unfoldable pub sessions : List Access → List (List ℕ)
+sessions a = map (λ (x : Access). x .session) a
+
+-- The accesses on entry n, first opened first.
+unfoldable pub onEntry : ℕ → List Access → List Access
+onEntry n a = keep (λ (x : Access). eqb (x .entry) n) a
+
+-- No entry has more accesses than its limit; entries are counted from n.
+unfoldable pub underLimits : ℕ → List ℕ → List Access → Bool
+underLimits n [] a = true
+underLimits n (l ∷ ls) a = leb (length (onEntry n a)) l && underLimits (suc n) ls a
+
+-- Byte 5 is 1 or more exactly if byte 4 is 1.
+unfoldable pub policyMarked : List ℕ → ℕ → Bool
+policyMarked r k = eqb (getD (block r k) 4 0) (pick (leb 1 (getD (block r k) 5 0)) 1 0)
+
+-- A ROW IS SOUND
+
+-- It has this form; all nine sums agree; the order line lists exactly the places in use, once each; labels differ;
+-- limits sum to at most 8; no Session-Id stands twice; each access names an entry that exists; no entry has more
+-- accesses than its limit; and byte 5 is 1 or more exactly if byte 4 is 1.
+unfoldable pub sound : List ℕ → Bool
+sound r =
+    let says : Subscriber = readRow r in
+    hasForm r
+    && (every (sumsAgree r) (0 ∷ places)
+    && (lineExact r
+    && (distinct sameLabel (labels (says .entries))
+    && (leb (sumOf (limits (says .entries))) 8
+    && (distinct same (sessions (says .accesses))
+    && (every (λ (x : Access). within 1 (length (says .entries)) (x .entry)) (says .accesses)
+    && (underLimits 1 (limits (says .entries)) (says .accesses)
+    && every (policyMarked r) (orderLine r))))))))

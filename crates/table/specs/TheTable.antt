@@ -1,0 +1,200 @@
+-- The table: its rows, what a row says, the bytes of a row, and how a subscriber's row is found.
+use mathlib.Core.Bool.{Bool, true, false, _&&_}
+use mathlib.Core.List.{List, [], _∷_, _++_, map}
+use Prim.Native.Nat.{ℕ, zero, suc, _+_, _*_, _/_, _%_}
+use lib.Dec.{eqb}
+use lib.ListN.{length, getD, take, drop}
+use Rattle.octets.specs.Choice.{pick, require, within}
+use Rattle.octets.specs.Lists.{every, keep, firstOr, counted, isOn, upTo0}
+use Rattle.octets.specs.Texts.{part, zeros, filled, same, put}
+
+-- THE SUMS
+
+-- Fletcher-16. Both sums start at 0; each byte is added to the first, then the first to the second, all modulo 255.
+-- The second stands before the first.
+unfoldable pub sumsFrom : ℕ → ℕ → List ℕ → List ℕ
+sumsFrom first second [] = second ∷ first ∷ []
+sumsFrom first second (b ∷ bs) = sumsFrom ((first + b) % 255) ((second + (first + b) % 255) % 255) bs
+
+abbrev pub sums : List ℕ → List ℕ
+sums s = sumsFrom 0 0 s
+
+-- A block: 510 bytes and their sums.
+unfoldable pub sealed : List ℕ → List ℕ
+sealed s = s ++ sums s
+
+-- WHAT A ROW SAYS
+
+-- A W-APN entry. Flag 1 is barred, flag 2 may roam.
+pub record Entry : Type 0 where
+  pub label : List ℕ
+  pub flags : ℕ
+  pub limit : ℕ
+
+unfoldable pub barred : Entry → Bool
+barred e = eqb (e .flags % 2) 1
+
+unfoldable pub mayRoam : Entry → Bool
+mayRoam e = eqb (e .flags / 2 % 2) 1
+
+-- An access: its place 1 to 8, the number of its entry counted from 1, Session-Id, gateway host and policy
+-- (no bytes where none is held).
+pub record Access : Type 0 where
+  pub place : ℕ
+  pub entry : ℕ
+  pub session : List ℕ
+  pub host : List ℕ
+  pub policy : List ℕ
+
+-- A subscriber. The accesses stand in the order in which they were opened, first opened first.
+pub record Subscriber : Type 0 where
+  pub name : List ℕ
+  pub entries : List Entry
+  pub accesses : List Access
+
+unfoldable pub places : List ℕ
+places = counted 1 8
+
+-- The order line: the places of the accesses, first opened first.
+unfoldable pub line : List Access → List ℕ
+line a = map (λ (x : Access). x .place) a
+
+-- THE BYTES OF A ROW
+
+-- An entry: the label's length, 100 bytes for the label, flags, limit, zero.
+unfoldable pub entryBytes : Entry → List ℕ
+entryBytes e = length (e .label) ∷ filled (e .label) 100 ++ (e .flags ∷ e .limit ∷ 0 ∷ [])
+
+unfoldable pub entriesBytes : List Entry → List ℕ
+entriesBytes [] = []
+entriesBytes (e ∷ es) = entryBytes e ++ entriesBytes es
+
+-- A byte from its bits, lowest first.
+unfoldable pub fromBits : List Bool → ℕ
+fromBits [] = 0
+fromBits (b ∷ bs) = pick b 1 0 + 2 * fromBits bs
+
+-- Byte 17: bit k is set exactly if place k + 1 is in use.
+unfoldable pub usedBits : List ℕ → ℕ
+usedBits l = fromBits (map (isOn l) places)
+
+-- Block 0: 1; the name's length and 15 bytes for the name; the places in use; the number of entries; zero;
+-- the order line in 8 bytes; 4 zeros; four entries of 104 bytes; zeros; the sums.
+unfoldable pub headBytes : Subscriber → List ℕ
+headBytes s =
+    sealed (1 ∷ length (s .name) ∷ filled (s .name) 15
+    ++ (usedBits (line (s .accesses)) ∷ length (s .entries) ∷ 0 ∷ filled (line (s .accesses)) 8
+    ++ (zeros 4 ++ (filled (entriesBytes (s .entries)) 416 ++ zeros 62))))
+
+-- Byte 4 of a place: 1 if a policy is held, else 0.
+unfoldable pub held : List ℕ → ℕ
+held [] = 0
+held (x ∷ xs) = 1
+
+-- An access: 2; its entry's number; the lengths of Session-Id and host; whether a policy is held, and its length;
+-- 2 zeros; the three texts in 128 bytes each; zeros; the sums.
+unfoldable pub accessBytes : Access → List ℕ
+accessBytes a =
+    sealed (2 ∷ a .entry ∷ length (a .session) ∷ length (a .host) ∷ held (a .policy) ∷ length (a .policy) ∷ 0 ∷ 0
+    ∷ filled (a .session) 128 ++ (filled (a .host) 128 ++ (filled (a .policy) 128 ++ zeros 118)))
+
+-- The block of place k: that of its access; a free place is a wholly zero block.
+unfoldable pub placeBytes : List Access → ℕ → List ℕ
+placeBytes [] k = zeros 512
+placeBytes (a ∷ r) k = pick (eqb (a .place) k) (accessBytes a) (placeBytes r k)
+
+unfoldable pub placesBytes : List Access → List ℕ → List ℕ
+placesBytes a [] = []
+placesBytes a (k ∷ ks) = placeBytes a k ++ placesBytes a ks
+
+-- A row: block 0, and a block for each of the places 1 to 8.
+unfoldable pub rowBytes : Subscriber → List ℕ
+rowBytes s = headBytes s ++ placesBytes (s .accesses) places
+
+-- READING A ROW
+
+-- A row has nine blocks of 512 bytes; block k is that of place k.
+abbrev pub rowLength : ℕ
+rowLength = 4608
+
+abbrev pub block : List ℕ → ℕ → List ℕ
+block r k = part r (512 * k) 512
+
+unfoldable pub readEntry : List ℕ → Entry
+readEntry b = record { label = part b 1 (getD b 0 0); flags = getD b 101 0; limit = getD b 102 0 }
+
+unfoldable pub readEntries : ℕ → List ℕ → List Entry
+readEntries zero b = []
+readEntries (suc n) b = readEntry (take 104 b) ∷ readEntries n (drop 104 b)
+
+unfoldable pub readAccess : ℕ → List ℕ → Access
+readAccess k b =
+    record {
+      place = k;
+      entry = getD b 1 0;
+      session = part b 8 (getD b 2 0);
+      host = part b 136 (getD b 3 0);
+      policy = part b 264 (getD b 5 0);
+    }
+
+-- The places on the order line, bytes 20 to 27 up to the first zero.
+unfoldable pub orderLine : List ℕ → List ℕ
+orderLine r = upTo0 (part (block r 0) 20 8)
+
+-- What the bytes say, by the layout above.
+unfoldable pub readRow : List ℕ → Subscriber
+readRow r =
+    record {
+      name = part (block r 0) 2 (getD (block r 0) 1 0);
+      entries = readEntries (getD (block r 0) 18 0) (part (block r 0) 32 416);
+      accesses = map (λ (k : ℕ). readAccess k (block r k)) (orderLine r);
+    }
+
+-- THE ROWS OF A TABLE
+
+-- Number 1: a table has 1 to 1,024 rows and nothing behind them.
+unfoldable pub tableNumber : List ℕ → ℕ
+tableNumber t = require (eqb (length t % rowLength) 0 && within 1 1024 (length t / rowLength)) 1
+
+-- The first n rows, one behind another.
+unfoldable pub cutInRows : ℕ → List ℕ → List (List ℕ)
+cutInRows zero t = []
+cutInRows (suc n) t = take rowLength t ∷ cutInRows n (drop rowLength t)
+
+unfoldable pub rows : List ℕ → List (List ℕ)
+rows t = cutInRows (length t / rowLength) t
+
+-- Row i, counted from 0, and the table with another row there.
+unfoldable pub rowAt : List ℕ → ℕ → List ℕ
+rowAt t i = part t (rowLength * i) rowLength
+
+unfoldable pub withRow : List ℕ → ℕ → List ℕ → List ℕ
+withRow t i r = put t (rowLength * i) r
+
+-- THE LOOKUP
+
+-- What a row is found by: byte 0 is 1, byte 1 is 1 to 15 and the name's length, and the name's bytes follow.
+unfoldable pub isRowOf : List ℕ → List ℕ → Bool
+isRowOf name r =
+    eqb (getD r 0 0) 1 && (within 1 15 (getD r 1 0) && (eqb (getD r 1 0) (length name) && same (part r 2 (length name)) name))
+
+-- The first row that passes a test.
+pub data Found : Type 0 where
+  row : ℕ → Found
+  nothing : Found
+
+unfoldable pub later : Found → Found
+later (row i) = row (suc i)
+later nothing = nothing
+
+unfoldable pub firstRow : (List ℕ → Bool) → List (List ℕ) → Found
+firstRow f [] = nothing
+firstRow f (r ∷ rs) = let others : Found = later (firstRow f rs) in pick (f r) (row 0) others
+
+-- A subscriber's row is the first that is found by the name, sound or not.
+unfoldable pub lookup : List ℕ → List ℕ → Found
+lookup t name = firstRow (isRowOf name) (rows t)
+
+unfoldable pub isFound : Found → Bool
+isFound (row i) = true
+isFound nothing = false
