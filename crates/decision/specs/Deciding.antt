@@ -4,14 +4,14 @@ use mathlib.Core.List.{List, [], _∷_, map}
 use Prim.Native.Nat.{ℕ, suc, _-_}
 use lib.Dec.{eqb, ltb}
 use lib.ListN.{length, getD}
-use Rattle.octets.specs.Choice.{pick}
-use Rattle.octets.specs.Lists.{keep, firstOr}
-use Rattle.octets.specs.Texts.{same}
-use Rattle.message.specs.Codes.{Code, plain, roamingNotAllowed, unusedByUser, noSubscription}
+use Rattle.changes.specs.Changes.{freed, lowestFree, opened, routed}
+use Rattle.message.specs.Codes.{Code, noSubscription, plain, roamingNotAllowed, unusedByUser}
 use Rattle.message.specs.ReadingAMessage.{Ask, tunnel, policy, termination}
-use Rattle.table.specs.TheTable.{Entry, Access, Subscriber, line, barred, mayRoam}
-use Rattle.table.specs.Soundness.{sameLabel, onEntry}
-use Rattle.table.specs.Changes.{lowestFree, freed, opened, routed}
+use Rattle.octets.specs.Choice.{pick}
+use Rattle.octets.specs.Lists.{firstOr, keep}
+use Rattle.octets.specs.Texts.{same}
+use Rattle.table.specs.Soundness.{onEntry, sameLabel}
+use Rattle.table.specs.TheTable.{Access, Entry, Subscriber, barred, line, mayRoam}
 
 -- What is decided: the code; the place that a new access takes, else 0; the accesses cut, one or none;
 -- and what the row says afterwards, which is what it said unless the code is 2001.

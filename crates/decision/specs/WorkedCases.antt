@@ -4,12 +4,12 @@ use mathlib.Core.List.{List, [], _∷_}
 use Prim.Native.Nat.{ℕ}
 use lib.Dec.{eqb}
 use lib.ListN.{length, take, drop}
-use Rattle.octets.specs.Texts.{same, zeros, filled}
-use Rattle.message.specs.WorkedCases.{case9, case10, name, board, capitalBoard, yard, gate, session, gateway, ownHost, ownRealm, openAt, openVisited, routeBy, endAt}
-use Rattle.table.specs.TheTable.{Entry, orderLine}
-use Rattle.table.specs.SetUp.{clear, enter, add}
+use Rattle.changes.specs.SetUp.{add, clear, enter}
+use Rattle.message.specs.WorkedCases.{board, capitalBoard, case10, case9, endAt, gate, gateway, name, openAt, openVisited, ownHost, ownRealm, routeBy, session, yard}
+use Rattle.octets.specs.Texts.{filled, same, zeros}
+use Rattle.table.specs.TheTable.{orderLine}
 use Rattle.table.specs.WorkedCases.{case8}
-use Rattle.decision.specs.Calls.{Call, Result, Left, handle}
+use Rattle.decision.specs.Calls.{Left, handle}
 
 -- THE TABLE OF THE CASES, made by the set-up operations: one row, the subscriber with "board" (limit 2, no flags) and
 -- "yard" (limit 1, barred).

@@ -8,7 +8,7 @@ use borrow.Author.Tests.{leb-true, le-leb, eqb-true, eqb-false, eq-eqb, ne-eqb, 
 use lib.Dec.{eqb, leb}
 use lib.ListN.{length, length-append}
 use Rattle.octets.specs.Choice.{pick, within}
-use Rattle.octets.specs.Lists.{every, keep, distinct, counted}
+use Rattle.octets.specs.Lists.{every, keep, distinct, counted, isOn}
 use Rattle.octets.specs.Texts.{same}
 
 pub by-test {ℓ} : {P : Type ℓ} (b : Bool) → (b ≡ true → P) → (b ≡ false → P) → P
@@ -189,3 +189,28 @@ keep-but-one f p (k ∷ ks) d =
     let same-rest : keep (λ j. not (eqb p j) && f j) ks ≡ keep f ks = rw q (keep-and f (λ j. not (eqb k j)) ks (and-left _ (distinct eqb ks) d)) in
     by-test (f k) (λ t. rw (e, t, same-rest) (omega arith)) (λ t. rw (e, t, same-rest) (omega arith)))
     (λ e. by-test (f k) (λ t. rw (e, t) (omega arith)) (λ t. rw (e, t) (omega arith)))
+
+-- WHAT STANDS IN A LIST
+
+pub on-cons : (k : ℕ) (ks : List ℕ) (p : ℕ) → eqb p k ≡ false → isOn (k ∷ ks) p ≡ isOn ks p
+unfolding isOn every
+on-cons k ks p e = rw (ne-eqb k p (λ q. eqb-false p k e (sym q)))
+
+pub on-first : (k : ℕ) (ks : List ℕ) (p : ℕ) → k ≡ p → isOn (k ∷ ks) p ≡ true
+unfolding isOn every
+on-first k ks p q = rw (eq-eqb k p q)
+
+pub on-none : (p : ℕ) → isOn [] p ≡ false
+unfolding isOn every
+on-none p = refl
+
+pub in-counted : (b n p : ℕ) → b ≤ p → p < b + n → isOn (counted b n) p ≡ true
+unfolding counted
+in-counted b zero p lo hi = absurd (omega arith)
+in-counted b (suc n) p lo hi =
+    by-test (eqb p b)
+    (λ e. on-first b (counted (suc b) n) p (sym (eqb-true p b e)))
+    (λ e. on-cons b (counted (suc b) n) p e ∙ in-counted (suc b) n p (omega (arith, eqb-false p b e)) (omega arith))
+
+pub eqb-comm : (m n : ℕ) → eqb m n ≡ eqb n m
+eqb-comm m n = by-test (eqb m n) (λ e. e ∙ sym (eq-eqb n m (sym (eqb-true m n e)))) (λ e. e ∙ sym (ne-eqb n m (λ q. eqb-false m n e (sym q))))

@@ -12,9 +12,8 @@ use lib.Seq.{drop-cons, take-all}
 use Rattle.octets.specs.Choice.{pick, within}
 use Rattle.octets.specs.Lists.{counted, distinct, every, isOn, sumOf, upTo0}
 use Rattle.octets.specs.Texts.{allZero, part, same, zeros}
-use Rattle.octets.proofs.Lists.{and-left, and-right, both, by-test, every-imp, every-map, same-eq, within-high, within-low}
+use Rattle.octets.proofs.Lists.{and-left, and-right, both, by-test, every-imp, every-map, in-counted, on-first, same-eq, within-high, within-low}
 use Rattle.octets.proofs.Texts.{length-part}
-use Rattle.table.proofs.Bits.{in-counted, on-first}
 use Rattle.table.proofs.Bytes.{length-row, said-good, said-is, said-row}
 use Rattle.table.proofs.Form.{accessTests, entriesTests, entryTests, every-on, headTests, length-block, length-read, line-read, placeTests, said-tests, sumOk, tests}
 use Rattle.table.proofs.Good.{Entered, Fits, Good, Standing, each-entry, good-is, goodAccess, goodEntry, places-eight, saidSound, standing}

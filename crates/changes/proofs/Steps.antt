@@ -12,16 +12,16 @@ use lib.ListN.{List·getD-append}
 use Rattle.octets.specs.Choice.{pick}
 use Rattle.octets.specs.Lists.{keep}
 use Rattle.octets.specs.Texts.{filled, part, zeros}
+use Rattle.table.specs.Soundness.{onEntry, sound}
+use Rattle.table.specs.TheTable.{Access, Entry, Subscriber, accessBytes, block, entriesBytes, entryBytes, headBytes, held, line, orderLine, places, placesBytes, readAccess, readRow, rowBytes, sealed, sumsFrom, usedBits}
+use Rattle.changes.proofs.Bits.{lowest-free, ones-accesses}
+use Rattle.changes.proofs.Stays.{some-vacant}
+use Rattle.changes.specs.Changes.{lowestFree, withAccesses}
 use Rattle.octets.proofs.Lists.{by-test}
 use Rattle.octets.proofs.Texts.{length-filled, length-zeros}
-use Rattle.table.proofs.Bits.{lowest-free, ones-accesses}
 use Rattle.table.proofs.Bytes.{drop-past, fill, getD-past, length-entries, length-entry, length-head}
 use Rattle.table.proofs.Form.{take-zeros}
-use Rattle.table.proofs.Good.{some-vacant}
 use Rattle.table.proofs.Sound.{row-is, says-good}
-use Rattle.table.specs.Changes.{lowestFree, withAccesses}
-use Rattle.table.specs.Soundness.{onEntry, sound}
-use Rattle.table.specs.TheTable.{Access, Entry, Subscriber, accessBytes, block, entriesBytes, entryBytes, headBytes, held, line, orderLine, places, placesBytes, readAccess, readRow, rowBytes, sealed, sumsFrom, usedBits}
 
 -- block 0 in its parts
 module _ (p q x c z : ℕ) (n l y t : List ℕ) (hn : length n ≡ 15) (hl : length l ≡ 8) where

@@ -11,11 +11,11 @@ use lib.Seq.{take-append-add, take-at, drop-at}
 use Rattle.octets.specs.Choice.{pick, within}
 use Rattle.octets.specs.Lists.{counted, every, keep}
 use Rattle.octets.specs.Texts.{zeros}
+use Rattle.table.specs.TheTable.{Access, Subscriber, accessBytes, headBytes, placeBytes, places, placesBytes, rowBytes}
+use Rattle.changes.proofs.Stays.{free-place, hold-place, line-hold}
+use Rattle.changes.specs.Changes.{freed, hold, leave, lowestFree, newAccess, opened, routed, vacant, withAccesses}
 use Rattle.octets.proofs.Lists.{and-left, and-right, by-test, within-high, within-low}
 use Rattle.table.proofs.Bytes.{drop-past, length-head, length-place}
-use Rattle.table.proofs.Good.{free-place, hold-place, line-hold}
-use Rattle.table.specs.Changes.{freed, hold, leave, lowestFree, newAccess, opened, routed, vacant, withAccesses}
-use Rattle.table.specs.TheTable.{Access, Subscriber, accessBytes, headBytes, placeBytes, places, placesBytes, rowBytes}
 
 abbrev pub putBlock : List ℕ → ℕ → List ℕ → List ℕ
 putBlock r k b = take (512 * k) r ++ (b ++ drop (512 * k + 512) r)

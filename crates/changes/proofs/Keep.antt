@@ -7,13 +7,14 @@ use native.Mathlib.Omega.{arith}
 use borrow.Author.Tests.{leb-true}
 use lib.ListN.{length}
 use Rattle.octets.specs.Lists.{distinct, every, sumOf}
-use Rattle.table.proofs.Bytes.{read-row}
-use Rattle.table.proofs.Good.{Fits, Good, MayEnter, MayOpen, entered, entered-more, fits, fits-hold, fits-keep, fits-more, fits-open, goodAccesses, goodEntries}
-use Rattle.table.proofs.Sound.{says-good, sound-row}
-use Rattle.table.specs.Changes.{freed, leave, opened, routed, withAccesses}
-use Rattle.table.specs.SetUp.{named, withEntry}
 use Rattle.table.specs.Soundness.{isName, labels, limits, sessions, sound, underLimits}
 use Rattle.table.specs.TheTable.{Access, Entry, Subscriber, line, readRow, rowBytes}
+use Rattle.changes.proofs.Stays.{MayEnter, MayOpen, entered-more, fits-hold, fits-more, fits-open}
+use Rattle.changes.specs.Changes.{freed, leave, opened, routed, withAccesses}
+use Rattle.changes.specs.SetUp.{named, withEntry}
+use Rattle.table.proofs.Bytes.{read-row}
+use Rattle.table.proofs.Good.{Fits, Good, entered, fits, fits-keep, goodAccesses, goodEntries}
+use Rattle.table.proofs.Sound.{says-good, sound-row}
 
 -- the row of a changed subscriber
 abbrev pub changed : (Subscriber → Subscriber) → List ℕ → List ℕ

@@ -4,8 +4,8 @@ use mathlib.Core.List.{List, [], _∷_, _++_, map}
 use Prim.Native.Nat.{ℕ}
 use lib.Dec.{eqb}
 use Rattle.octets.specs.Choice.{pick}
-use Rattle.octets.specs.Lists.{every, keep, firstOr}
+use Rattle.octets.specs.Lists.{every, firstOr, keep}
 use Rattle.table.specs.TheTable.{Access, Subscriber, places}
 
 abbrev pub withAccesses : List Access → Subscriber → Subscriber
 withAccesses a s = record { name = s .name; entries = s .entries; accesses = a }

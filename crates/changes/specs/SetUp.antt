@@ -4,11 +4,11 @@ use mathlib.Core.List.{List, [], _∷_, _++_}
 use Prim.Native.Nat.{ℕ, _+_}
 use lib.Dec.{eqb, leb, ltb}
 use lib.ListN.{length}
-use Rattle.octets.specs.Choice.{pick, require, firstOf, within}
+use Rattle.octets.specs.Choice.{firstOf, pick, require, within}
 use Rattle.octets.specs.Lists.{every, sumOf}
-use Rattle.octets.specs.Texts.{zeros, allZero}
-use Rattle.table.specs.TheTable.{Entry, Access, Subscriber, rowBytes, readRow, tableNumber, rows, rowAt, withRow, Found, row, nothing, firstRow, lookup, isFound}
-use Rattle.table.specs.Soundness.{isName, sameLabel, labels, limits, sound}
+use Rattle.octets.specs.Texts.{allZero, zeros}
+use Rattle.table.specs.Soundness.{isName, labels, limits, sameLabel, sound}
+use Rattle.table.specs.TheTable.{Entry, Found, Subscriber, firstRow, isFound, lookup, nothing, readRow, row, rowAt, rowBytes, rows, tableNumber, withRow}
 
 -- What a set-up operation leaves: its number, 0 on success, and the table. A refusal changes nothing.
 pub record SetUp : Type 0 where

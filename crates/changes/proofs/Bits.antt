@@ -11,11 +11,11 @@ use lib.Count.{ones, ones-step, trailingZeros, under}
 use lib.ListN.{length, length-map}
 use Rattle.octets.specs.Choice.{pick, within}
 use Rattle.octets.specs.Lists.{counted, distinct, every, firstOr, isOn, keep}
-use Rattle.octets.proofs.Lists.{and-left, and-right, by-test, every-imp, every-map, every-of, keep-all, keep-and, keep-split, within-high, within-low}
+use Rattle.table.specs.TheTable.{Access, fromBits, line, places, usedBits}
+use Rattle.changes.specs.Changes.{lowestFree, vacant}
+use Rattle.octets.proofs.Lists.{and-left, and-right, by-test, eqb-comm, every-imp, every-map, every-of, in-counted, keep-all, keep-and, keep-split, on-cons, on-none, within-high, within-low}
 use Rattle.table.proofs.Bytes.{each-place}
 use Rattle.table.proofs.Good.{goodAccess, places-eight}
-use Rattle.table.specs.Changes.{lowestFree, vacant}
-use Rattle.table.specs.TheTable.{Access, fromBits, line, places, usedBits}
 
 unfoldable pub trues : List Bool → ℕ
 trues [] = 0
@@ -77,26 +77,6 @@ lowest-free a h = first-vacant a 1 8 h ∙ ap (λ (z : ℕ). 1 + z) (sym (traili
 
 -- as many ones as accesses
 
-on-cons : (k : ℕ) (ks : List ℕ) (p : ℕ) → eqb p k ≡ false → isOn (k ∷ ks) p ≡ isOn ks p
-unfolding isOn every
-on-cons k ks p e = rw (ne-eqb k p (λ q. eqb-false p k e (sym q)))
-
-pub on-first : (k : ℕ) (ks : List ℕ) (p : ℕ) → k ≡ p → isOn (k ∷ ks) p ≡ true
-unfolding isOn every
-on-first k ks p q = rw (eq-eqb k p q)
-
-on-none : (p : ℕ) → isOn [] p ≡ false
-unfolding isOn every
-on-none p = refl
-
-pub in-counted : (b n p : ℕ) → b ≤ p → p < b + n → isOn (counted b n) p ≡ true
-unfolding counted
-in-counted b zero p lo hi = absurd (omega arith)
-in-counted b (suc n) p lo hi =
-    by-test (eqb p b)
-    (λ e. on-first b (counted (suc b) n) p (sym (eqb-true p b e)))
-    (λ e. on-cons b (counted (suc b) n) p e ∙ in-counted (suc b) n p (omega (arith, eqb-false p b e)) (omega arith))
-
 -- of distinct numbers, `not this one` takes exactly that one
 keep-just-one : (f : ℕ → Bool) (p : ℕ) (ks : List ℕ) → distinct eqb ks ≡ true → isOn ks p ≡ true → f p ≡ true
     → length (keep f ks) ≡ suc (length (keep (λ k. not (eqb p k) && f k) ks))
@@ -111,9 +91,6 @@ keep-just-one f p (k ∷ ks) d o t =
     (λ e. let r : length (keep f ks) ≡ suc (length (keep (λ k. not (eqb p k) && f k) ks)) =
     keep-just-one f p ks (and-right (every (λ y. not (eqb k y)) ks) _ d) (sym (on-cons k ks p e) ∙ o) t in
     by-test (f k) (λ u. rw (e, u) (ap suc r)) (λ u. rw (e, u) r))
-
-eqb-comm : (m n : ℕ) → eqb m n ≡ eqb n m
-eqb-comm m n = by-test (eqb m n) (λ e. e ∙ sym (eq-eqb n m (sym (eqb-true m n e)))) (λ e. e ∙ sym (ne-eqb n m (λ q. eqb-false m n e (sym q))))
 
 others-vacant : (p : ℕ) (a : List Access) → every (λ y. not (eqb p y)) (line a) ≡ true → vacant a p ≡ true
 unfolding line vacant

@@ -1,0 +1,5 @@
+pub mod Stays
+pub mod Keep
+pub mod Bits
+pub mod Puts
+pub mod Steps

@@ -1,0 +1,1 @@
+// The changes to a row, and the set-up operations.
