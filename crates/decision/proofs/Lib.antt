@@ -1,1 +1,4 @@
 pub mod WorkedCases
+pub mod Search
+pub mod Found
+pub mod Entries

@@ -1,1 +1,2 @@
-// The functions come with their proofs; the definitions that they meet stand in specs/.
+// Deciding on a subscriber's row, and a whole call.
+mod row;

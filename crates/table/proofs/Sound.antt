@@ -324,7 +324,7 @@ pub record Headed (b : List ℕ) : Type 0 where
   pub gap : allZero (part b 28 4) ≡ true
   pub end : allZero (part b 448 62) ≡ true
 
-head-of : (b : List ℕ) → headForm b ≡ true → Headed b × (isName (part b 2 (getD b 1 0)) ≡ true) × (getD b 18 0 ≤ 4)
+pub head-of : (b : List ℕ) → headForm b ≡ true → Headed b × (isName (part b 2 (getD b 1 0)) ≡ true) × (getD b 18 0 ≤ 4)
 unfolding headForm
 head-of b f =
     let f1 = and-right (eqb (getD b 0 0) 1) _ f in

@@ -1,0 +1,34 @@
+use Rattle.table.specs.TheTable.{readRow}
+use Rattle.decision.proofs.Search.{size}
+use Rattle.decision.proofs.Entries.{count-is, most-four}
+use mathlib.Core.Path.{_≡_, refl, sym, ap, _∙_}
+use mathlib.Core.List.{List, [], _∷_, _++_}
+use Prim.Native.Nat.{ℕ, suc, _+_, _-_, _*_, _/_, _%_, _^_, _<_, _≤_}
+use native.Mathlib.Omega.{arith}
+use native.Mathlib.Numerals.{add-one}
+use lib.ListN.{length, getD, take, drop, set, length-set, length-append, length-take, length-drop}
+use borrow.Author.Needs.{needs}
+use Rattle.decision.proofs.row.entry_count.Statement.{statement}
+use Rattle.decision.proofs.row.entry_count.Tie as tie
+use Rattle.decision.proofs.row.entry_count.Reads as reads
+use Rattle.decision.proofs.row.entry_count.Lts as lts
+use Rattle.octets.proofs.long.Reads as long-reads
+
+-- src/row.rt:137:18
+shared-slice-read-long : tie.Need-shared-slice-read-long
+shared-slice-read-long c = omega (arith, size (c .before .before .args .row .now) (c .before .before .pre))
+
+-- src/row.rt:137:5
+long-requires : tie.Need-long-requires
+long-requires c κs = search needs
+
+-- src/row.rt:133:1
+returns : tie.Need-returns
+returns c =
+    let start = c .before .before .before in
+    let row = start .args .row .now in
+    let e : c .long .result ≡ length ((readRow row) .entries) = c .long .ensures .0 ∙ sym (count-is row (start .pre)) in
+    (e, omega (arith, e, most-four row (start .pre)))
+
+pub entry-count-spec : {M : Type 1} → statement M
+entry-count-spec = tie.close (tie.spec shared-slice-read-long long-requires returns)

@@ -1,0 +1,41 @@
+use Rattle.decision.proofs.Search.{size}
+use Rattle.decision.proofs.Entries.{flags-byte, most-four}
+use mathlib.Core.Path.{_≡_, refl, sym, ap, _∙_}
+use mathlib.Core.List.{List, [], _∷_, _++_}
+use Prim.Native.Nat.{ℕ, suc, _+_, _-_, _*_, _/_, _%_, _^_, _<_, _≤_}
+use native.Mathlib.Omega.{arith}
+use native.Mathlib.Numerals.{add-one}
+use lib.ListN.{length, getD, take, drop, set, length-set, length-append, length-take, length-drop}
+use borrow.Author.Needs.{needs}
+use Rattle.decision.proofs.row.flags_of.Statement.{statement}
+use Rattle.decision.proofs.row.flags_of.Tie as tie
+use Rattle.decision.proofs.row.flags_of.Reads as reads
+use Rattle.decision.proofs.row.flags_of.Lts as lts
+
+-- src/row.rt:186:9
+mul-result : tie.Need-mul-result
+mul-result c =
+    let row = c .args .row .now in
+    omega (arith, most-four row (c .pre .0))
+
+-- src/row.rt:186:9
+add-result : tie.Need-add-result
+add-result c =
+    let row = c .args .row .now in
+    omega (arith, most-four row (c .pre .0))
+
+-- src/row.rt:186:5
+shared-slice-read-result : tie.Need-shared-slice-read-result
+shared-slice-read-result c =
+    let start = c .before in
+    let row = start .args .row .now in
+    omega (arith, size row (start .pre .0), most-four row (start .pre .0))
+
+-- src/row.rt:182:1
+returns : tie.Need-returns
+returns c =
+    let start = c .before in
+    sym (flags-byte (start .args .row .now) (start .pre .0) (start .args .n) (start .pre .1) (start .pre .2))
+
+pub flags-of-spec : {M : Type 1} → statement M
+flags-of-spec = tie.close (tie.spec mul-result add-result shared-slice-read-result returns)

@@ -1,0 +1,90 @@
+use lib.Seq.{take-take, drop-drop}
+use Rattle.octets.specs.Texts.{same}
+use Rattle.table.specs.TheTable.{readAccess, block}
+use Rattle.decision.proofs.Search.{byte-of, text-of}
+use mathlib.Core.Path.{_≡_, refl, sym, ap, _∙_}
+use mathlib.Core.List.{List, [], _∷_, _++_}
+use Prim.Native.Nat.{ℕ, suc, _+_, _-_, _*_, _/_, _%_, _^_, _<_, _≤_}
+use native.Mathlib.Omega.{arith}
+use native.Mathlib.Numerals.{add-one}
+use lib.ListN.{length, getD, take, drop, set, length-set, length-append, length-take, length-drop}
+use borrow.Author.Needs.{needs}
+use Rattle.decision.proofs.row.has_session.Statement.{statement}
+use Rattle.decision.proofs.row.has_session.Tie as tie
+use Rattle.decision.proofs.row.has_session.Reads as reads
+use Rattle.decision.proofs.row.has_session.Lts as lts
+use Rattle.octets.proofs.long.Reads as long-reads
+use Rattle.octets.proofs.same_bytes.Reads as same-bytes-reads
+
+-- src/row.rt:36:16
+mul-from : tie.Need-mul-from
+mul-from c = search needs
+
+-- src/row.rt:36:16
+add-from : tie.Need-add-from
+add-from c = search needs
+
+-- src/row.rt:37:39
+mul-long : tie.Need-mul-long
+mul-long c = search needs
+
+-- src/row.rt:37:39
+add-long : tie.Need-add-long
+add-long c = search needs
+
+-- src/row.rt:37:35
+shared-slice-read-long : tie.Need-shared-slice-read-long
+shared-slice-read-long c = search needs
+
+-- src/row.rt:37:22
+long-requires : tie.Need-long-requires
+long-requires c κs = search needs
+
+-- src/row.rt:37:15
+add-end : tie.Need-add-end
+add-end c = search needs
+
+-- src/row.rt:38:24
+sub-same-bytes : tie.Need-sub-same-bytes
+sub-same-bytes c = search needs
+
+-- src/row.rt:38:24
+part-same-bytes-start : tie.Need-part-same-bytes-start
+part-same-bytes-start c = search needs
+
+-- src/row.rt:38:24
+part-same-bytes-end : tie.Need-part-same-bytes-end
+part-same-bytes-end c = search needs
+
+-- src/row.rt:38:5
+same-bytes-requires : tie.Need-same-bytes-requires
+same-bytes-requires c κs = search needs
+
+-- src/row.rt:32:1
+returns : tie.Need-returns
+unfolding readAccess
+returns c =
+    let l = c .before .before in
+    let start = l .before .before .before .before in
+    let row = start .args .row .now in
+    let k = start .args .place in
+    let n : l .long .result ≡ getD (block row k) 2 0 = l .long .ensures .0 ∙ sym (byte-of row k 2 (omega arith)) in
+    c .same-bytes .ensures
+    ∙ ap (λ (t : List ℕ). same t (start .args .session .now)) (text-of row k 8 (l .long .result) (getD (block row k) 2 0) n (omega arith))
+
+pub has-session-spec : {M : Type 1} → statement M
+has-session-spec =
+    tie.close
+    (tie.spec
+    mul-from
+    add-from
+    mul-long
+    add-long
+    shared-slice-read-long
+    long-requires
+    add-end
+    sub-same-bytes
+    part-same-bytes-start
+    part-same-bytes-end
+    same-bytes-requires
+    returns)

@@ -1,0 +1,42 @@
+use Rattle.table.specs.TheTable.{orderLine}
+use lib.ListN.{List·getD-eq-default}
+use Rattle.decision.proofs.Search.{size, short, line-byte}
+use mathlib.Core.Path.{_≡_, refl, sym, ap, _∙_}
+use mathlib.Core.List.{List, [], _∷_, _++_}
+use Prim.Native.Nat.{ℕ, suc, _+_, _-_, _*_, _/_, _%_, _^_, _<_, _≤_}
+use native.Mathlib.Omega.{arith}
+use native.Mathlib.Numerals.{add-one}
+use lib.ListN.{length, getD, take, drop, set, length-set, length-append, length-take, length-drop}
+use borrow.Author.Needs.{needs}
+use Rattle.decision.proofs.row.line_at.Statement.{statement}
+use Rattle.decision.proofs.row.line_at.Tie as tie
+use Rattle.decision.proofs.row.line_at.Reads as reads
+use Rattle.decision.proofs.row.line_at.Lts as lts
+use Rattle.octets.proofs.long.Reads as long-reads
+
+-- src/row.rt:18:9
+returns : tie.Need-returns
+returns c =
+    let row = c .before .before .args .row .now in
+    sym (List·getD-eq-default (orderLine row) 0 (omega (arith, short row)))
+
+-- src/row.rt:20:22
+add-long : tie.Need-add-long
+add-long c = search needs
+
+-- src/row.rt:20:18
+shared-slice-read-long : tie.Need-shared-slice-read-long
+shared-slice-read-long c = omega (arith, size (c .before .before .before .args .row .now) (c .before .before .before .pre))
+
+-- src/row.rt:20:5
+long-requires : tie.Need-long-requires
+long-requires c κs = search needs
+
+-- src/row.rt:13:1
+returns-2 : tie.Need-returns-2
+returns-2 c =
+    let start = c .before .before .before .before in
+    c .long .ensures .0 ∙ sym (line-byte (start .args .row .now) (start .args .i) (start .pre) (omega arith))
+
+pub line-at-spec : {M : Type 1} → statement M
+line-at-spec = tie.close (tie.spec returns add-long shared-slice-read-long long-requires returns-2)

@@ -1,0 +1,41 @@
+use lib.Dec.{eqb}
+use Rattle.table.specs.TheTable.{readAccess, block}
+use Rattle.decision.proofs.Search.{byte-of}
+use mathlib.Core.Path.{_≡_, refl, sym, ap, _∙_}
+use mathlib.Core.List.{List, [], _∷_, _++_}
+use Prim.Native.Nat.{ℕ, suc, _+_, _-_, _*_, _/_, _%_, _^_, _<_, _≤_}
+use native.Mathlib.Omega.{arith}
+use native.Mathlib.Numerals.{add-one}
+use lib.ListN.{length, getD, take, drop, set, length-set, length-append, length-take, length-drop}
+use borrow.Author.Needs.{needs}
+use Rattle.decision.proofs.row.on_entry.Statement.{statement}
+use Rattle.decision.proofs.row.on_entry.Tie as tie
+use Rattle.decision.proofs.row.on_entry.Reads as reads
+use Rattle.decision.proofs.row.on_entry.Lts as lts
+use Rattle.octets.proofs.long.Reads as long-reads
+
+-- src/row.rt:28:22
+mul-long : tie.Need-mul-long
+mul-long c = search needs
+
+-- src/row.rt:28:22
+add-long : tie.Need-add-long
+add-long c = search needs
+
+-- src/row.rt:28:18
+shared-slice-read-long : tie.Need-shared-slice-read-long
+shared-slice-read-long c = search needs
+
+-- src/row.rt:28:5
+long-requires : tie.Need-long-requires
+long-requires c κs = search needs
+
+-- src/row.rt:24:1
+returns : tie.Need-returns
+unfolding readAccess
+returns c =
+    let start = c .before .before .before in
+    ap (λ (n : ℕ). eqb n (start .args .entry)) (c .long .ensures .0 ∙ sym (byte-of (start .args .row .now) (start .args .place) 1 (omega arith)))
+
+pub on-entry-spec : {M : Type 1} → statement M
+on-entry-spec = tie.close (tie.spec mul-long add-long shared-slice-read-long long-requires returns)
