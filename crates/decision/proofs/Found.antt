@@ -70,7 +70,7 @@ none-is (x ∷ a) h =
     let w : within 1 8 (x .place) ≡ true = and-left _ (every (λ (y : Access). within 1 8 (y .place)) a) h in
     ne-eqb (suc (length a)) 0 (omega arith) ∙ sym (ne-eqb (x .place) 0 (omega (arith, within-low 1 8 (x .place) w)))
 
-places-in : (r : List ℕ) → sound r ≡ true → every (λ (x : Access). within 1 8 (x .place)) ((readRow r) .accesses) ≡ true
+pub places-in : (r : List ℕ) → sound r ≡ true → every (λ (x : Access). within 1 8 (x .place)) ((readRow r) .accesses) ≡ true
 unfolding readRow readAccess
 places-in r h = rw every-map (all-in r h)
 
@@ -82,3 +82,7 @@ pub none-ended : (r : List ℕ) (n : ℕ) (s : List ℕ) → sound r ≡ true
     → none (withSession s (onEntry n ((readRow r) .accesses))) ≡ eqb (placeOf (withSession s (onEntry n ((readRow r) .accesses)))) 0
 unfolding withSession onEntry
 none-ended r n s h = none-is _ (every-keep _ _ _ (every-keep _ _ _ (places-in r h)))
+
+pub on-places : (r : List ℕ) (n : ℕ) → sound r ≡ true → every (λ (x : Access). within 1 8 (x .place)) (onEntry n ((readRow r) .accesses)) ≡ true
+unfolding onEntry
+on-places r n h = every-keep _ _ _ (places-in r h)

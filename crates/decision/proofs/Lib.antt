@@ -2,3 +2,5 @@ pub mod WorkedCases
 pub mod Search
 pub mod Found
 pub mod Entries
+pub mod Stay
+pub mod Verdicts

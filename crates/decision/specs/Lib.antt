@@ -1,3 +1,4 @@
 pub mod Deciding
+pub mod Plans
 pub mod Calls
 pub mod WorkedCases

@@ -1,2 +1,18 @@
 // Deciding on a subscriber's row, and a whole call.
+mod deciding;
 mod row;
+
+// What is to be done with a sound row: one of the refusals, or a change.
+pub enum Plan {
+    NotSubscribed,
+    Barred,
+    RoamingNotAllowed,
+    UnableToComply,
+    UnusedByUser,
+    // a new access on the entry; the place that is cut for it, 0 for none
+    Open(usize, usize),
+    // the policy of the access at the place
+    Route(usize),
+    // the place is freed
+    Free(usize),
+}

@@ -1,0 +1,98 @@
+-- Deciding test by test: what the verdict is once a test has failed, or all have passed.
+use mathlib.Core.Path.{_≡_, refl, sym, ap, _∙_}
+use mathlib.Core.Bool.{Bool, true, false, not, _&&_}
+use mathlib.Core.List.{List, [], _∷_}
+use Prim.Native.Nat.{ℕ, suc, _+_, _-_, _≤_, _<_, _/_, _%_}
+use native.Mathlib.Omega.{arith}
+use borrow.Author.Tests.{eq-eqb, ne-eqb, lt-ltb, le-ltb}
+use lib.Dec.{eqb, ltb}
+use lib.ListN.{length}
+use Rattle.octets.specs.Choice.{pick, within}
+use Rattle.octets.specs.Lists.{every, firstOr}
+use Rattle.octets.proofs.Lists.{and-left, within-low, in-within}
+use Rattle.message.specs.Codes.{plain, roamingNotAllowed, unusedByUser, noSubscription}
+use Rattle.table.specs.TheTable.{Access, Subscriber, barred, mayRoam, line, readRow}
+use Rattle.table.specs.Soundness.{sound, onEntry}
+use Rattle.table.proofs.Sound.{says-good}
+use Rattle.table.proofs.Good.{Good}
+use Rattle.decision.specs.declared.Plan.the-variants.{NotSubscribed, Barred, RoamingNotAllowed, UnableToComply, UnusedByUser, Open, Route, Free}
+use Rattle.decision.specs.Deciding.{Verdict, refuse, grant, entryNamed, entryAt, withSession, placeOf, none, firstOn, atLimit, openOn, admit, heldAlready, type0, type1, terminate}
+use Rattle.decision.specs.Plans.{planned}
+use Rattle.decision.proofs.Found.{on-places}
+use Rattle.decision.proofs.Stay.{limit-is, limit-some}
+
+-- AN OPENING
+
+module _ (n : ℕ) (session host route : List ℕ) (s : Subscriber) where
+  pub opens : length (onEntry n (s .accesses)) < (entryAt n s) .limit → planned session host route (Open n 0) s ≡ admit n session host s
+  unfolding planned admit atLimit pick
+  opens h = rw (lt-ltb _ _ h)
+
+  pub cuts : (entryAt n s) .limit ≤ length (onEntry n (s .accesses)) → (firstOn n (s .accesses) ≡ 0 → ⊥)
+      → planned session host route (Open n (firstOn n (s .accesses))) s ≡ admit n session host s
+  unfolding planned admit atLimit pick
+  cuts h nz = rw (le-ltb _ _ h, ne-eqb (firstOn n (s .accesses)) 0 nz)
+
+-- at its limit an entry has an access to cut
+some-first : (xs : List Access) → every (λ (x : Access). within 1 8 (x .place)) xs ≡ true → 1 ≤ length xs → placeOf xs ≡ 0 → ⊥
+unfolding placeOf line firstOr every
+some-first [] p h e = omega arith
+some-first (x ∷ xs) p h e = omega (arith, within-low 1 8 (x .place) (and-left _ (every (λ (y : Access). within 1 8 (y .place)) xs) p))
+
+pub one-to-cut : (r : List ℕ) (n : ℕ) → sound r ≡ true → 1 ≤ n → n ≤ length ((readRow r) .entries)
+    → (entryAt n (readRow r)) .limit ≤ length (onEntry n ((readRow r) .accesses)) → firstOn n ((readRow r) .accesses) ≡ 0 → ⊥
+unfolding firstOn
+one-to-cut r n h one le full =
+    some-first (onEntry n ((readRow r) .accesses)) (on-places r n h)
+    (omega (arith, limit-is n (readRow r), limit-some n (readRow r) (says-good r h) (in-within 1 _ n one le)))
+
+-- TYPE 0
+
+module _ (session host label : List ℕ) (visited : Bool) (s : Subscriber) where
+  pub not-subscribed : entryNamed label s ≡ 0 → type0 session host label visited s ≡ refuse noSubscription s
+  unfolding type0 pick
+  not-subscribed e = rw (eq-eqb (entryNamed label s) 0 e)
+
+  module _ (entered : entryNamed label s ≡ 0 → ⊥) where
+    pub is-barred : (entryAt (entryNamed label s) s) .flags % 2 ≡ 1 → type0 session host label visited s ≡ refuse (plain 5003) s
+    unfolding type0 barred pick
+    is-barred e = rw (ne-eqb (entryNamed label s) 0 entered, eq-eqb _ 1 e)
+
+    module _ (unbarred : (entryAt (entryNamed label s) s) .flags % 2 ≡ 1 → ⊥) where
+      pub no-roaming : visited && not (mayRoam (entryAt (entryNamed label s) s)) ≡ true → type0 session host label visited s ≡ refuse roamingNotAllowed s
+      unfolding type0 barred pick
+      no-roaming e = rw (ne-eqb (entryNamed label s) 0 entered, ne-eqb _ 1 unbarred, e)
+
+      module _ (at-home : visited && not (mayRoam (entryAt (entryNamed label s) s)) ≡ false) where
+        pub is-held : none (withSession session (s .accesses)) ≡ false → type0 session host label visited s ≡ refuse (plain 5012) s
+        unfolding type0 barred heldAlready pick
+        is-held e = rw (ne-eqb (entryNamed label s) 0 entered, ne-eqb _ 1 unbarred, at-home, e)
+
+        pub is-admitted : none (withSession session (s .accesses)) ≡ true → type0 session host label visited s ≡ admit (entryNamed label s) session host s
+        unfolding type0 barred pick
+        is-admitted e = rw (ne-eqb (entryNamed label s) 0 entered, ne-eqb _ 1 unbarred, at-home, e)
+
+-- TYPE 1 AND TERMINATION
+
+module _ (session route : List ℕ) (s : Subscriber) where
+  pub no-access : (wag : Bool) → none (withSession session (s .accesses)) ≡ true → type1 session route wag s ≡ refuse (plain 5012) s
+  unfolding type1 pick
+  no-access wag e = rw e
+
+  pub gateway-no : none (withSession session (s .accesses)) ≡ false → type1 session route false s ≡ refuse (plain 5012) s
+  unfolding type1 pick
+  gateway-no e = rw e
+
+  pub gateway-yes : none (withSession session (s .accesses)) ≡ false → type1 session route true s ≡ planned session [] route (Route (placeOf (withSession session (s .accesses)))) s
+  unfolding type1 planned pick
+  gateway-yes e = rw e
+
+  module _ (label : List ℕ) where
+    pub not-used : none (withSession session (onEntry (entryNamed label s) (s .accesses))) ≡ true → terminate session label s ≡ refuse unusedByUser s
+    unfolding terminate pick
+    not-used e = rw e
+
+    pub is-ended : none (withSession session (onEntry (entryNamed label s) (s .accesses))) ≡ false
+        → terminate session label s ≡ grant (Rattle.changes.specs.Changes.freed (placeOf (withSession session (onEntry (entryNamed label s) (s .accesses)))) s)
+    unfolding terminate pick
+    is-ended e = rw e

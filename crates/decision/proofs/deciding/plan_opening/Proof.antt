@@ -1,0 +1,65 @@
+use Rattle.table.specs.TheTable.{readRow}
+use Rattle.decision.specs.Deciding.{firstOn, entryAt}
+use Rattle.decision.proofs.Verdicts.{opens, cuts, one-to-cut}
+use mathlib.Core.Path.{_≡_, refl, sym, ap, _∙_}
+use mathlib.Core.List.{List, [], _∷_, _++_}
+use Prim.Native.Nat.{ℕ, suc, _+_, _-_, _*_, _/_, _%_, _^_, _<_, _≤_}
+use native.Mathlib.Omega.{arith}
+use native.Mathlib.Numerals.{add-one}
+use lib.ListN.{length, getD, take, drop, set, length-set, length-append, length-take, length-drop}
+use borrow.Author.Needs.{needs}
+use Rattle.decision.proofs.deciding.plan_opening.Statement.{statement}
+use Rattle.decision.proofs.deciding.plan_opening.Tie as tie
+use Rattle.decision.proofs.deciding.plan_opening.Reads as reads
+use Rattle.decision.proofs.deciding.plan_opening.Lts as lts
+use Rattle.decision.proofs.row.count_on.Reads as count-on-reads
+use Rattle.decision.proofs.row.first_on.Reads as first-on-reads
+use Rattle.decision.proofs.row.limit_of.Reads as limit-of-reads
+use Rattle.octets.proofs.long.Reads as long-reads
+
+-- src/deciding.rt:26:8
+count-on-requires : tie.Need-count-on-requires
+count-on-requires c κs = search needs
+
+-- src/deciding.rt:26:45
+limit-of-requires : tie.Need-limit-of-requires
+limit-of-requires c κs = search needs
+
+-- src/deciding.rt:26:32
+long-requires : tie.Need-long-requires
+long-requires c κs = search needs
+
+-- src/deciding.rt:27:9
+returns : tie.Need-returns
+returns c =
+    let a = c .before .before .before .before .before .args in
+    let s = readRow (a .row .now) in
+    λ session host route. opens (a .n) session host route s
+    (omega (arith, c .if1 .taken, c .before .long .ensures .0, c .before .before .limit-of .ensures, c .before .before .before .count-on .ensures))
+
+-- src/deciding.rt:29:19
+first-on-requires : tie.Need-first-on-requires
+first-on-requires c κs = search needs
+
+-- src/deciding.rt:16:1
+returns-2 : tie.Need-returns-2
+returns-2 c =
+    let start = c .before .before .before .before .before .before in
+    let a = start .args in
+    let row = a .row .now in
+    let s = readRow row in
+    let full : (entryAt (a .n) s) .limit ≤ length (Rattle.table.specs.Soundness.onEntry (a .n) (s .accesses)) =
+    omega (arith, c .before .if1 .left, c .before .before .long .ensures .0, c .before .before .before .limit-of .ensures, c .before .before .before .before .count-on .ensures) in
+    λ session host route. rw (c .first-on .ensures .0)
+    (cuts (a .n) session host route s full (one-to-cut row (a .n) (start .pre .0) (start .pre .1) (start .pre .2) full))
+
+pub plan-opening-spec : {M : Type 1} → statement M
+plan-opening-spec =
+    tie.close
+    (tie.spec
+    count-on-requires
+    limit-of-requires
+    long-requires
+    returns
+    first-on-requires
+    returns-2)

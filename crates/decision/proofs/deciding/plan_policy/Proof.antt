@@ -1,0 +1,63 @@
+use mathlib.Core.Bool.{true, false}
+use lib.Dec.{eqb}
+use borrow.Author.Tests.{eq-eqb, ne-eqb}
+use Rattle.table.specs.TheTable.{readRow}
+use Rattle.decision.specs.Deciding.{none, withSession, placeOf}
+use Rattle.decision.specs.Plans.{planned}
+use Rattle.decision.proofs.Found.{none-with}
+use Rattle.decision.proofs.Verdicts.{no-access, gateway-no, gateway-yes}
+use mathlib.Core.Path.{_≡_, refl, sym, ap, _∙_}
+use mathlib.Core.List.{List, [], _∷_, _++_}
+use Prim.Native.Nat.{ℕ, suc, _+_, _-_, _*_, _/_, _%_, _^_, _<_, _≤_}
+use native.Mathlib.Omega.{arith}
+use native.Mathlib.Numerals.{add-one}
+use lib.ListN.{length, getD, take, drop, set, length-set, length-append, length-take, length-drop}
+use borrow.Author.Needs.{needs}
+use Rattle.decision.proofs.deciding.plan_policy.Statement.{statement}
+use Rattle.decision.proofs.deciding.plan_policy.Tie as tie
+use Rattle.decision.proofs.deciding.plan_policy.Reads as reads
+use Rattle.decision.proofs.deciding.plan_policy.Lts as lts
+use Rattle.decision.proofs.row.place_of.Reads as place-of-reads
+
+-- src/deciding.rt:83:9
+place-of-requires : tie.Need-place-of-requires
+place-of-requires c κs = search needs
+
+-- src/deciding.rt:85:9
+returns : tie.Need-returns
+unfolding planned
+returns c =
+    let start = c .before .before .before .before in
+    let a = start .args in
+    let s = readRow (a .row .now) in
+    let session = a .session .now in
+    let at : c .before .place-of .result ≡ placeOf (withSession session (s .accesses)) = c .before .place-of .ensures .0 in
+    let there : none (withSession session (s .accesses)) ≡ eqb (c .before .place-of .result) 0 = none-with (a .row .now) session (start .pre) ∙ ap (λ (k : ℕ). eqb k 0) (sym at) in
+    λ host route. sym (no-access session route s (a .wag) (there ∙ eq-eqb _ 0 (c .if1 .taken)))
+
+-- src/deciding.rt:88:9
+returns-2 : tie.Need-returns-2
+unfolding planned
+returns-2 c =
+    let start = c .before .before .before .before .before in
+    let a = start .args in
+    let s = readRow (a .row .now) in
+    let session = a .session .now in
+    let at : c .before .before .place-of .result ≡ placeOf (withSession session (s .accesses)) = c .before .before .place-of .ensures .0 in
+    let there : none (withSession session (s .accesses)) ≡ eqb (c .before .before .place-of .result) 0 = none-with (a .row .now) session (start .pre) ∙ ap (λ (k : ℕ). eqb k 0) (sym at) in
+    λ host route. rw (c .if2 .taken, at) (sym (gateway-yes session route s (there ∙ ne-eqb _ 0 (c .before .if1 .left))))
+
+-- src/deciding.rt:72:1
+returns-3 : tie.Need-returns-3
+unfolding planned
+returns-3 c =
+    let start = c .before .before .before .before .before in
+    let a = start .args in
+    let s = readRow (a .row .now) in
+    let session = a .session .now in
+    let at : c .before .before .place-of .result ≡ placeOf (withSession session (s .accesses)) = c .before .before .place-of .ensures .0 in
+    let there : none (withSession session (s .accesses)) ≡ eqb (c .before .before .place-of .result) 0 = none-with (a .row .now) session (start .pre) ∙ ap (λ (k : ℕ). eqb k 0) (sym at) in
+    λ host route. rw (c .if2 .left) (sym (gateway-no session route s (there ∙ ne-eqb _ 0 (c .before .if1 .left))))
+
+pub plan-policy-spec : {M : Type 1} → statement M
+plan-policy-spec = tie.close (tie.spec place-of-requires returns returns-2 returns-3)

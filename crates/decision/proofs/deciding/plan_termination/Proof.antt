@@ -1,0 +1,64 @@
+use mathlib.Core.Bool.{true, false}
+use lib.Dec.{eqb}
+use borrow.Author.Tests.{eq-eqb, ne-eqb}
+use Rattle.table.specs.TheTable.{readRow}
+use Rattle.table.specs.Soundness.{onEntry}
+use Rattle.decision.specs.Deciding.{none, withSession, placeOf, entryNamed}
+use Rattle.decision.specs.Plans.{planned}
+use Rattle.decision.proofs.Found.{none-ended}
+use Rattle.decision.proofs.Verdicts.{not-used, is-ended}
+use mathlib.Core.Path.{_≡_, refl, sym, ap, _∙_}
+use mathlib.Core.List.{List, [], _∷_, _++_}
+use Prim.Native.Nat.{ℕ, suc, _+_, _-_, _*_, _/_, _%_, _^_, _<_, _≤_}
+use native.Mathlib.Omega.{arith}
+use native.Mathlib.Numerals.{add-one}
+use lib.ListN.{length, getD, take, drop, set, length-set, length-append, length-take, length-drop}
+use borrow.Author.Needs.{needs}
+use Rattle.decision.proofs.deciding.plan_termination.Statement.{statement}
+use Rattle.decision.proofs.deciding.plan_termination.Tie as tie
+use Rattle.decision.proofs.deciding.plan_termination.Reads as reads
+use Rattle.decision.proofs.deciding.plan_termination.Lts as lts
+use Rattle.decision.proofs.row.entry_named.Reads as entry-named-reads
+use Rattle.decision.proofs.row.place_on.Reads as place-on-reads
+
+-- src/deciding.rt:105:9
+entry-named-requires : tie.Need-entry-named-requires
+entry-named-requires c κs = search needs
+
+-- src/deciding.rt:106:9
+place-on-requires : tie.Need-place-on-requires
+place-on-requires c κs = search needs
+
+-- src/deciding.rt:108:9
+returns : tie.Need-returns
+unfolding planned
+returns c =
+    let start = c .before .before .before .before .before .before in
+    let a = start .args in
+    let s = readRow (a .row .now) in
+    let session = a .session .now in
+    let label = a .label .now in
+    let at : c .before .place-on .result ≡ placeOf (withSession session (onEntry (entryNamed label s) (s .accesses))) =
+    c .before .place-on .ensures .0 ∙ ap (λ (n : ℕ). placeOf (withSession session (onEntry n (s .accesses)))) (c .before .before .entry-named .ensures .0) in
+    let there : none (withSession session (onEntry (entryNamed label s) (s .accesses))) ≡ eqb (c .before .place-on .result) 0 =
+    none-ended (a .row .now) (entryNamed label s) session (start .pre) ∙ ap (λ (k : ℕ). eqb k 0) (sym at) in
+    λ host route. sym (not-used session [] s label (there ∙ eq-eqb _ 0 (c .if1 .taken)))
+
+-- src/deciding.rt:94:1
+returns-2 : tie.Need-returns-2
+unfolding planned
+returns-2 c =
+    let start = c .before .before .before .before .before .before in
+    let a = start .args in
+    let s = readRow (a .row .now) in
+    let session = a .session .now in
+    let label = a .label .now in
+    let at : c .before .place-on .result ≡ placeOf (withSession session (onEntry (entryNamed label s) (s .accesses))) =
+    c .before .place-on .ensures .0 ∙ ap (λ (n : ℕ). placeOf (withSession session (onEntry n (s .accesses)))) (c .before .before .entry-named .ensures .0) in
+    let there : none (withSession session (onEntry (entryNamed label s) (s .accesses))) ≡ eqb (c .before .place-on .result) 0 =
+    none-ended (a .row .now) (entryNamed label s) session (start .pre) ∙ ap (λ (k : ℕ). eqb k 0) (sym at) in
+    λ host route. rw at (sym (is-ended session [] s label (there ∙ ne-eqb _ 0 (c .if1 .left))))
+
+pub plan-termination-spec : {M : Type 1} → statement M
+plan-termination-spec =
+    tie.close (tie.spec entry-named-requires place-on-requires returns returns-2)
