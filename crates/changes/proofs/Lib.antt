@@ -3,3 +3,4 @@ pub mod Keep
 pub mod Bits
 pub mod Puts
 pub mod Steps
+pub mod Blocks

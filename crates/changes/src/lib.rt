@@ -1,1 +1,116 @@
 // The changes to a row, and the set-up operations.
+ghost use mathlib.Core.Path.{_≡_};
+ghost use mathlib.Core.Bool.{true};
+ghost use Prim.Native.Nat.{ℕ, _+_, _-_, _*_, _^_, _≤_, _<_};
+ghost use lib.ListN.{length, take, set};
+ghost use Rattle.octets.specs.Texts.{part};
+ghost use Rattle.table.specs.TheTable.{Entry, entryBytes, sealed};
+ghost use Rattle.changes.specs.Writes.{closedUp, entriesWith, headWith, openedBytes, policyWith};
+
+// The sums of a block's first 510 bytes, written behind them: the second, then the first.
+pub fn seal(block: &mut [u8])
+    requires { ⌜ length (now block) ≡ 512 ⌝ }
+    ensures { λ _. ⌜ now (block .exit) ≡ sealed (take 510 (now (block .entry))) ⌝ }
+{
+    let s = table::sums_of(&block[0..510]);
+    let first = s.first as u8;
+    let second = s.second as u8;
+    block[510] = second;
+    block[511] = first;
+}
+
+// The bit of place k in byte 17.
+fn bit_of(k: usize) -> u8
+    requires { ⌜ (1 ≤ k) × (k ≤ 8) ⌝ }
+    ensures { λ r. ⌜ r ≡ 2 ^ (k - 1) ⌝ }
+{
+    1u8 << (k - 1)
+}
+
+// The order line without place k: the places behind it close up.
+fn line_without(line: &[u8], k: u8) -> [u8; 8]
+    requires { ⌜ length (now line) ≡ 8 ⌝ }
+    ensures { λ r. ⌜ r ≡ closedUp (now (line .entry)) k ⌝ }
+{
+    let mut out = [0u8; 8];
+    let mut n: usize = 0;
+    let mut i: usize = 0;
+    while i < 8 {
+        let p = line[i];
+        if p != k {
+            out[n] = p;
+            n += 1;
+        }
+        i += 1;
+    }
+    out
+}
+
+// Block 0 with other places in use and another order line.
+fn write_line(block: &mut [u8], bits: u8, line: &[u8; 8])
+    requires { ⌜ length (now block) ≡ 512 ⌝ }
+    ensures { λ _. ⌜ now (block .exit) ≡ headWith (now (block .entry)) bits (now (line .entry)) ⌝ }
+{
+    block[17] = bits;
+    octets::put_bytes(block, 20, line);
+    seal(block);
+}
+
+// Block 0 with one place more at the end of its order line, behind the `count` that are there.
+fn enlist(block: &mut [u8], bits: u8, count: usize, place: u8)
+    requires { ⌜ (length (now block) ≡ 512) × (count < 8) ⌝ }
+    ensures { λ _. ⌜ now (block .exit) ≡ headWith (now (block .entry)) bits (set (part (now (block .entry)) 20 8) count place) ⌝ }
+{
+    block[17] = bits;
+    block[20 + count] = place;
+    seal(block);
+}
+
+// The block of a new access.
+fn write_access(block: &mut [u8], entry: u8, session: &[u8], host: &[u8])
+    requires { ⌜ (length (now block) ≡ 512) × (length (now session) ≤ 128) × (length (now host) ≤ 128) ⌝ }
+    ensures { λ _. ⌜ now (block .exit) ≡ openedBytes entry (now (session .entry)) (now (host .entry)) ⌝ }
+{
+    octets::clear(block);
+    let head = [2, entry, session.len() as u8, host.len() as u8];
+    octets::put_bytes(block, 0, &head);
+    octets::put_bytes(block, 8, session);
+    octets::put_bytes(block, 136, host);
+    seal(block);
+}
+
+// The block of a place with another policy.
+fn write_policy(block: &mut [u8], policy: &[u8])
+    requires { ⌜ (length (now block) ≡ 512) × (length (now policy) ≤ 128) ⌝ }
+    ensures { λ _. ⌜ now (block .exit) ≡ policyWith (now (block .entry)) (now (policy .entry)) ⌝ }
+{
+    block[4] = 1;
+    block[5] = policy.len() as u8;
+    octets::put_zeros(block, 264, 128);
+    octets::put_bytes(block, 264, policy);
+    seal(block);
+}
+
+// The room of an entry.
+fn write_entry(room: &mut [u8], label: &[u8], flags: u8, limit: u8)
+    requires { ⌜ (length (now room) ≡ 104) × (length (now label) ≤ 100) ⌝ }
+    ensures { λ _. ⌜ now (room .exit) ≡ entryBytes (record { label = now (label .entry); flags = flags; limit = limit }) ⌝ }
+{
+    octets::clear(room);
+    room[0] = label.len() as u8;
+    octets::put_bytes(room, 1, label);
+    let end = [flags, limit];
+    octets::put_bytes(room, 101, &end);
+}
+
+// Block 0 with one entry more, behind the n that are there.
+fn write_more(block: &mut [u8], n: u8, label: &[u8], flags: u8, limit: u8)
+    requires { ⌜ (length (now block) ≡ 512) × (n < 4) × (length (now label) ≤ 100) ⌝ }
+    ensures { λ _. ⌜ now (block .exit) ≡ entriesWith (now (block .entry)) n (record { label = now (label .entry); flags = flags; limit = limit }) ⌝ }
+{
+    block[18] = n + 1;
+    let at = 32 + 104 * octets::long(n);
+    let end = at + 104;
+    write_entry(&mut block[at..end], label, flags, limit);
+    seal(block);
+}
