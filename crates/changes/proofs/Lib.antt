@@ -4,3 +4,4 @@ pub mod Bits
 pub mod Puts
 pub mod Steps
 pub mod Blocks
+pub mod Rows

@@ -4,7 +4,11 @@ ghost use mathlib.Core.Bool.{true};
 ghost use Prim.Native.Nat.{ℕ, _+_, _-_, _*_, _^_, _≤_, _<_};
 ghost use lib.ListN.{length, take, set};
 ghost use Rattle.octets.specs.Texts.{part};
-ghost use Rattle.table.specs.TheTable.{Entry, entryBytes, sealed};
+ghost use Rattle.octets.specs.Lists.{isOn};
+ghost use Rattle.table.specs.TheTable.{Entry, entryBytes, orderLine, readRow, rowBytes, sealed};
+ghost use Rattle.table.specs.Soundness.{sound};
+ghost use Rattle.changes.specs.Changes.{freed, lowestFree, opened, routed};
+ghost use Rattle.changes.specs.SetUp.{named, withEntry};
 ghost use Rattle.changes.specs.Writes.{closedUp, entriesWith, headWith, openedBytes, policyWith};
 
 // The sums of a block's first 510 bytes, written behind them: the second, then the first.
@@ -113,4 +117,65 @@ fn write_more(block: &mut [u8], n: u8, label: &[u8], flags: u8, limit: u8)
     let end = at + 104;
     write_entry(&mut block[at..end], label, flags, limit);
     seal(block);
+}
+
+// THE CHANGES TO A SOUND ROW
+
+// Place k is freed: its block is zeroed, its bit cleared, and the order line closes up.
+pub fn free_place(row: &mut [u8], k: usize)
+    requires { ⌜ (sound (now row) ≡ true) × (isOn (orderLine (now row)) k ≡ true) ⌝ }
+    ensures { λ _. ⌜ now (row .exit) ≡ rowBytes (freed k (readRow (now (row .entry)))) ⌝ }
+{
+    let bits = row[17] - bit_of(k);
+    let line = line_without(&row[20..28], k as u8);
+    octets::put_zeros(row, 512 * k, 512);
+    write_line(&mut row[0..512], bits, &line);
+}
+
+// A new access takes the lowest free place and the end of the order line. The ones of byte 17 are the accesses in use, and the zeros that
+// its complement ends in are the places below the lowest that is free.
+pub fn open_place(row: &mut [u8], entry: u8, session: &[u8], host: &[u8]) -> usize
+    requires { ⌜ (sound (now row) ≡ true) × (length ((readRow (now row)) .accesses) < 8) × (length (now session) ≤ 128) × (length (now host) ≤ 128) ⌝ }
+    ensures { λ r. ⌜ (now (row .exit) ≡ rowBytes (opened entry (now (session .entry)) (now (host .entry)) (readRow (now (row .entry)))))
+        × (r ≡ lowestFree ((readRow (now (row .entry))) .accesses)) ⌝ }
+{
+    let bits = row[17];
+    let count = u8::count_ones(bits) as usize;
+    let place = u8::trailing_zeros(!bits) as usize + 1;
+    let a = 512 * place;
+    let e = a + 512;
+    write_access(&mut row[a..e], entry, session, host);
+    enlist(&mut row[0..512], bits + bit_of(place), count, place as u8);
+    place
+}
+
+// A policy replaces what place k held.
+pub fn replace_policy(row: &mut [u8], k: usize, policy: &[u8])
+    requires { ⌜ (sound (now row) ≡ true) × (isOn (orderLine (now row)) k ≡ true) × (1 ≤ length (now policy)) × (length (now policy) ≤ 128) ⌝ }
+    ensures { λ _. ⌜ now (row .exit) ≡ rowBytes (routed k (now (policy .entry)) (readRow (now (row .entry)))) ⌝ }
+{
+    let a = 512 * k;
+    let e = a + 512;
+    write_policy(&mut row[a..e], policy);
+}
+
+// The next entry, as given.
+pub fn append_entry(row: &mut [u8], label: &[u8], flags: u8, limit: u8)
+    requires { ⌜ (sound (now row) ≡ true) × (length ((readRow (now row)) .entries) < 4) × (length (now label) ≤ 100) ⌝ }
+    ensures { λ _. ⌜ now (row .exit) ≡ rowBytes (withEntry (record { label = now (label .entry); flags = flags; limit = limit }) (readRow (now (row .entry)))) ⌝ }
+{
+    let n = row[18];
+    write_more(&mut row[0..512], n, label, flags, limit);
+}
+
+// A subscriber with that name and nothing else.
+pub fn new_row(row: &mut [u8], name: &[u8])
+    requires { ⌜ (length (now row) ≡ 4608) × (length (now name) ≤ 15) ⌝ }
+    ensures { λ _. ⌜ now (row .exit) ≡ rowBytes (named (now (name .entry))) ⌝ }
+{
+    octets::clear(row);
+    let head = [1, name.len() as u8];
+    octets::put_bytes(row, 0, &head);
+    octets::put_bytes(row, 2, name);
+    seal(&mut row[0..512]);
 }
