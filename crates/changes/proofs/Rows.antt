@@ -13,10 +13,10 @@ use Rattle.octets.specs.Choice.{pick, within}
 use Rattle.octets.specs.Lists.{counted, every, isOn, keep}
 use Rattle.octets.specs.Texts.{filled, part, put, zeros}
 use Rattle.octets.proofs.Lists.{by-test, eqb-comm, keep-length, on-cons, on-none, within-high, within-low}
-use Rattle.octets.proofs.Texts.{length-filled, length-part, length-put, length-zeros}
+use Rattle.octets.proofs.Texts.{back-put, length-filled, length-part, length-put, length-zeros}
 use Rattle.table.specs.Soundness.{sound}
-use Rattle.table.specs.TheTable.{Access, Entry, Subscriber, accessBytes, block, entriesBytes, entryBytes, fromBits, headBytes, held, line, orderLine, placeBytes, places, placesBytes, readRow, rowBytes, sealed, sumsFrom, usedBits}
-use Rattle.table.proofs.Bytes.{block-place, drop-past, getD-past, length-access, length-entry, length-head, length-sealed}
+use Rattle.table.specs.TheTable.{Access, Entry, Subscriber, accessBytes, block, entriesBytes, entryBytes, fromBits, headBytes, held, line, orderLine, placeBytes, places, placesBytes, readRow, rowAt, rowBytes, sealed, sumsFrom, usedBits, withRow}
+use Rattle.table.proofs.Bytes.{block-place, drop-past, getD-past, length-access, length-entry, length-head, length-row, length-sealed}
 use Rattle.table.proofs.Form.{every-on, line-read}
 use Rattle.table.proofs.Good.{at-most-eight}
 use Rattle.table.proofs.Sound.{clauses, row-is, says-good}
@@ -442,3 +442,18 @@ new-law name z l e =
     ap (λ (t : List ℕ). sealed (take 510 (take 512 t)) ++ drop 512 t) ez
     ∙ (λ i. sealed (et i) ++ ed i)
     ∙ ap (λ (t : List ℕ). sealed (a ++ (f ++ t)) ++ placesBytes [] places) new-rest
+
+-- A ROW OF A TABLE
+
+-- the row as it is lent
+pub lent-row : (t : List ℕ) (i : ℕ) → take (4608 * i + 4608 - 4608 * i) (drop (4608 * i) t) ≡ rowAt t i
+unfolding rowAt
+lent-row t i = let q : 4608 * i + 4608 - 4608 * i ≡ 4608 = omega arith in ap (λ (n : ℕ). take n (drop (4608 * i) t)) q
+
+-- the table when the row has come back, the bytes of a subscriber
+pub back-row : (t : List ℕ) (i : ℕ) (b : List ℕ) (f : List ℕ → Subscriber) → b ≡ rowBytes (f (take (4608 * i + 4608 - 4608 * i) (drop (4608 * i) t)))
+    → take (4608 * i) t ++ (b ++ drop (4608 * i + 4608 - 4608 * i) (drop (4608 * i) t)) ≡ withRow t i (rowBytes (f (rowAt t i)))
+unfolding withRow
+back-row t i b f e =
+    let s : Subscriber = f (rowAt t i) in
+    back-put t (4608 * i) (4608 * i + 4608) b (rowBytes s) (length-row s ∙ omega arith) (e ∙ ap (λ (r : List ℕ). rowBytes (f r)) (lent-row t i))

@@ -5,7 +5,7 @@ ghost use Prim.Native.Nat.{ℕ, _+_, _-_, _*_, _^_, _≤_, _<_};
 ghost use lib.ListN.{length, take, set};
 ghost use Rattle.octets.specs.Texts.{part};
 ghost use Rattle.octets.specs.Lists.{isOn};
-ghost use Rattle.table.specs.TheTable.{Entry, entryBytes, orderLine, readRow, rowBytes, sealed};
+ghost use Rattle.table.specs.TheTable.{Entry, entryBytes, orderLine, readRow, rowAt, rowBytes, sealed, withRow};
 ghost use Rattle.table.specs.Soundness.{sound};
 ghost use Rattle.changes.specs.Changes.{freed, lowestFree, opened, routed};
 ghost use Rattle.changes.specs.SetUp.{named, withEntry};
@@ -178,4 +178,37 @@ pub fn new_row(row: &mut [u8], name: &[u8])
     octets::put_bytes(row, 0, &head);
     octets::put_bytes(row, 2, name);
     seal(&mut row[0..512]);
+}
+
+// THE SAME ON ROW i OF A TABLE: every other row stays as it is.
+
+pub fn free(table: &mut [u8], i: usize, k: usize)
+    requires { ⌜ (4608 * i + 4608 ≤ length (now table)) × (sound (rowAt (now table) i) ≡ true) × (isOn (orderLine (rowAt (now table) i)) k ≡ true) ⌝ }
+    ensures { λ _. ⌜ now (table .exit) ≡ withRow (now (table .entry)) i (rowBytes (freed k (readRow (rowAt (now (table .entry)) i)))) ⌝ }
+{
+    let a = 4608 * i;
+    let e = a + 4608;
+    free_place(&mut table[a..e], k);
+}
+
+pub fn open(table: &mut [u8], i: usize, entry: u8, session: &[u8], host: &[u8]) -> usize
+    requires { ⌜ (4608 * i + 4608 ≤ length (now table)) × (sound (rowAt (now table) i) ≡ true) × (length ((readRow (rowAt (now table) i)) .accesses) < 8)
+        × (length (now session) ≤ 128) × (length (now host) ≤ 128) ⌝ }
+    ensures { λ r. ⌜ (now (table .exit)
+        ≡ withRow (now (table .entry)) i (rowBytes (opened entry (now (session .entry)) (now (host .entry)) (readRow (rowAt (now (table .entry)) i)))))
+        × (r ≡ lowestFree ((readRow (rowAt (now (table .entry)) i)) .accesses)) ⌝ }
+{
+    let a = 4608 * i;
+    let e = a + 4608;
+    open_place(&mut table[a..e], entry, session, host)
+}
+
+pub fn route(table: &mut [u8], i: usize, k: usize, policy: &[u8])
+    requires { ⌜ (4608 * i + 4608 ≤ length (now table)) × (sound (rowAt (now table) i) ≡ true) × (isOn (orderLine (rowAt (now table) i)) k ≡ true)
+        × (1 ≤ length (now policy)) × (length (now policy) ≤ 128) ⌝ }
+    ensures { λ _. ⌜ now (table .exit) ≡ withRow (now (table .entry)) i (rowBytes (routed k (now (policy .entry)) (readRow (rowAt (now (table .entry)) i)))) ⌝ }
+{
+    let a = 4608 * i;
+    let e = a + 4608;
+    replace_policy(&mut table[a..e], k, policy);
 }
