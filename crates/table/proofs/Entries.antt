@@ -14,6 +14,7 @@ use Rattle.octets.specs.Lists.{sumOf}
 use Rattle.octets.specs.Texts.{part, allZero}
 use Rattle.octets.proofs.Lists.{and-left, and-right, within-high, within-low}
 use Rattle.table.proofs.Form.{length-read, part-take}
+use Rattle.table.proofs.Tests.{lent-part}
 use Rattle.table.specs.Soundness.{entriesForm, entryForm, labels, limits}
 use Rattle.table.specs.TheTable.{Entry, readEntries, readEntry}
 
@@ -48,11 +49,11 @@ limits-at (suc n) (suc i) t h = limits-at n i (drop 104 t) (omega arith) ∙ get
 
 pub length-limits-read : (n : ℕ) (t : List ℕ) → length (limits (readEntries n t)) ≡ n
 unfolding limits
-length-limits-read n t = length-map _ (readEntries n t) ∙ length-read n t
+length-limits-read n t = simp (length-map, length-read)
 
 pub length-labels : (n : ℕ) (t : List ℕ) → length (labels (readEntries n t)) ≡ n
 unfolding labels
-length-labels n t = length-map _ (readEntries n t) ∙ length-read n t
+length-labels n t = simp (length-map, length-read)
 
 -- where the entries have their form
 pub label-size : (n i : ℕ) (t : List ℕ) → i < n → entriesForm n t ≡ true → getD t (104 * i) 0 ≤ 100
@@ -86,3 +87,8 @@ sum-turn xs i h = rw (drop-cons xs i 0 h, add-one)
 pub sum-end : (xs : List ℕ) (i : ℕ) → length xs ≤ i → sumOf (drop i xs) ≡ 0
 unfolding sumOf
 sum-end xs i h = rw (drop-of-length-le xs h)
+
+-- the part that is lent for label i is that label
+pub label-lent : (n i m : ℕ) (t : List ℕ) → i < n → entriesForm n t ≡ true → m ≡ getD t (104 * i) 0
+    → take (104 * i + 1 + m - (104 * i + 1)) (drop (104 * i + 1) t) ≡ getD (labels (readEntries n t)) i []
+label-lent n i m t h f e = lent-part t (104 * i + 1) m (getD t (104 * i) 0) e ∙ sym (labels-at n i t h f)

@@ -123,3 +123,9 @@ not-head b h =
 
 pub clash : {x : Bool} → x ≡ true → x ≡ false → ⊥
 clash p q = let z : _≡_ {A = ℕ} 0 1 = cc in omega arith
+
+pub behind-said : (room : List ℕ) (n m : ℕ) {x : Bool} → n ≡ m → x ≡ zeroBehind n room → x ≡ zeroBehind m room
+behind-said room n m e w = w ∙ ap (λ (k : ℕ). zeroBehind k room) e
+
+pub rest-zero : (s : List ℕ) (a b : ℕ) → a ≤ length s → a ≡ b → allZero (take (length s - a) (drop a s)) ≡ allZero (drop b s)
+rest-zero s a b h e = rw (take-all (length s - a) (drop a s) (rw length-drop (omega arith)), e)
