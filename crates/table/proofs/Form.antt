@@ -40,7 +40,7 @@ same-append (c ∷ x) y (d ∷ r) = rw (same-append x y r, and-assoc)
 same-past : (n : ℕ) (x y r : List ℕ) → length x ≡ n → same r (x ++ y) ≡ same (take n r) x && same (drop n r) y
 same-past n x y r h = rw (← h) (same-append x y r)
 
-part-take : (m i n : ℕ) (b : List ℕ) → i + n ≤ m → part (take m b) i n ≡ part b i n
+pub part-take : (m i n : ℕ) (b : List ℕ) → i + n ≤ m → part (take m b) i n ≡ part b i n
 part-take m zero n b h = take-take n m b (omega arith)
 part-take zero (suc i) n b h = absurd (omega arith)
 part-take (suc m) (suc i) n [] h = refl
