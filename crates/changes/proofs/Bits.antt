@@ -26,7 +26,7 @@ unfoldable pub leading : List Bool → ℕ
 leading [] = 0
 leading (b ∷ bs) = pick b (suc (leading bs)) 0
 
-bits-bound : (bs : List Bool) → fromBits bs < 2 ^ length bs
+pub bits-bound : (bs : List Bool) → fromBits bs < 2 ^ length bs
 unfolding fromBits pick
 bits-bound [] = omega arith
 bits-bound (true ∷ bs) = rw (pow-suc 2 (length bs)) (omega (arith, bits-bound bs))
@@ -59,7 +59,7 @@ trailing-bits (false ∷ bs) =
 
 -- the lowest free place
 
-is-vacant : (a : List Access) (k : ℕ) → isOn (line a) k ≡ not (vacant a k)
+pub is-vacant : (a : List Access) (k : ℕ) → isOn (line a) k ≡ not (vacant a k)
 unfolding isOn line vacant
 is-vacant a k = rw every-map
 

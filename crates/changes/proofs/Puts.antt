@@ -111,7 +111,7 @@ hold-other k pol (x ∷ a) j h =
     (λ e. rw (e, ne-eqb (x .place) j (omega (arith, eqb-true (x .place) k e))) (hold-other k pol a j h))
     (λ e. rw (e, hold-other k pol a j h))
 
-abbrev onPlace : ℕ → List Access → List Access
+abbrev pub onPlace : ℕ → List Access → List Access
 onPlace k a = keep (λ (x : Access). eqb (x .place) k) a
 
 hold-own : (k : ℕ) (pol : List ℕ) (a : List Access) (x : Access) (r : List Access) → onPlace k a ≡ x ∷ r → placeBytes (map (hold k pol) a) k ≡ accessBytes (hold k pol x)

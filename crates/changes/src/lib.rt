@@ -1,1 +1,214 @@
 // The changes to a row, and the set-up operations.
+ghost use mathlib.Core.Path.{_≡_};
+ghost use mathlib.Core.Bool.{true};
+ghost use Prim.Native.Nat.{ℕ, _+_, _-_, _*_, _^_, _≤_, _<_};
+ghost use lib.ListN.{length, take, set};
+ghost use Rattle.octets.specs.Texts.{part};
+ghost use Rattle.octets.specs.Lists.{isOn};
+ghost use Rattle.table.specs.TheTable.{Entry, entryBytes, orderLine, readRow, rowAt, rowBytes, sealed, withRow};
+ghost use Rattle.table.specs.Soundness.{sound};
+ghost use Rattle.changes.specs.Changes.{freed, lowestFree, opened, routed};
+ghost use Rattle.changes.specs.SetUp.{named, withEntry};
+ghost use Rattle.changes.specs.Writes.{closedUp, entriesWith, headWith, openedBytes, policyWith};
+
+// The sums of a block's first 510 bytes, written behind them: the second, then the first.
+pub fn seal(block: &mut [u8])
+    requires { ⌜ length (now block) ≡ 512 ⌝ }
+    ensures { λ _. ⌜ now (block .exit) ≡ sealed (take 510 (now (block .entry))) ⌝ }
+{
+    let s = table::sums_of(&block[0..510]);
+    let first = s.first as u8;
+    let second = s.second as u8;
+    block[510] = second;
+    block[511] = first;
+}
+
+// The bit of place k in byte 17.
+fn bit_of(k: usize) -> u8
+    requires { ⌜ (1 ≤ k) × (k ≤ 8) ⌝ }
+    ensures { λ r. ⌜ r ≡ 2 ^ (k - 1) ⌝ }
+{
+    1u8 << (k - 1)
+}
+
+// The order line without place k: the places behind it close up.
+fn line_without(line: &[u8], k: u8) -> [u8; 8]
+    requires { ⌜ length (now line) ≡ 8 ⌝ }
+    ensures { λ r. ⌜ r ≡ closedUp (now (line .entry)) k ⌝ }
+{
+    let mut out = [0u8; 8];
+    let mut n: usize = 0;
+    let mut i: usize = 0;
+    while i < 8 {
+        let p = line[i];
+        if p != k {
+            out[n] = p;
+            n += 1;
+        }
+        i += 1;
+    }
+    out
+}
+
+// Block 0 with other places in use and another order line.
+fn write_line(block: &mut [u8], bits: u8, line: &[u8; 8])
+    requires { ⌜ length (now block) ≡ 512 ⌝ }
+    ensures { λ _. ⌜ now (block .exit) ≡ headWith (now (block .entry)) bits (now (line .entry)) ⌝ }
+{
+    block[17] = bits;
+    octets::put_bytes(block, 20, line);
+    seal(block);
+}
+
+// Block 0 with one place more at the end of its order line, behind the `count` that are there.
+fn enlist(block: &mut [u8], bits: u8, count: usize, place: u8)
+    requires { ⌜ (length (now block) ≡ 512) × (count < 8) ⌝ }
+    ensures { λ _. ⌜ now (block .exit) ≡ headWith (now (block .entry)) bits (set (part (now (block .entry)) 20 8) count place) ⌝ }
+{
+    block[17] = bits;
+    block[20 + count] = place;
+    seal(block);
+}
+
+// The block of a new access.
+fn write_access(block: &mut [u8], entry: u8, session: &[u8], host: &[u8])
+    requires { ⌜ (length (now block) ≡ 512) × (length (now session) ≤ 128) × (length (now host) ≤ 128) ⌝ }
+    ensures { λ _. ⌜ now (block .exit) ≡ openedBytes entry (now (session .entry)) (now (host .entry)) ⌝ }
+{
+    octets::clear(block);
+    let head = [2, entry, session.len() as u8, host.len() as u8];
+    octets::put_bytes(block, 0, &head);
+    octets::put_bytes(block, 8, session);
+    octets::put_bytes(block, 136, host);
+    seal(block);
+}
+
+// The block of a place with another policy.
+fn write_policy(block: &mut [u8], policy: &[u8])
+    requires { ⌜ (length (now block) ≡ 512) × (length (now policy) ≤ 128) ⌝ }
+    ensures { λ _. ⌜ now (block .exit) ≡ policyWith (now (block .entry)) (now (policy .entry)) ⌝ }
+{
+    block[4] = 1;
+    block[5] = policy.len() as u8;
+    octets::put_zeros(block, 264, 128);
+    octets::put_bytes(block, 264, policy);
+    seal(block);
+}
+
+// The room of an entry.
+fn write_entry(room: &mut [u8], label: &[u8], flags: u8, limit: u8)
+    requires { ⌜ (length (now room) ≡ 104) × (length (now label) ≤ 100) ⌝ }
+    ensures { λ _. ⌜ now (room .exit) ≡ entryBytes (record { label = now (label .entry); flags = flags; limit = limit }) ⌝ }
+{
+    octets::clear(room);
+    room[0] = label.len() as u8;
+    octets::put_bytes(room, 1, label);
+    let end = [flags, limit];
+    octets::put_bytes(room, 101, &end);
+}
+
+// Block 0 with one entry more, behind the n that are there.
+fn write_more(block: &mut [u8], n: u8, label: &[u8], flags: u8, limit: u8)
+    requires { ⌜ (length (now block) ≡ 512) × (n < 4) × (length (now label) ≤ 100) ⌝ }
+    ensures { λ _. ⌜ now (block .exit) ≡ entriesWith (now (block .entry)) n (record { label = now (label .entry); flags = flags; limit = limit }) ⌝ }
+{
+    block[18] = n + 1;
+    let at = 32 + 104 * octets::long(n);
+    let end = at + 104;
+    write_entry(&mut block[at..end], label, flags, limit);
+    seal(block);
+}
+
+// THE CHANGES TO A SOUND ROW
+
+// Place k is freed: its block is zeroed, its bit cleared, and the order line closes up.
+pub fn free_place(row: &mut [u8], k: usize)
+    requires { ⌜ (sound (now row) ≡ true) × (isOn (orderLine (now row)) k ≡ true) ⌝ }
+    ensures { λ _. ⌜ now (row .exit) ≡ rowBytes (freed k (readRow (now (row .entry)))) ⌝ }
+{
+    let bits = row[17] - bit_of(k);
+    let line = line_without(&row[20..28], k as u8);
+    octets::put_zeros(row, 512 * k, 512);
+    write_line(&mut row[0..512], bits, &line);
+}
+
+// A new access takes the lowest free place and the end of the order line. The ones of byte 17 are the accesses in use, and the zeros that
+// its complement ends in are the places below the lowest that is free.
+pub fn open_place(row: &mut [u8], entry: u8, session: &[u8], host: &[u8]) -> usize
+    requires { ⌜ (sound (now row) ≡ true) × (length ((readRow (now row)) .accesses) < 8) × (length (now session) ≤ 128) × (length (now host) ≤ 128) ⌝ }
+    ensures { λ r. ⌜ (now (row .exit) ≡ rowBytes (opened entry (now (session .entry)) (now (host .entry)) (readRow (now (row .entry)))))
+        × (r ≡ lowestFree ((readRow (now (row .entry))) .accesses)) ⌝ }
+{
+    let bits = row[17];
+    let count = u8::count_ones(bits) as usize;
+    let place = u8::trailing_zeros(!bits) as usize + 1;
+    let a = 512 * place;
+    let e = a + 512;
+    write_access(&mut row[a..e], entry, session, host);
+    enlist(&mut row[0..512], bits + bit_of(place), count, place as u8);
+    place
+}
+
+// A policy replaces what place k held.
+pub fn replace_policy(row: &mut [u8], k: usize, policy: &[u8])
+    requires { ⌜ (sound (now row) ≡ true) × (isOn (orderLine (now row)) k ≡ true) × (1 ≤ length (now policy)) × (length (now policy) ≤ 128) ⌝ }
+    ensures { λ _. ⌜ now (row .exit) ≡ rowBytes (routed k (now (policy .entry)) (readRow (now (row .entry)))) ⌝ }
+{
+    let a = 512 * k;
+    let e = a + 512;
+    write_policy(&mut row[a..e], policy);
+}
+
+// The next entry, as given.
+pub fn append_entry(row: &mut [u8], label: &[u8], flags: u8, limit: u8)
+    requires { ⌜ (sound (now row) ≡ true) × (length ((readRow (now row)) .entries) < 4) × (length (now label) ≤ 100) ⌝ }
+    ensures { λ _. ⌜ now (row .exit) ≡ rowBytes (withEntry (record { label = now (label .entry); flags = flags; limit = limit }) (readRow (now (row .entry)))) ⌝ }
+{
+    let n = row[18];
+    write_more(&mut row[0..512], n, label, flags, limit);
+}
+
+// A subscriber with that name and nothing else.
+pub fn new_row(row: &mut [u8], name: &[u8])
+    requires { ⌜ (length (now row) ≡ 4608) × (length (now name) ≤ 15) ⌝ }
+    ensures { λ _. ⌜ now (row .exit) ≡ rowBytes (named (now (name .entry))) ⌝ }
+{
+    octets::clear(row);
+    let head = [1, name.len() as u8];
+    octets::put_bytes(row, 0, &head);
+    octets::put_bytes(row, 2, name);
+    seal(&mut row[0..512]);
+}
+
+// THE SAME ON ROW i OF A TABLE: every other row stays as it is.
+
+pub fn free(table: &mut [u8], i: usize, k: usize)
+    requires { ⌜ (4608 * i + 4608 ≤ length (now table)) × (sound (rowAt (now table) i) ≡ true) × (isOn (orderLine (rowAt (now table) i)) k ≡ true) ⌝ }
+    ensures { λ _. ⌜ now (table .exit) ≡ withRow (now (table .entry)) i (rowBytes (freed k (readRow (rowAt (now (table .entry)) i)))) ⌝ }
+{
+    let a = 4608 * i;
+    let e = a + 4608;
+    free_place(&mut table[a..e], k);
+}
+
+pub fn open(table: &mut [u8], i: usize, entry: u8, session: &[u8], host: &[u8]) -> usize
+    requires { ⌜ (4608 * i + 4608 ≤ length (now table)) × (sound (rowAt (now table) i) ≡ true) × (length ((readRow (rowAt (now table) i)) .accesses) < 8)
+        × (length (now session) ≤ 128) × (length (now host) ≤ 128) ⌝ }
+    ensures { λ r. ⌜ (now (table .exit)
+        ≡ withRow (now (table .entry)) i (rowBytes (opened entry (now (session .entry)) (now (host .entry)) (readRow (rowAt (now (table .entry)) i)))))
+        × (r ≡ lowestFree ((readRow (rowAt (now (table .entry)) i)) .accesses)) ⌝ }
+{
+    let a = 4608 * i;
+    let e = a + 4608;
+    open_place(&mut table[a..e], entry, session, host)
+}
+
+pub fn route(table: &mut [u8], i: usize, k: usize, policy: &[u8])
+    requires { ⌜ (4608 * i + 4608 ≤ length (now table)) × (sound (rowAt (now table) i) ≡ true) × (isOn (orderLine (rowAt (now table) i)) k ≡ true)
+        × (1 ≤ length (now policy)) × (length (now policy) ≤ 128) ⌝ }
+    ensures { λ _. ⌜ now (table .exit) ≡ withRow (now (table .entry)) i (rowBytes (routed k (now (policy .entry)) (readRow (rowAt (now (table .entry)) i)))) ⌝ }
+{
+    let a = 4608 * i;
+    let e = a + 4608;
+    replace_policy(&mut table[a..e], k, policy);
+}

@@ -53,13 +53,13 @@ in-use r k h w =
 -- LENGTHS
 
 -- a text's length is what its length byte says, or both are too large
-text-leb : (b : List ℕ) (i n hi : ℕ) → i + hi < length b → leb (length (part b i n)) hi ≡ leb n hi
+pub text-leb : (b : List ℕ) (i n hi : ℕ) → i + hi < length b → leb (length (part b i n)) hi ≡ leb n hi
 text-leb b i n hi h =
     by-test (leb n hi)
     (λ e. let le : n ≤ hi = leb-true n hi e in rw e (le-leb (length (part b i n)) hi (simp (length-take, length-drop) (omega arith))))
     (λ e. let gt : hi < n = leb-false n hi e in rw e (lt-leb (length (part b i n)) hi (simp (length-take, length-drop) (omega arith))))
 
-text-within : (b : List ℕ) (i n lo hi : ℕ) → i + hi < length b → within lo hi (length (part b i n)) ≡ within lo hi n
+pub text-within : (b : List ℕ) (i n lo hi : ℕ) → i + hi < length b → within lo hi (length (part b i n)) ≡ within lo hi n
 unfolding within
 text-within b i n lo hi h =
     let t : leb (length (part b i n)) hi ≡ leb n hi = text-leb b i n hi h in

@@ -1,3 +1,4 @@
 pub mod TheTable
 pub mod Soundness
 pub mod WorkedCases
+pub mod Answers

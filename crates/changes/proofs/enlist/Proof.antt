@@ -1,0 +1,38 @@
+use Rattle.changes.proofs.Blocks.{line-set}
+use mathlib.Core.Path.{_≡_, refl, sym, ap, _∙_}
+use mathlib.Core.List.{List, [], _∷_, _++_}
+use Prim.Native.Nat.{ℕ, suc, _+_, _-_, _*_, _/_, _%_, _^_, _<_, _≤_}
+use native.Mathlib.Omega.{arith}
+use native.Mathlib.Numerals.{add-one}
+use lib.ListN.{length, getD, take, drop, set, length-set, length-append, length-take, length-drop}
+use borrow.Author.Needs.{needs}
+use Rattle.changes.proofs.enlist.Statement.{statement}
+use Rattle.changes.proofs.enlist.Tie as tie
+use Rattle.changes.proofs.enlist.Reads as reads
+use Rattle.changes.proofs.enlist.Lts as lts
+use Rattle.changes.proofs.seal.Reads as seal-reads
+
+slice-write-block : tie.Need-slice-write-block
+slice-write-block c = search needs
+
+add-block : tie.Need-add-block
+add-block c = search needs
+
+slice-write-block-2 : tie.Need-slice-write-block-2
+slice-write-block-2 c = simp length-set (omega arith)
+
+seal-requires : tie.Need-seal-requires
+seal-requires c κs = simp length-set (omega arith)
+
+same-length : tie.Need-same-length
+same-length c = c .before .before .seal .kept .0 ∙ simp length-set
+
+returns : tie.Need-returns
+returns c = let d = c .before .before in
+    let start = d .before .before .before in
+    d .seal .ensures ∙ line-set (start .args .block .now) (start .args .bits) (start .args .count) (start .args .place) (start .pre .0) (start .pre .1)
+
+pub enlist-spec : {M : Type 1} → statement M
+enlist-spec =
+    tie.close
+    (tie.spec slice-write-block add-block slice-write-block-2 seal-requires same-length returns)

@@ -1,0 +1,101 @@
+use Rattle.octets.specs.Texts.{part, put, zeros}
+use Rattle.changes.specs.Writes.{closedUp, headWith}
+use Rattle.changes.proofs.Puts.{putBlock}
+use Rattle.changes.proofs.Rows.{bit-in, free-law, place-in, row-size}
+use mathlib.Core.Path.{_≡_, refl, sym, ap, _∙_}
+use mathlib.Core.List.{List, [], _∷_, _++_}
+use Prim.Native.Nat.{ℕ, suc, _+_, _-_, _*_, _/_, _%_, _^_, _<_, _≤_}
+use native.Mathlib.Omega.{arith}
+use native.Mathlib.Numerals.{add-one}
+use lib.ListN.{length, getD, take, drop, set, length-set, length-append, length-take, length-drop}
+use borrow.Author.Needs.{needs}
+use Rattle.changes.proofs.free_place.Statement.{statement}
+use Rattle.changes.proofs.free_place.Tie as tie
+use Rattle.changes.proofs.free_place.Reads as reads
+use Rattle.changes.proofs.free_place.Lts as lts
+use Rattle.changes.proofs.bit_of.Reads as bit-of-reads
+use Rattle.changes.proofs.line_without.Reads as line-without-reads
+use Rattle.changes.proofs.write_line.Reads as write-line-reads
+use Rattle.octets.proofs.put_zeros.Reads as put-zeros-reads
+
+slice-read-bits : tie.Need-slice-read-bits
+slice-read-bits c = omega (arith, row-size (c .before .before .args .row .now) (c .before .before .pre .0))
+
+bit-of-requires : tie.Need-bit-of-requires
+bit-of-requires c κs = place-in (c .before .before .args .row .now) (c .before .before .pre .0) (c .before .before .args .k) (c .before .before .pre .1)
+
+sub-bits : tie.Need-sub-bits
+sub-bits c = omega (arith, bit-in (c .before .before .before .args .row .now) (c .before .before .before .args .k) (c .before .before .before .pre .0) (c .before .before .before .pre .1), c .bit-of .ensures)
+
+sub-line-without : tie.Need-sub-line-without
+sub-line-without c = search needs
+
+part-line-without-start : tie.Need-part-line-without-start
+part-line-without-start c = search needs
+
+part-line-without-end : tie.Need-part-line-without-end
+part-line-without-end c = omega (arith, row-size (c .before .before .before .before .args .row .now) (c .before .before .before .before .pre .0))
+
+cast-line-without : tie.Need-cast-line-without
+cast-line-without c = omega (arith, place-in (c .before .before .before .before .before .args .row .now) (c .before .before .before .before .before .pre .0) (c .before .before .before .before .before .args .k) (c .before .before .before .before .before .pre .1))
+
+line-without-requires : tie.Need-line-without-requires
+line-without-requires c κs = search needs
+
+mul-put-zeros : tie.Need-mul-put-zeros
+mul-put-zeros c = omega (arith, place-in (c .before .before .before .before .before .before .before .args .row .now) (c .before .before .before .before .before .before .before .pre .0) (c .before .before .before .before .before .before .before .args .k) (c .before .before .before .before .before .before .before .pre .1))
+
+put-zeros-requires : tie.Need-put-zeros-requires
+put-zeros-requires c κs = omega (arith, place-in (c .before .before .before .before .before .before .before .args .row .now) (c .before .before .before .before .before .before .before .pre .0) (c .before .before .before .before .before .before .before .args .k) (c .before .before .before .before .before .before .before .pre .1), row-size (c .before .before .before .before .before .before .before .args .row .now) (c .before .before .before .before .before .before .before .pre .0))
+
+sub-write-line : tie.Need-sub-write-line
+sub-write-line c = search needs
+
+part-write-line-start : tie.Need-part-write-line-start
+part-write-line-start c = search needs
+
+part-write-line-end : tie.Need-part-write-line-end
+part-write-line-end c = omega (arith, row-size (c .before .before .before .before .before .before .before .before .before .before .args .row .now) (c .before .before .before .before .before .before .before .before .before .before .pre .0), c .before .before .put-zeros .kept .0)
+
+write-line-requires : tie.Need-write-line-requires
+write-line-requires c κs = search needs
+
+same-length : tie.Need-same-length
+same-length c = search needs
+
+returns : tie.Need-returns
+returns c = let written = c .before .before .write-line in
+    let zeroed = c .before .before .before .before .before .before .before .put-zeros in
+    let closed = c .before .before .before .before .before .before .before .before .before .line-without in
+    let bit = c .before .before .before .before .before .before .before .before .before .before .before .before .bit-of in
+    let start = c .before .before .before .before .before .before .before .before .before .before .before .before .before .before .before in
+    let r = start .args .row .now in
+    let k = start .args .k in
+    let z : List ℕ = zeroed .last .0 in
+    ap (λ (t : List ℕ). t ++ drop 512 z)
+    (written .ensures
+    ∙ ap (λ (x : ℕ). headWith (take 512 z) (getD r 17 0 - x) (closed .result)) (bit .ensures)
+    ∙ ap (λ (t : List ℕ). headWith (take 512 z) (getD r 17 0 - 2 ^ (k - 1)) t) (closed .ensures))
+    ∙ ap (λ (t : List ℕ). putBlock t 0 (headWith (take 512 t) (getD r 17 0 - 2 ^ (k - 1)) (closedUp (part r 20 8) k))) (zeroed .ensures)
+    ∙ free-law r k (start .pre .0) (start .pre .1)
+
+pub free-place-spec : {M : Type 1} → statement M
+free-place-spec =
+    tie.close
+    (tie.spec
+    slice-read-bits
+    bit-of-requires
+    sub-bits
+    sub-line-without
+    part-line-without-start
+    part-line-without-end
+    cast-line-without
+    line-without-requires
+    mul-put-zeros
+    put-zeros-requires
+    sub-write-line
+    part-write-line-start
+    part-write-line-end
+    write-line-requires
+    same-length
+    returns)

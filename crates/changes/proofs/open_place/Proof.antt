@@ -1,0 +1,137 @@
+use borrow.Rule.Slice.PartMut.{same-len-mid}
+use lib.Seq.{length-take-le}
+use Rattle.octets.specs.Texts.{part, put}
+use Rattle.octets.proofs.Texts.{back-put, length-part}
+use Rattle.table.specs.TheTable.{readRow}
+use Rattle.changes.specs.Changes.{lowestFree}
+use Rattle.changes.specs.Writes.{headWith, openedBytes}
+use Rattle.changes.proofs.Blocks.{back-length}
+use Rattle.changes.proofs.Puts.{putBlock}
+use Rattle.changes.proofs.Rows.{bit-fits, length-opened, lowest-in, lowest-is, open-law, row-size}
+use Rattle.changes.proofs.Steps.{ones-byte}
+use lib.Count.{ones, trailingZeros}
+use mathlib.Core.Path.{_≡_, refl, sym, ap, _∙_}
+use mathlib.Core.List.{List, [], _∷_, _++_}
+use Prim.Native.Nat.{ℕ, suc, _+_, _-_, _*_, _/_, _%_, _^_, _<_, _≤_}
+use native.Mathlib.Omega.{arith}
+use native.Mathlib.Numerals.{add-one}
+use lib.ListN.{length, getD, take, drop, set, length-set, length-append, length-take, length-drop}
+use borrow.Author.Needs.{needs}
+use Rattle.changes.proofs.open_place.Statement.{statement}
+use Rattle.changes.proofs.open_place.Tie as tie
+use Rattle.changes.proofs.open_place.Reads as reads
+use Rattle.changes.proofs.open_place.Lts as lts
+use Rattle.changes.proofs.bit_of.Reads as bit-of-reads
+use Rattle.changes.proofs.enlist.Reads as enlist-reads
+use Rattle.changes.proofs.write_access.Reads as write-access-reads
+
+slice-read-bits : tie.Need-slice-read-bits
+slice-read-bits c = omega (arith, row-size (c .before .before .before .before .args .row .now) (c .before .before .before .before .pre .0))
+
+cast-count : tie.Need-cast-count
+cast-count c = omega (arith, ones-byte (c .before .before .before .before .args .row .now) (c .before .before .before .before .pre .0), c .before .before .before .before .pre .1)
+
+cast-place : tie.Need-cast-place
+cast-place c = omega (arith, lowest-is (c .before .before .before .before .args .row .now) (c .before .before .before .before .pre .0) (c .before .before .before .before .pre .1), lowest-in (c .before .before .before .before .args .row .now) (c .before .before .before .before .pre .0) (c .before .before .before .before .pre .1))
+
+add-place : tie.Need-add-place
+add-place c = omega (arith, lowest-is (c .before .before .before .before .args .row .now) (c .before .before .before .before .pre .0) (c .before .before .before .before .pre .1), lowest-in (c .before .before .before .before .args .row .now) (c .before .before .before .before .pre .0) (c .before .before .before .before .pre .1))
+
+mul-a : tie.Need-mul-a
+mul-a c = omega (arith, lowest-is (c .before .before .before .before .args .row .now) (c .before .before .before .before .pre .0) (c .before .before .before .before .pre .1), lowest-in (c .before .before .before .before .args .row .now) (c .before .before .before .before .pre .0) (c .before .before .before .before .pre .1))
+
+add-e : tie.Need-add-e
+add-e c = omega (arith, lowest-is (c .before .before .before .before .args .row .now) (c .before .before .before .before .pre .0) (c .before .before .before .before .pre .1), lowest-in (c .before .before .before .before .args .row .now) (c .before .before .before .before .pre .0) (c .before .before .before .before .pre .1))
+
+sub-write-access : tie.Need-sub-write-access
+sub-write-access c = search needs
+
+part-write-access-start : tie.Need-part-write-access-start
+part-write-access-start c = search needs
+
+part-write-access-end : tie.Need-part-write-access-end
+part-write-access-end c = let start = c .before .before .before .before in
+    let r = start .args .row .now in
+    omega (arith, lowest-is r (start .pre .0) (start .pre .1), lowest-in r (start .pre .0) (start .pre .1), row-size r (start .pre .0))
+
+write-access-requires : tie.Need-write-access-requires
+write-access-requires c κs = search needs
+
+sub-enlist : tie.Need-sub-enlist
+sub-enlist c = search needs
+
+part-enlist-start : tie.Need-part-enlist-start
+part-enlist-start c = search needs
+
+part-enlist-end : tie.Need-part-enlist-end
+part-enlist-end c = let start = c .before .before .before .before .before .before .before .before in
+    let a : ℕ = 512 * (trailingZeros 8 (255 - getD (start .args .row .now) 17 0) + 1) in
+    omega (arith, same-len-mid a (a + 512 - a) (start .args .row .now) (c .before .before .write-access .last .0) (c .before .before .write-access .kept .0), row-size (start .args .row .now) (start .pre .0))
+
+bit-of-requires : tie.Need-bit-of-requires
+bit-of-requires c κs = omega (arith, lowest-is (c .before .before .before .before .before .before .before .before .before .args .row .now) (c .before .before .before .before .before .before .before .before .before .pre .0) (c .before .before .before .before .before .before .before .before .before .pre .1), lowest-in (c .before .before .before .before .before .before .before .before .before .args .row .now) (c .before .before .before .before .before .before .before .before .before .pre .0) (c .before .before .before .before .before .before .before .before .before .pre .1))
+
+add-enlist : tie.Need-add-enlist
+add-enlist c = let start = c .before .before .before .before .before .before .before .before .before .before in
+    let r = start .args .row .now in
+    let bit : c .bit-of .result ≡ 2 ^ (lowestFree ((readRow r) .accesses) - 1) = c .bit-of .ensures ∙ ap (λ (i : ℕ). 2 ^ (i - 1)) (lowest-is r (start .pre .0) (start .pre .1)) in
+    omega (arith, bit-fits r (start .pre .0) (start .pre .1))
+
+cast-enlist : tie.Need-cast-enlist
+cast-enlist c = omega (arith, lowest-is (c .before .before .before .before .before .before .before .before .before .before .args .row .now) (c .before .before .before .before .before .before .before .before .before .before .pre .0) (c .before .before .before .before .before .before .before .before .before .before .pre .1), lowest-in (c .before .before .before .before .before .before .before .before .before .before .args .row .now) (c .before .before .before .before .before .before .before .before .before .before .pre .0) (c .before .before .before .before .before .before .before .before .before .before .pre .1))
+
+enlist-requires : tie.Need-enlist-requires
+enlist-requires c κs = let start = c .before .before .before .before .before .before .before .before .before .before in
+    let r = start .args .row .now in
+    let a : ℕ = 512 * (trailingZeros 8 (255 - getD r 17 0) + 1) in
+    let w = c .before .before .before .before .write-access in
+    let z : List ℕ = take a r ++ (w .last .0 ++ drop (a + 512 - a) (drop a r)) in
+    (length-take-le 512 z (omega (arith, same-len-mid a (a + 512 - a) r (w .last .0) (w .kept .0), row-size r (start .pre .0))), omega (arith, ones-byte r (start .pre .0), start .pre .1))
+
+same-length : tie.Need-same-length
+same-length c = search needs
+
+returns : tie.Need-returns
+returns c = let start = c .before .before .before .before .before .before .before .before .before .before .before .before .before in
+    let r = start .args .row .now in
+    let sid = start .args .session .now in
+    let host = start .args .host .now in
+    let n = start .args .entry in
+    let p : ℕ = trailingZeros 8 (255 - getD r 17 0) + 1 in
+    let a : ℕ = 512 * p in
+    let o : List ℕ = openedBytes n sid host in
+    let w = c .before .before .before .before .before .before .before .write-access in
+    let place : p ≡ lowestFree ((readRow r) .accesses) = lowest-is r (start .pre .0) (start .pre .1) in
+    let size : length o ≡ a + 512 - a = length-opened n sid host ∙ omega arith in
+    let z : List ℕ = take a r ++ (w .last .0 ++ drop (a + 512 - a) (drop a r)) in
+    let taken : z ≡ put r a o = back-put r a (a + 512) (w .last .0) o size (w .ensures) in
+    let m : ℕ = ones (getD r 17 0) in (
+      ap (λ (t : List ℕ). t ++ drop 512 z) (c .before .before .enlist .ensures ∙ ap (λ (x : ℕ). headWith (take 512 z) (getD r 17 0 + x) (set (part (take 512 z) 20 8) m p)) (c .before .before .before .bit-of .ensures))
+          ∙ ap (λ (t : List ℕ). putBlock t 0 (headWith (take 512 t) (getD r 17 0 + 2 ^ (p - 1)) (set (part (take 512 t) 20 8) m p))) taken
+          ∙ open-law r (start .pre .0) (start .pre .1) n sid host p m place (ones-byte r (start .pre .0)),
+      place,
+    )
+
+pub open-place-spec : {M : Type 1} → statement M
+open-place-spec =
+    tie.close
+    (tie.spec
+    slice-read-bits
+    cast-count
+    cast-place
+    add-place
+    mul-a
+    add-e
+    sub-write-access
+    part-write-access-start
+    part-write-access-end
+    write-access-requires
+    sub-enlist
+    part-enlist-start
+    part-enlist-end
+    bit-of-requires
+    add-enlist
+    cast-enlist
+    enlist-requires
+    same-length
+    returns)

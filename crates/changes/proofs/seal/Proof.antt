@@ -1,0 +1,60 @@
+use Rattle.changes.proofs.Blocks.{sealed-by}
+use mathlib.Core.Path.{_≡_, refl, sym, ap, _∙_}
+use mathlib.Core.List.{List, [], _∷_, _++_}
+use Prim.Native.Nat.{ℕ, suc, _+_, _-_, _*_, _/_, _%_, _^_, _<_, _≤_}
+use native.Mathlib.Omega.{arith}
+use native.Mathlib.Numerals.{add-one}
+use lib.ListN.{length, getD, take, drop, set, length-set, length-append, length-take, length-drop}
+use borrow.Author.Needs.{needs}
+use Rattle.changes.proofs.seal.Statement.{statement}
+use Rattle.changes.proofs.seal.Tie as tie
+use Rattle.changes.proofs.seal.Reads as reads
+use Rattle.changes.proofs.seal.Lts as lts
+use Rattle.table.proofs.sums_of.Reads as sums-of-reads
+
+sub-sums-of : tie.Need-sub-sums-of
+sub-sums-of c = search needs
+
+part-sums-of-start : tie.Need-part-sums-of-start
+part-sums-of-start c = search needs
+
+part-sums-of-end : tie.Need-part-sums-of-end
+part-sums-of-end c = search needs
+
+sums-of-requires : tie.Need-sums-of-requires
+sums-of-requires c κs = search needs
+
+cast-first : tie.Need-cast-first
+cast-first c = search needs
+
+cast-second : tie.Need-cast-second
+cast-second c = search needs
+
+slice-write-block : tie.Need-slice-write-block
+slice-write-block c = search needs
+
+slice-write-block-2 : tie.Need-slice-write-block-2
+slice-write-block-2 c = search needs
+
+same-length : tie.Need-same-length
+same-length c = search needs
+
+returns : tie.Need-returns
+returns c = let sums = c .before .before .sums-of in
+    let start = c .before .before .before .before .before .before in
+    sealed-by (start .args .block .now) (sums .result .first) (sums .result .second) (start .pre) (sums .ensures .0)
+
+pub seal-spec : {M : Type 1} → statement M
+seal-spec =
+    tie.close
+    (tie.spec
+    sub-sums-of
+    part-sums-of-start
+    part-sums-of-end
+    sums-of-requires
+    cast-first
+    cast-second
+    slice-write-block
+    slice-write-block-2
+    same-length
+    returns)

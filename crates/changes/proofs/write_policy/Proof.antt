@@ -1,0 +1,65 @@
+use Rattle.octets.specs.Texts.{put, zeros}
+use Rattle.table.specs.TheTable.{sealed}
+use Rattle.changes.proofs.Blocks.{policy-put}
+use mathlib.Core.Path.{_≡_, refl, sym, ap, _∙_}
+use mathlib.Core.List.{List, [], _∷_, _++_}
+use Prim.Native.Nat.{ℕ, suc, _+_, _-_, _*_, _/_, _%_, _^_, _<_, _≤_}
+use native.Mathlib.Omega.{arith}
+use native.Mathlib.Numerals.{add-one}
+use lib.ListN.{length, getD, take, drop, set, length-set, length-append, length-take, length-drop}
+use borrow.Author.Needs.{needs}
+use Rattle.changes.proofs.write_policy.Statement.{statement}
+use Rattle.changes.proofs.write_policy.Tie as tie
+use Rattle.changes.proofs.write_policy.Reads as reads
+use Rattle.changes.proofs.write_policy.Lts as lts
+use Rattle.changes.proofs.seal.Reads as seal-reads
+use Rattle.octets.proofs.put_bytes.Reads as put-bytes-reads
+use Rattle.octets.proofs.put_zeros.Reads as put-zeros-reads
+
+slice-write-block : tie.Need-slice-write-block
+slice-write-block c = search needs
+
+cast-block : tie.Need-cast-block
+cast-block c = search needs
+
+slice-write-block-2 : tie.Need-slice-write-block-2
+slice-write-block-2 c = search needs
+
+put-zeros-requires : tie.Need-put-zeros-requires
+put-zeros-requires c κs = simp length-set (omega arith)
+
+put-bytes-requires : tie.Need-put-bytes-requires
+put-bytes-requires c κs = let z = c .before .before .before in omega (arith, simp length-set at (z .put-zeros .kept .0))
+
+seal-requires : tie.Need-seal-requires
+seal-requires c κs = let w = c .before .before .before in
+    let z = w .before .before .before .before in
+    w .put-bytes .kept .0 ∙ z .put-zeros .kept .0 ∙ simp length-set (z .before .before .before .before .pre .0)
+
+same-length : tie.Need-same-length
+same-length c = let w = c .before .before .before .before .before .before in
+    c .before .before .seal .kept .0 ∙ w .put-bytes .kept .0 ∙ w .before .before .before .before .put-zeros .kept .0 ∙ simp length-set
+
+returns : tie.Need-returns
+returns c = let d = c .before .before in
+    let w = d .before .before .before .before in
+    let z = w .before .before .before .before in
+    let start = z .before .before .before .before in
+    let block = start .args .block .now in
+    let policy = start .args .policy .now in
+    d .seal .ensures
+    ∙ ap (λ (t : List ℕ). sealed (take 510 t)) (w .put-bytes .ensures ∙ ap (λ (t : List ℕ). put t 264 policy) (z .put-zeros .ensures))
+    ∙ policy-put block policy (start .pre .0) (start .pre .1)
+
+pub write-policy-spec : {M : Type 1} → statement M
+write-policy-spec =
+    tie.close
+    (tie.spec
+    slice-write-block
+    cast-block
+    slice-write-block-2
+    put-zeros-requires
+    put-bytes-requires
+    seal-requires
+    same-length
+    returns)

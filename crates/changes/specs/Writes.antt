@@ -1,0 +1,29 @@
+-- The blocks that a change writes, from the bytes that stood there: what stays, and what is new.
+use mathlib.Core.List.{List, [], _∷_, _++_}
+use mathlib.Core.Bool.{not}
+use Prim.Native.Nat.{ℕ, _+_, _*_}
+use lib.Dec.{eqb}
+use lib.ListN.{length, take}
+use Rattle.octets.specs.Lists.{keep}
+use Rattle.octets.specs.Texts.{filled, part, put}
+use Rattle.table.specs.TheTable.{Access, Entry, accessBytes, entryBytes, sealed}
+
+-- Block 0 with another byte 17 and another order line, sealed anew.
+unfoldable pub headWith : (b : List ℕ) → (bits : ℕ) → (order : List ℕ) → List ℕ
+headWith b bits order = sealed (take 17 b ++ (bits ∷ part b 18 2 ++ (order ++ part b 28 482)))
+
+-- An order line without place k, closed up, zero filled.
+unfoldable pub closedUp : (order : List ℕ) → (k : ℕ) → List ℕ
+closedUp order k = filled (keep (λ p. not (eqb p k)) order) 8
+
+-- A place with a policy that replaces what was held, sealed anew.
+unfoldable pub policyWith : (b policy : List ℕ) → List ℕ
+policyWith b policy = sealed (take 4 b ++ (1 ∷ length policy ∷ part b 6 258 ++ (filled policy 128 ++ part b 392 118)))
+
+-- The block of a new access, which holds no policy. The number of its place is not among its bytes.
+unfoldable pub openedBytes : (entry : ℕ) → (session host : List ℕ) → List ℕ
+openedBytes n session host = accessBytes (record { place = 0; entry = n; session = session; host = host; policy = [] })
+
+-- Block 0 with one entry more behind the n that are there, sealed anew.
+unfoldable pub entriesWith : (b : List ℕ) → (n : ℕ) → Entry → List ℕ
+entriesWith b n e = sealed (take 18 b ++ ((n + 1) ∷ part b 19 13 ++ (put (part b 32 416) (104 * n) (entryBytes e) ++ part b 448 62)))

@@ -1,0 +1,110 @@
+-- The search from row i on finds what the lookup finds: `search-here`, `search-on` and `search-end` of Rows.
+use mathlib.Core.Path.{_∙_, _≡_, sym}
+use mathlib.Core.Bool.{false, true}
+use Prim.Native.Nat.{_*_, _-_, _/_, _<_, _≤_}
+use native.Mathlib.Omega.{arith}
+use lib.ListN.{length}
+use borrow.Author.Needs.{needs}
+use Rattle.table.specs.TheTable.{isRowOf, lookup, rowAt}
+use Rattle.table.proofs.Tests.{lent-length}
+use Rattle.table.proofs.Rows.{lent-test, rows-most, search-all, search-end, search-here, search-on, searched, whole-rows}
+use Rattle.table.proofs.lookup.Statement.{statement}
+use Rattle.table.proofs.lookup.Tie as tie
+
+abbrev Inv-loop : tie.InvT-loop
+Inv-loop t name i₀ at₀ i at = (at ≡ 4608 * i) × (i ≤ length t / 4608) × (searched (isRowOf name) t i ≡ lookup t name)
+
+abbrev μ-loop : tie.MeasureT-loop
+μ-loop t name i₀ at₀ i at = length t - at
+
+loop-holds : tie.Need-loop-holds Inv-loop μ-loop
+unfolding lookup
+loop-holds c =
+    let given = c .before .before .args in
+    (omega arith, omega arith, search-all (isRowOf (given .name .now)) (given .t .now))
+
+add-end : tie.Need-add-end Inv-loop μ-loop
+add-end c =
+    let given = c .before .before .before .before .args in
+    let pre-was = c .before .before .before .before .pre in
+    omega (arith, whole-rows (given .t .now) pre-was)
+
+sub-is-row-of : tie.Need-sub-is-row-of Inv-loop μ-loop
+sub-is-row-of c = search needs
+
+part-is-row-of-start : tie.Need-part-is-row-of-start Inv-loop μ-loop
+part-is-row-of-start c =
+    let given = c .before .before .before .before .args in
+    let pre-was = c .before .before .before .before .pre in
+    omega (arith, whole-rows (given .t .now) pre-was)
+
+part-is-row-of-end : tie.Need-part-is-row-of-end Inv-loop μ-loop
+part-is-row-of-end c =
+    let given = c .before .before .before .before .args in
+    let pre-was = c .before .before .before .before .pre in
+    omega (arith, whole-rows (given .t .now) pre-was)
+
+is-row-of-requires : tie.Need-is-row-of-requires Inv-loop μ-loop
+is-row-of-requires c κs =
+    let given = c .before .before .before .before .before .args in
+    let loop-was = c .before .before .loop in
+    let pre-was = c .before .before .before .before .before .pre in
+    lent-length (given .t .now) (loop-was .at) 4608 (omega (arith, whole-rows (given .t .now) pre-was))
+
+returns : tie.Need-returns Inv-loop μ-loop
+returns c =
+    let given = c .before .before .before .before .before .before .before .args in
+    let loop-was = c .before .before .before .before .loop in
+    let is-row-of-was = c .before .is-row-of in
+    let test1 = c .if1 in
+    let pre-was = c .before .before .before .before .before .before .before .pre in
+    let here : isRowOf (given .name .now) (rowAt (given .t .now) (loop-was .i)) ≡ true = lent-test (isRowOf (given .name .now)) (given .t .now) (loop-was .at) (loop-was .i) _ true (loop-was .inv .0) (is-row-of-was .ensures) (test1 .taken) in
+    (sym (search-here (isRowOf (given .name .now)) (given .t .now) (loop-was .i) (omega (arith, whole-rows (given .t .now) pre-was)) here) ∙ loop-was .inv .2, omega (arith, whole-rows (given .t .now) pre-was))
+
+add-i : tie.Need-add-i Inv-loop μ-loop
+add-i c =
+    let given = c .before .before .before .before .before .before .before .args in
+    let pre-was = c .before .before .before .before .before .before .before .pre in
+    omega (arith, rows-most (given .t .now) pre-was)
+
+loop-less : tie.Need-loop-less Inv-loop μ-loop
+loop-less c =
+    let given = c .before .before .before .before .before .before .before .args in
+    let pre-was = c .before .before .before .before .before .before .before .pre in
+    omega (arith, whole-rows (given .t .now) pre-was)
+
+loop-again : tie.Need-loop-again Inv-loop μ-loop
+loop-again c =
+    let given = c .before .before .before .before .before .before .before .args in
+    let loop-was = c .before .before .before .before .loop in
+    let is-row-of-was = c .before .is-row-of in
+    let test1 = c .if1 in
+    let pre-was = c .before .before .before .before .before .before .before .pre in
+    let other : isRowOf (given .name .now) (rowAt (given .t .now) (loop-was .i)) ≡ false = lent-test (isRowOf (given .name .now)) (given .t .now) (loop-was .at) (loop-was .i) _ false (loop-was .inv .0) (is-row-of-was .ensures) (test1 .left) in
+    let inside : loop-was .i < length (given .t .now) / 4608 = omega (arith, whole-rows (given .t .now) pre-was) in
+    (omega arith, omega arith, search-on (isRowOf (given .name .now)) (given .t .now) (loop-was .i) inside other ∙ loop-was .inv .2)
+
+returns-2 : tie.Need-returns-2 Inv-loop μ-loop
+returns-2 c =
+    let given = c .before .before .before .before .args in
+    let loop-was = c .before .loop in
+    let pre-was = c .before .before .before .before .pre in
+    (sym (search-end (isRowOf (given .name .now)) (given .t .now) (loop-was .i) (omega (arith, whole-rows (given .t .now) pre-was))) ∙ loop-was .inv .2, omega arith)
+
+pub lookup-spec : {M : Type 1} → statement M
+lookup-spec =
+    tie.close
+    (tie.spec
+    Inv-loop
+    μ-loop
+    loop-holds
+    add-end
+    sub-is-row-of
+    part-is-row-of-start
+    part-is-row-of-end
+    is-row-of-requires
+    returns
+    add-i
+    loop-less
+    loop-again
+    returns-2)
