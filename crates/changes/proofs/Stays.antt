@@ -84,7 +84,7 @@ unfolding onEntry pick
 on-snoc-other n a y e = rw (keep-snoc, e, length-append) (omega arith)
 
 -- one more on an entry below its limit
-under-snoc : (m : ℕ) (ls : List ℕ) (a : List Access) (y : Access)
+pub under-snoc : (m : ℕ) (ls : List ℕ) (a : List Access) (y : Access)
     → (suc m ≤ y .entry → length (onEntry (y .entry) a) < getD ls (y .entry - suc m) 0)
     → underLimits (suc m) ls a ≡ true → underLimits (suc m) ls (a ++ (y ∷ [])) ≡ true
 unfolding underLimits

@@ -11,14 +11,14 @@ use lib.Dec.{eqb, leb}
 use lib.ListN.{length, take, drop, getD, length-take, length-drop, drop-of-length-le, List·getD-eq-default}
 use lib.Seq.{drop-cons, drop-drop, getD-take, getD-drop}
 use Rattle.octets.specs.Choice.{pick, within}
-use Rattle.octets.specs.Lists.{every, keep, firstOr, upTo0}
+use Rattle.octets.specs.Lists.{every, keep, firstOr, upTo0, isOn}
 use Rattle.octets.specs.Texts.{part, same, zeros, allZero}
-use Rattle.octets.proofs.Lists.{by-test, and-left, and-right, within-low, within-high, same-eq}
+use Rattle.octets.proofs.Lists.{by-test, and-left, and-right, within-low, within-high, same-eq, on-first}
 use Rattle.octets.proofs.Texts.{zero-cons}
 use Rattle.table.specs.TheTable.{rowLength, orderLine, block}
 use Rattle.table.specs.Soundness.{sound, zeroBehind}
 use Rattle.table.proofs.Form.{up-to-length, part-take}
-use Rattle.table.proofs.Sound.{clauses, head-of}
+use Rattle.table.proofs.Sound.{clauses, head-of, on-more}
 
 -- THE LINE
 
@@ -123,3 +123,12 @@ module _ (l : List ℕ) (i : ℕ) where
     pub tally-over : (p : ℕ → Bool) → tally p l i ≡ 0
     unfolding tally keep
     tally-over p = rw over
+
+-- what is found stands on the list
+pub hunt-on : (p : ℕ → Bool) (l : List ℕ) → (hunt p l 0 ≡ 0 → ⊥) → isOn l (hunt p l 0) ≡ true
+unfolding hunt keep firstOr pick
+hunt-on p [] nz = absurd (nz refl)
+hunt-on p (x ∷ l) nz =
+    by-test (p x)
+    (λ e. rw e (on-first x l x refl))
+    (λ e. rw e (on-more x l _ (hunt-on p l (rw e at nz))))

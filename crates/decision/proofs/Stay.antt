@@ -6,20 +6,24 @@ use Prim.Native.Nat.{ℕ, zero, suc, _+_, _-_, _≤_, _<_}
 use native.Mathlib.Omega.{arith}
 use borrow.Author.Tests.{leb-true, ltb-true, ltb-false, le-leb, eqb-true, eqb-false, eq-eqb, ne-eqb, not-true, not-false}
 use lib.Dec.{eqb, leb, ltb}
-use lib.ListN.{length, getD, List·getD-map}
+use lib.ListN.{length, getD, length-append, List·getD-map}
+use Rattle.changes.specs.Changes.{freed, leave, vacant}
+use Rattle.changes.proofs.Keep.{good-freed, good-opened, good-routed}
+use Rattle.changes.proofs.Stays.{MayOpen}
 use Rattle.changes.specs.Changes.{freed, leave, vacant}
 use Rattle.message.specs.ReadingAMessage.{Ask, policy, termination, tunnel}
 use Rattle.octets.specs.Choice.{pick, within}
-use Rattle.octets.specs.Lists.{every, firstOr, keep}
+use Rattle.octets.specs.Lists.{every, firstOr, keep, sumOf}
 use Rattle.octets.specs.Texts.{same}
+use Rattle.table.specs.Answers.{found}
 use Rattle.table.specs.Soundness.{limits, onEntry, sameLabel, sessions, underLimits}
 use Rattle.table.specs.TheTable.{Access, Entry, Subscriber, line}
 use Rattle.changes.proofs.Keep.{good-freed, good-opened, good-routed}
-use Rattle.changes.proofs.Stays.{MayOpen}
+use Rattle.changes.proofs.Stays.{MayOpen, under-snoc}
 use Rattle.decision.specs.Deciding.{Verdict, admit, atLimit, decide, entryAt, entryFrom, entryNamed, firstOn, grant, heldAlready, noEntry, none, openOn, placeOf, refuse, terminate, type0, type1, withSession}
 use Rattle.octets.proofs.Choice.{by-pick}
-use Rattle.octets.proofs.Lists.{and-left, and-right, by-test, every-keep, every-map, in-within, keep-comm, keep-length, keep-none, within-high, within-low}
-use Rattle.table.proofs.Good.{Fits, Good, goodEntry, length-limits}
+use Rattle.octets.proofs.Lists.{and-left, and-right, by-test, every-append, every-keep, every-map, every-one, in-within, keep-comm, keep-length, keep-none, within-high, within-low}
+use Rattle.table.proofs.Good.{Fits, Good, each-entry, fewer, goodEntry, length-limits}
 
 -- THE CUT: at the limit there is an access to cut, and then there is room
 
@@ -108,6 +112,19 @@ module _ (n : ℕ) (s : Subscriber) (g : Good s) (ex : within 1 (length (s .entr
       let lo : 1 ≤ n = within-low 1 (length (s .entries)) n ex in
       let z : 1 + (n - 1) ≡ n = omega arith in
       rw z at (limit-kept 1 (limits (s .entries)) (s .accesses) (n - 1) (g .accesses-good .under) (omega (arith, within-high 1 _ n ex, length-limits (s .entries))))
+
+-- below the limit there are fewer than eight accesses, so that a place is free
+pub room-left : (n : ℕ) (s : Subscriber) → Good s → within 1 (length (s .entries)) n ≡ true
+    → length (onEntry n (s .accesses)) < (entryAt n s) .limit → length (s .accesses) < 8
+room-left n s g ex below =
+    let es : List Entry = s .entries in
+    let a : List Access = s .accesses in
+    let y : Access = record { place = 0; entry = n; session = []; host = []; policy = [] } in
+    let u : underLimits 1 (limits es) (a ++ (y ∷ [])) ≡ true =
+    under-snoc 0 (limits es) a y (λ lo. rw (limit-is n s) below) (g .accesses-good .under) in
+    let e : every (λ (x : Access). within 1 (length es) (x .entry)) (a ++ (y ∷ [])) ≡ true =
+    every-append _ a (y ∷ []) (each-entry es a (g .accesses-good .each)) (every-one _ y ex) in
+    omega (arith, fewer es (a ++ (y ∷ [])) e u, length-append a (y ∷ []), leb-true (sumOf (limits es)) 8 (g .entries-good .eight))
 
 -- THE CHANGES
 

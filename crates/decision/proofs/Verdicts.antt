@@ -7,19 +7,20 @@ use native.Mathlib.Omega.{arith}
 use borrow.Author.Tests.{eq-eqb, ne-eqb, lt-ltb, le-ltb}
 use lib.Dec.{eqb, ltb}
 use lib.ListN.{length}
+use Rattle.message.specs.Codes.{noSubscription, plain, roamingNotAllowed, unusedByUser}
 use Rattle.octets.specs.Choice.{pick, within}
-use Rattle.octets.specs.Lists.{every, firstOr}
-use Rattle.octets.proofs.Lists.{and-left, within-low, in-within}
-use Rattle.message.specs.Codes.{plain, roamingNotAllowed, unusedByUser, noSubscription}
-use Rattle.table.specs.TheTable.{Access, Subscriber, barred, mayRoam, line, readRow}
-use Rattle.table.specs.Soundness.{sound, onEntry}
+use Rattle.octets.specs.Lists.{every, firstOr, isOn}
+use Rattle.table.specs.Soundness.{onEntry, sound}
+use Rattle.table.specs.TheTable.{Access, Subscriber, barred, line, mayRoam, orderLine, readRow}
+use Rattle.decision.proofs.Entries.{most-four}
+use Rattle.decision.proofs.Found.{bothAre, ended-is, entryIs, first-is, on-places, session-is, sessionIs}
+use Rattle.decision.proofs.Search.{hunt-on}
+use Rattle.decision.proofs.Stay.{limit-is, limit-some, room-left}
+use Rattle.decision.specs.Deciding.{admit, atLimit, entryAt, entryNamed, firstOn, grant, heldAlready, none, placeOf, refuse, terminate, type0, type1, withSession}
+use Rattle.decision.specs.declared.Plan.the-variants.{Open, Route}
+use Rattle.decision.specs.Plans.{fitPlan, planned}
+use Rattle.octets.proofs.Lists.{and-left, both, in-within, within-low}
 use Rattle.table.proofs.Sound.{says-good}
-use Rattle.table.proofs.Good.{Good}
-use Rattle.decision.specs.declared.Plan.the-variants.{NotSubscribed, Barred, RoamingNotAllowed, UnableToComply, UnusedByUser, Open, Route, Free}
-use Rattle.decision.specs.Deciding.{Verdict, refuse, grant, entryNamed, entryAt, withSession, placeOf, none, firstOn, atLimit, openOn, admit, heldAlready, type0, type1, terminate}
-use Rattle.decision.specs.Plans.{planned}
-use Rattle.decision.proofs.Found.{on-places}
-use Rattle.decision.proofs.Stay.{limit-is, limit-some}
 
 -- AN OPENING
 
@@ -96,3 +97,28 @@ module _ (session route : List ℕ) (s : Subscriber) where
         → terminate session label s ≡ grant (Rattle.changes.specs.Changes.freed (placeOf (withSession session (onEntry (entryNamed label s) (s .accesses)))) s)
     unfolding terminate pick
     is-ended e = rw e
+
+-- THE PLAN CAN BE CARRIED OUT
+
+module _ (r : List ℕ) (h : sound r ≡ true) where
+  -- an opening: there is room below the limit, and at the limit an access to cut
+  module _ (n : ℕ) (one : 1 ≤ n) (le : n ≤ length ((readRow r) .entries)) where
+    entry-in : within 1 4 n ≡ true
+    entry-in = in-within 1 4 n one (omega (arith, most-four r h))
+
+    pub fit-open : length (onEntry n ((readRow r) .accesses)) < (entryAt n (readRow r)) .limit → fitPlan (Open n 0) r ≡ true
+    unfolding fitPlan pick
+    fit-open below = both entry-in (lt-ltb (length ((readRow r) .accesses)) 8 (room-left n (readRow r) (says-good r h) (in-within 1 _ n one le) below))
+
+    pub fit-cut : (firstOn n ((readRow r) .accesses) ≡ 0 → ⊥) → fitPlan (Open n (firstOn n ((readRow r) .accesses))) r ≡ true
+    unfolding fitPlan pick
+    fit-cut nz =
+        both entry-in
+        (rw (ne-eqb (firstOn n ((readRow r) .accesses)) 0 nz, first-is r n) (hunt-on (entryIs r n) (orderLine r) (λ z. nz (first-is r n ∙ z))))
+
+  pub fit-place : (s : List ℕ) → (placeOf (withSession s ((readRow r) .accesses)) ≡ 0 → ⊥) → isOn (orderLine r) (placeOf (withSession s ((readRow r) .accesses))) ≡ true
+  fit-place s nz = rw (session-is r s) (hunt-on (sessionIs r s) (orderLine r) (λ z. nz (session-is r s ∙ z)))
+
+  pub fit-ended : (n : ℕ) (s : List ℕ) → (placeOf (withSession s (onEntry n ((readRow r) .accesses))) ≡ 0 → ⊥)
+      → isOn (orderLine r) (placeOf (withSession s (onEntry n ((readRow r) .accesses)))) ≡ true
+  fit-ended n s nz = rw (ended-is r n s) (hunt-on (bothAre r n s) (orderLine r) (λ z. nz (ended-is r n s ∙ z)))

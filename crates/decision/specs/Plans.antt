@@ -1,10 +1,13 @@
 -- Deciding: what each case of the code's plan means.
+use mathlib.Core.Bool.{Bool, true, _&&_}
 use mathlib.Core.List.{List, []}
 use Prim.Native.Nat.{ℕ}
-use lib.Dec.{eqb}
-use Rattle.octets.specs.Choice.{pick}
+use lib.Dec.{eqb, ltb}
+use lib.ListN.{length}
+use Rattle.octets.specs.Choice.{pick, within}
+use Rattle.octets.specs.Lists.{isOn}
 use Rattle.message.specs.Codes.{plain, roamingNotAllowed, unusedByUser, noSubscription}
-use Rattle.table.specs.TheTable.{Subscriber}
+use Rattle.table.specs.TheTable.{Subscriber, orderLine, readRow}
 use Rattle.changes.specs.Changes.{freed, routed}
 use Rattle.decision.specs.declared.Plan.{Plan}
 use Rattle.decision.specs.declared.Plan.the-variants.{NotSubscribed, Barred, RoamingNotAllowed, UnableToComply, UnusedByUser, Open, Route, Free}
@@ -21,3 +24,15 @@ planned session host route (Open n cut) s =
     pick (eqb cut 0) (openOn n session host [] s) (openOn n session host (atPlace cut (s .accesses)) (freed cut s))
 planned session host route (Route k) s = grant (routed k route s)
 planned session host route (Free k) s = grant (freed k s)
+
+-- A plan that can be carried out on a row: a new access has an entry and finds a free place, once the cut is made; every
+-- other change is to a place that is in use.
+unfoldable pub fitPlan : Plan → List ℕ → Bool
+fitPlan NotSubscribed r = true
+fitPlan Barred r = true
+fitPlan RoamingNotAllowed r = true
+fitPlan UnableToComply r = true
+fitPlan UnusedByUser r = true
+fitPlan (Open n cut) r = within 1 4 n && pick (eqb cut 0) (ltb (length ((readRow r) .accesses)) 8) (isOn (orderLine r) cut)
+fitPlan (Route k) r = isOn (orderLine r) k
+fitPlan (Free k) r = isOn (orderLine r) k

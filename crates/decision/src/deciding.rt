@@ -10,7 +10,7 @@ ghost use lib.ListN.{length};
 ghost use Rattle.table.specs.TheTable.{readRow};
 ghost use Rattle.table.specs.Soundness.{sound};
 ghost use Rattle.decision.specs.Deciding.{type0, type1, terminate, admit};
-ghost use Rattle.decision.specs.Plans.{planned};
+ghost use Rattle.decision.specs.Plans.{planned, fitPlan};
 
 // An opening on entry n: at its limit, the entry's first-opened access is cut for it.
 fn plan_opening(row: &[u8], n: usize) -> Plan
@@ -19,6 +19,7 @@ fn plan_opening(row: &[u8], n: usize) -> Plan
         ⌜
         ((session host route : List ℕ)
         → planned session host route r (readRow (now (row .entry))) ≡ admit n session host (readRow (now (row .entry))))
+        × (fitPlan r (now (row .entry)) ≡ true)
         ⌝ }
 {
     if row::count_on(row, n) < octets::long(row::limit_of(row, n)) {
@@ -45,6 +46,7 @@ pub fn plan_tunnel(row: &[u8], session: &[u8], label: &[u8], visited: bool) -> P
         ((host route : List ℕ)
         → planned (now (session .entry)) host route r (readRow (now (row .entry)))
         ≡ type0 (now (session .entry)) host (now (label .entry)) visited (readRow (now (row .entry))))
+        × (fitPlan r (now (row .entry)) ≡ true)
         ⌝ }
 {
     let n = row::entry_named(row, label);
@@ -72,6 +74,7 @@ pub fn plan_policy(row: &[u8], session: &[u8], wag: bool) -> Plan
         ((host route : List ℕ)
         → planned (now (session .entry)) host route r (readRow (now (row .entry)))
         ≡ type1 (now (session .entry)) route wag (readRow (now (row .entry))))
+        × (fitPlan r (now (row .entry)) ≡ true)
         ⌝ }
 {
     let k = row::place_of(row, session);
@@ -92,6 +95,7 @@ pub fn plan_termination(row: &[u8], session: &[u8], label: &[u8]) -> Plan
         ((host route : List ℕ)
         → planned (now (session .entry)) host route r (readRow (now (row .entry)))
         ≡ terminate (now (session .entry)) (now (label .entry)) (readRow (now (row .entry))))
+        × (fitPlan r (now (row .entry)) ≡ true)
         ⌝ }
 {
     let n = row::entry_named(row, label);

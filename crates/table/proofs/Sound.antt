@@ -98,7 +98,7 @@ entries-form (suc n) (suc m) t h le =
 
 -- WHAT STANDS ON A LINE
 
-on-more : (x : ℕ) (l : List ℕ) (k : ℕ) → isOn l k ≡ true → isOn (x ∷ l) k ≡ true
+pub on-more : (x : ℕ) (l : List ℕ) (k : ℕ) → isOn l k ≡ true → isOn (x ∷ l) k ≡ true
 unfolding isOn every
 on-more x l k o = by-test (eqb x k) (λ e. rw e) (λ e. rw e o)
 

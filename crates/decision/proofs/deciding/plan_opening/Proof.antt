@@ -1,6 +1,8 @@
+use Rattle.table.specs.Soundness.{onEntry}
+use Rattle.decision.specs.Plans.{fitPlan}
 use Rattle.table.specs.TheTable.{readRow}
 use Rattle.decision.specs.Deciding.{firstOn, entryAt}
-use Rattle.decision.proofs.Verdicts.{opens, cuts, one-to-cut}
+use Rattle.decision.proofs.Verdicts.{opens, cuts, one-to-cut, fit-open, fit-cut}
 use mathlib.Core.Path.{_≡_, refl, sym, ap, _∙_}
 use mathlib.Core.List.{List, [], _∷_, _++_}
 use Prim.Native.Nat.{ℕ, suc, _+_, _-_, _*_, _/_, _%_, _^_, _<_, _≤_}
@@ -32,10 +34,13 @@ long-requires c κs = search needs
 -- src/deciding.rt:27:9
 returns : tie.Need-returns
 returns c =
-    let a = c .before .before .before .before .before .args in
-    let s = readRow (a .row .now) in
-    λ session host route. opens (a .n) session host route s
-    (omega (arith, c .if1 .taken, c .before .long .ensures .0, c .before .before .limit-of .ensures, c .before .before .before .count-on .ensures))
+    let start = c .before .before .before .before .before in
+    let a = start .args in
+    let row = a .row .now in
+    let s = readRow row in
+    let below : length (onEntry (a .n) (s .accesses)) < (entryAt (a .n) s) .limit =
+    omega (arith, c .if1 .taken, c .before .long .ensures .0, c .before .before .limit-of .ensures, c .before .before .before .count-on .ensures) in
+    (λ session host route. opens (a .n) session host route s below, fit-open row (start .pre .0) (a .n) (start .pre .1) (start .pre .2) below)
 
 -- src/deciding.rt:29:19
 first-on-requires : tie.Need-first-on-requires
@@ -48,10 +53,11 @@ returns-2 c =
     let a = start .args in
     let row = a .row .now in
     let s = readRow row in
-    let full : (entryAt (a .n) s) .limit ≤ length (Rattle.table.specs.Soundness.onEntry (a .n) (s .accesses)) =
+    let full : (entryAt (a .n) s) .limit ≤ length (onEntry (a .n) (s .accesses)) =
     omega (arith, c .before .if1 .left, c .before .before .long .ensures .0, c .before .before .before .limit-of .ensures, c .before .before .before .before .count-on .ensures) in
-    λ session host route. rw (c .first-on .ensures .0)
-    (cuts (a .n) session host route s full (one-to-cut row (a .n) (start .pre .0) (start .pre .1) (start .pre .2) full))
+    let some : firstOn (a .n) (s .accesses) ≡ 0 → ⊥ = one-to-cut row (a .n) (start .pre .0) (start .pre .1) (start .pre .2) full in
+    rw (c .first-on .ensures .0)
+    (λ session host route. cuts (a .n) session host route s full some, fit-cut row (start .pre .0) (a .n) (start .pre .1) (start .pre .2) some)
 
 pub plan-opening-spec : {M : Type 1} → statement M
 plan-opening-spec =

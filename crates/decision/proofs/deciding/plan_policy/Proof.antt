@@ -1,3 +1,4 @@
+use Rattle.decision.specs.Plans.{fitPlan}
 use mathlib.Core.Bool.{true, false}
 use lib.Dec.{eqb}
 use borrow.Author.Tests.{eq-eqb, ne-eqb}
@@ -5,7 +6,7 @@ use Rattle.table.specs.TheTable.{readRow}
 use Rattle.decision.specs.Deciding.{none, withSession, placeOf}
 use Rattle.decision.specs.Plans.{planned}
 use Rattle.decision.proofs.Found.{none-with}
-use Rattle.decision.proofs.Verdicts.{no-access, gateway-no, gateway-yes}
+use Rattle.decision.proofs.Verdicts.{no-access, gateway-no, gateway-yes, fit-place}
 use mathlib.Core.Path.{_≡_, refl, sym, ap, _∙_}
 use mathlib.Core.List.{List, [], _∷_, _++_}
 use Prim.Native.Nat.{ℕ, suc, _+_, _-_, _*_, _/_, _%_, _^_, _<_, _≤_}
@@ -25,39 +26,45 @@ place-of-requires c κs = search needs
 
 -- src/deciding.rt:85:9
 returns : tie.Need-returns
-unfolding planned
+unfolding planned fitPlan
 returns c =
     let start = c .before .before .before .before in
     let a = start .args in
     let s = readRow (a .row .now) in
     let session = a .session .now in
     let at : c .before .place-of .result ≡ placeOf (withSession session (s .accesses)) = c .before .place-of .ensures .0 in
-    let there : none (withSession session (s .accesses)) ≡ eqb (c .before .place-of .result) 0 = none-with (a .row .now) session (start .pre) ∙ ap (λ (k : ℕ). eqb k 0) (sym at) in
-    λ host route. sym (no-access session route s (a .wag) (there ∙ eq-eqb _ 0 (c .if1 .taken)))
+    let there : none (withSession session (s .accesses)) ≡ eqb (c .before .place-of .result) 0 = none-with (a .row .now) session (start .pre) ∙ ap (λ (k : ℕ). eqb k 0) (sym at) in (
+      λ host route. sym (no-access session route s (a .wag) (there ∙ eq-eqb _ 0 (c .if1 .taken))),
+      refl,
+    )
 
 -- src/deciding.rt:88:9
 returns-2 : tie.Need-returns-2
-unfolding planned
+unfolding planned fitPlan
 returns-2 c =
     let start = c .before .before .before .before .before in
     let a = start .args in
     let s = readRow (a .row .now) in
     let session = a .session .now in
     let at : c .before .before .place-of .result ≡ placeOf (withSession session (s .accesses)) = c .before .before .place-of .ensures .0 in
-    let there : none (withSession session (s .accesses)) ≡ eqb (c .before .before .place-of .result) 0 = none-with (a .row .now) session (start .pre) ∙ ap (λ (k : ℕ). eqb k 0) (sym at) in
-    λ host route. rw (c .if2 .taken, at) (sym (gateway-yes session route s (there ∙ ne-eqb _ 0 (c .before .if1 .left))))
+    let there : none (withSession session (s .accesses)) ≡ eqb (c .before .before .place-of .result) 0 = none-with (a .row .now) session (start .pre) ∙ ap (λ (k : ℕ). eqb k 0) (sym at) in (
+      λ host route. rw (c .if2 .taken, at) (sym (gateway-yes session route s (there ∙ ne-eqb _ 0 (c .before .if1 .left)))),
+      rw at (fit-place (a .row .now) (start .pre) session (λ z. c .before .if1 .left (at ∙ z))),
+    )
 
 -- src/deciding.rt:72:1
 returns-3 : tie.Need-returns-3
-unfolding planned
+unfolding planned fitPlan
 returns-3 c =
     let start = c .before .before .before .before .before in
     let a = start .args in
     let s = readRow (a .row .now) in
     let session = a .session .now in
     let at : c .before .before .place-of .result ≡ placeOf (withSession session (s .accesses)) = c .before .before .place-of .ensures .0 in
-    let there : none (withSession session (s .accesses)) ≡ eqb (c .before .before .place-of .result) 0 = none-with (a .row .now) session (start .pre) ∙ ap (λ (k : ℕ). eqb k 0) (sym at) in
-    λ host route. rw (c .if2 .left) (sym (gateway-no session route s (there ∙ ne-eqb _ 0 (c .before .if1 .left))))
+    let there : none (withSession session (s .accesses)) ≡ eqb (c .before .before .place-of .result) 0 = none-with (a .row .now) session (start .pre) ∙ ap (λ (k : ℕ). eqb k 0) (sym at) in (
+      λ host route. rw (c .if2 .left) (sym (gateway-no session route s (there ∙ ne-eqb _ 0 (c .before .if1 .left)))),
+      refl,
+    )
 
 pub plan-policy-spec : {M : Type 1} → statement M
 plan-policy-spec = tie.close (tie.spec place-of-requires returns returns-2 returns-3)

@@ -1,3 +1,4 @@
+use Rattle.decision.specs.Plans.{fitPlan}
 use mathlib.Core.Bool.{true, false}
 use lib.Dec.{eqb}
 use borrow.Author.Tests.{eq-eqb, ne-eqb}
@@ -6,7 +7,7 @@ use Rattle.table.specs.Soundness.{onEntry}
 use Rattle.decision.specs.Deciding.{none, withSession, placeOf, entryNamed}
 use Rattle.decision.specs.Plans.{planned}
 use Rattle.decision.proofs.Found.{none-ended}
-use Rattle.decision.proofs.Verdicts.{not-used, is-ended}
+use Rattle.decision.proofs.Verdicts.{not-used, is-ended, fit-ended}
 use mathlib.Core.Path.{_≡_, refl, sym, ap, _∙_}
 use mathlib.Core.List.{List, [], _∷_, _++_}
 use Prim.Native.Nat.{ℕ, suc, _+_, _-_, _*_, _/_, _%_, _^_, _<_, _≤_}
@@ -31,7 +32,7 @@ place-on-requires c κs = search needs
 
 -- src/deciding.rt:108:9
 returns : tie.Need-returns
-unfolding planned
+unfolding planned fitPlan
 returns c =
     let start = c .before .before .before .before .before .before in
     let a = start .args in
@@ -41,12 +42,14 @@ returns c =
     let at : c .before .place-on .result ≡ placeOf (withSession session (onEntry (entryNamed label s) (s .accesses))) =
     c .before .place-on .ensures .0 ∙ ap (λ (n : ℕ). placeOf (withSession session (onEntry n (s .accesses)))) (c .before .before .entry-named .ensures .0) in
     let there : none (withSession session (onEntry (entryNamed label s) (s .accesses))) ≡ eqb (c .before .place-on .result) 0 =
-    none-ended (a .row .now) (entryNamed label s) session (start .pre) ∙ ap (λ (k : ℕ). eqb k 0) (sym at) in
-    λ host route. sym (not-used session [] s label (there ∙ eq-eqb _ 0 (c .if1 .taken)))
+    none-ended (a .row .now) (entryNamed label s) session (start .pre) ∙ ap (λ (k : ℕ). eqb k 0) (sym at) in (
+      λ host route. sym (not-used session [] s label (there ∙ eq-eqb _ 0 (c .if1 .taken))),
+      refl,
+    )
 
 -- src/deciding.rt:94:1
 returns-2 : tie.Need-returns-2
-unfolding planned
+unfolding planned fitPlan
 returns-2 c =
     let start = c .before .before .before .before .before .before in
     let a = start .args in
@@ -56,8 +59,10 @@ returns-2 c =
     let at : c .before .place-on .result ≡ placeOf (withSession session (onEntry (entryNamed label s) (s .accesses))) =
     c .before .place-on .ensures .0 ∙ ap (λ (n : ℕ). placeOf (withSession session (onEntry n (s .accesses)))) (c .before .before .entry-named .ensures .0) in
     let there : none (withSession session (onEntry (entryNamed label s) (s .accesses))) ≡ eqb (c .before .place-on .result) 0 =
-    none-ended (a .row .now) (entryNamed label s) session (start .pre) ∙ ap (λ (k : ℕ). eqb k 0) (sym at) in
-    λ host route. rw at (sym (is-ended session [] s label (there ∙ ne-eqb _ 0 (c .if1 .left))))
+    none-ended (a .row .now) (entryNamed label s) session (start .pre) ∙ ap (λ (k : ℕ). eqb k 0) (sym at) in (
+      λ host route. rw at (sym (is-ended session [] s label (there ∙ ne-eqb _ 0 (c .if1 .left)))),
+      rw at (fit-ended (a .row .now) (start .pre) (entryNamed label s) session (λ z. c .if1 .left (at ∙ z))),
+    )
 
 pub plan-termination-spec : {M : Type 1} → statement M
 plan-termination-spec =

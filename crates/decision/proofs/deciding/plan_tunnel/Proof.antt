@@ -1,3 +1,4 @@
+use Rattle.decision.specs.Plans.{fitPlan}
 use mathlib.Core.Bool.{true, false, not, _&&_}
 use lib.Dec.{eqb}
 use borrow.Author.Tests.{eq-eqb, ne-eqb}
@@ -29,15 +30,17 @@ entry-named-requires c κs = search needs
 
 -- src/deciding.rt:56:9
 returns : tie.Need-returns
-unfolding planned
+unfolding planned fitPlan
 returns c =
     let start = c .before .before .before .before .before in
     let a = start .args in
     let s = readRow (a .row .now) in
     let session = a .session .now in
     let label = a .label .now in
-    let named : c .before .entry-named .result ≡ entryNamed label s = c .before .entry-named .ensures .0 in
-    λ host route. sym (not-subscribed session host label (a .visited) s (sym named ∙ c .if1 .taken))
+    let named : c .before .entry-named .result ≡ entryNamed label s = c .before .entry-named .ensures .0 in (
+      λ host route. sym (not-subscribed session host label (a .visited) s (sym named ∙ c .if1 .taken)),
+      refl,
+    )
 
 -- src/deciding.rt:58:9
 flags-of-requires : tie.Need-flags-of-requires
@@ -45,7 +48,7 @@ flags-of-requires c κs = search needs
 
 -- src/deciding.rt:60:9
 returns-2 : tie.Need-returns-2
-unfolding planned
+unfolding planned fitPlan
 returns-2 c =
     let start = c .before .before .before .before .before .before .before in
     let a = start .args in
@@ -54,8 +57,10 @@ returns-2 c =
     let label = a .label .now in
     let named : c .before .before .before .entry-named .result ≡ entryNamed label s = c .before .before .before .entry-named .ensures .0 in
     let entered : entryNamed label s ≡ 0 → ⊥ = λ z. c .before .before .if1 .left (named ∙ z) in
-    let flags : c .before .flags-of .result ≡ (entryAt (entryNamed label s) s) .flags = c .before .flags-of .ensures ∙ ap (λ (n : ℕ). (entryAt n s) .flags) named in
-    λ host route. sym (is-barred session host label (a .visited) s entered (ap (λ (n : ℕ). n % 2) (sym flags) ∙ c .if2 .taken))
+    let flags : c .before .flags-of .result ≡ (entryAt (entryNamed label s) s) .flags = c .before .flags-of .ensures ∙ ap (λ (n : ℕ). (entryAt n s) .flags) named in (
+      λ host route. sym (is-barred session host label (a .visited) s entered (ap (λ (n : ℕ). n % 2) (sym flags) ∙ c .if2 .taken)),
+      refl,
+    )
 
 -- src/deciding.rt:62:8
 roams-unasked-requires : tie.Need-roams-unasked-requires
@@ -63,7 +68,7 @@ roams-unasked-requires c κs = search needs
 
 -- src/deciding.rt:63:9
 returns-3 : tie.Need-returns-3
-unfolding planned mayRoam
+unfolding planned mayRoam fitPlan
 returns-3 c =
     let start = c .before .before .before .before .before .before .before .before .before in
     let a = start .args in
@@ -75,8 +80,10 @@ returns-3 c =
     let flags : c .before .before .before .flags-of .result ≡ (entryAt (entryNamed label s) s) .flags = c .before .before .before .flags-of .ensures ∙ ap (λ (n : ℕ). (entryAt n s) .flags) named in
     let unbarred : (entryAt (entryNamed label s) s) .flags % 2 ≡ 1 → ⊥ = λ z. c .before .before .if2 .left (ap (λ (n : ℕ). n % 2) flags ∙ z) in
     let roams : c .before .roams-unasked .result ≡ a .visited && not (mayRoam (entryAt (entryNamed label s) s)) =
-    c .before .roams-unasked .ensures ∙ ap (λ (n : ℕ). a .visited && not (eqb (n / 2 % 2) 1)) flags in
-    λ host route. sym (no-roaming session host label (a .visited) s entered unbarred (sym roams ∙ c .if3 .taken))
+    c .before .roams-unasked .ensures ∙ ap (λ (n : ℕ). a .visited && not (eqb (n / 2 % 2) 1)) flags in (
+      λ host route. sym (no-roaming session host label (a .visited) s entered unbarred (sym roams ∙ c .if3 .taken)),
+      refl,
+    )
 
 -- src/deciding.rt:65:8
 place-of-requires : tie.Need-place-of-requires
@@ -84,7 +91,7 @@ place-of-requires c κs = search needs
 
 -- src/deciding.rt:66:9
 returns-4 : tie.Need-returns-4
-unfolding planned mayRoam
+unfolding planned mayRoam fitPlan
 returns-4 c =
     let start = c .before .before .before .before .before .before .before .before .before .before .before in
     let a = start .args in
@@ -99,8 +106,10 @@ returns-4 c =
     c .before .before .before .roams-unasked .ensures ∙ ap (λ (n : ℕ). a .visited && not (eqb (n / 2 % 2) 1)) flags in
     let home : a .visited && not (mayRoam (entryAt (entryNamed label s) s)) ≡ false = sym roams ∙ c .before .before .if3 .left in
     let there : none (withSession session (s .accesses)) ≡ eqb (c .before .place-of .result) 0 =
-    none-with (a .row .now) session (start .pre) ∙ ap (λ (k : ℕ). eqb k 0) (sym (c .before .place-of .ensures .0)) in
-    λ host route. sym (is-held session host label (a .visited) s entered unbarred home (there ∙ ne-eqb _ 0 (c .if4 .taken)))
+    none-with (a .row .now) session (start .pre) ∙ ap (λ (k : ℕ). eqb k 0) (sym (c .before .place-of .ensures .0)) in (
+      λ host route. sym (is-held session host label (a .visited) s entered unbarred home (there ∙ ne-eqb _ 0 (c .if4 .taken))),
+      refl,
+    )
 
 -- src/deciding.rt:68:5
 plan-opening-requires : tie.Need-plan-opening-requires
@@ -123,10 +132,12 @@ returns-5 c =
     c .before .before .before .before .roams-unasked .ensures ∙ ap (λ (n : ℕ). a .visited && not (eqb (n / 2 % 2) 1)) flags in
     let home : a .visited && not (mayRoam (entryAt (entryNamed label s) s)) ≡ false = sym roams ∙ c .before .before .before .if3 .left in
     let there : none (withSession session (s .accesses)) ≡ eqb (c .before .before .place-of .result) 0 =
-    none-with (a .row .now) session (start .pre) ∙ ap (λ (k : ℕ). eqb k 0) (sym (c .before .before .place-of .ensures .0)) in
-    λ host route. c .plan-opening .ensures session host route
-    ∙ ap (λ (n : ℕ). Rattle.decision.specs.Deciding.admit n session host s) named
-    ∙ sym (is-admitted session host label (a .visited) s entered unbarred home (there ∙ eq-eqb _ 0 (c .before .if4 .left)))
+    none-with (a .row .now) session (start .pre) ∙ ap (λ (k : ℕ). eqb k 0) (sym (c .before .before .place-of .ensures .0)) in (
+      λ host route. c .plan-opening .ensures .0 session host route
+          ∙ ap (λ (n : ℕ). Rattle.decision.specs.Deciding.admit n session host s) named
+          ∙ sym (is-admitted session host label (a .visited) s entered unbarred home (there ∙ eq-eqb _ 0 (c .before .if4 .left))),
+      c .plan-opening .ensures .1,
+    )
 
 pub plan-tunnel-spec : {M : Type 1} → statement M
 plan-tunnel-spec =

@@ -1,0 +1,299 @@
+//! Single calls in the making: a table with a sound row, and a good request about it.
+
+use crate::drafts::{Draft, DraftAvp};
+use crate::program::{Asked, Operation, Room};
+use crate::random::Random;
+use crate::reading_a_message::{
+    Name, PROXY_INFO, ROUTING_POLICY, SESSION_REQUEST_TYPE, TERMINATION_CAUSE, VISITED_NETWORK,
+    W_APN,
+};
+use crate::rules::DOCUMENT_01;
+use crate::the_table::{Access, Entry, MAY_ROAM, PLACES, ROW, Row, encode};
+
+#[derive(Clone, Copy, Debug, PartialEq, Eq)]
+pub enum Sort {
+    Open,
+    Policy,
+    Termination,
+}
+
+pub const SORTS: [Sort; 3] = [Sort::Open, Sort::Policy, Sort::Termination];
+
+/// One call with all its inputs, each of which can still be spoilt. `row` is the
+/// subscriber's, at `index` in the table.
+pub struct Case {
+    pub sort: Sort,
+    pub row: Row,
+    pub index: usize,
+    pub table: Vec<u8>,
+    pub draft: Draft,
+    pub host: Vec<u8>,
+    pub realm: Vec<u8>,
+    pub wag: bool,
+    pub answer_room: Room,
+    pub notice_room: Room,
+}
+
+impl Case {
+    /// A case that is answered with 2001.
+    pub fn good(sort: Sort, random: &mut Random) -> Case {
+        let name = digits(random);
+        let mut row = sound_row(&name, random);
+        let draft = good_draft(sort, &mut row, random);
+        let index = random.below(2);
+        let mut case = Case {
+            sort,
+            row,
+            index,
+            table: vec![0; ROW * random.from_to(index + 1, 3)],
+            draft,
+            host: text(random, 128),
+            realm: text(random, 128),
+            wag: true,
+            answer_room: Room {
+                length: *random.pick(&[5_120, 5_121, 6_000]),
+                seed: random.byte(),
+            },
+            notice_room: Room {
+                length: *random.pick(&[256, 257, 300]),
+                seed: random.byte(),
+            },
+        };
+        case.write_row();
+        case
+    }
+
+    /// A row with no place free and a new access on an entry whose accesses were all
+    /// opened after those of the other.
+    pub fn full(random: &mut Random) -> Case {
+        let mut case = Case::good(Sort::Open, random);
+        let last = random.from_to(1, 4) as u8;
+        let limits = [8 - last, last];
+        let asked = case.draft.avp(W_APN).map(|avp| avp.value.clone());
+        let labels = [b"other label".to_vec(), asked.unwrap_or_default()];
+        case.row.entries.clear();
+        case.row.line.clear();
+        for (label, limit) in labels.into_iter().zip(limits) {
+            let flags = MAY_ROAM;
+            case.row.entries.push(Entry {
+                label,
+                flags,
+                limit,
+            });
+        }
+        let mut places: Vec<u8> = (1..=PLACES).collect();
+        random.shuffle(&mut places);
+        for (opened, place) in places.into_iter().enumerate() {
+            let entry = if opened < usize::from(limits[0]) {
+                1
+            } else {
+                2
+            };
+            let session = vec![b's', place];
+            case.row.places[usize::from(place) - 1] = Some(access(entry, session, random));
+            case.row.line.push(place);
+        }
+        case.write_row();
+        case
+    }
+
+    /// Puts the row, as it now is, into the table.
+    pub fn write_row(&mut self) {
+        let bytes = encode(&DOCUMENT_01, &self.row);
+        self.row_bytes().copy_from_slice(&bytes);
+    }
+
+    pub fn row_bytes(&mut self) -> &mut [u8] {
+        &mut self.table[self.index * ROW..][..ROW]
+    }
+
+    /// The entry the request is about.
+    pub fn entry(&mut self) -> Option<&mut Entry> {
+        let label = self.draft.avp(W_APN)?.value.clone();
+        self.row.entries.iter_mut().find(|e| e.label == label)
+    }
+
+    pub fn operation(&self) -> Operation {
+        Operation::Handle(Asked {
+            host: self.host.clone(),
+            realm: self.realm.clone(),
+            message: self.draft.bytes(),
+            wag: self.wag,
+            answer_room: self.answer_room,
+            notice_room: self.notice_room,
+        })
+    }
+}
+
+/// A request that the row grants; the row is altered where it would not.
+fn good_draft(sort: Sort, row: &mut Row, random: &mut Random) -> Draft {
+    let gateway = text(random, 128);
+    if row.line.is_empty() {
+        let access = access(1, b"only".to_vec(), random);
+        let place = random.from_to(1, 8);
+        row.places[place - 1] = Some(access);
+        row.line.push(place as u8);
+    }
+    let held = row.access(*random.pick(&row.line)).cloned();
+    let held = held.unwrap_or_else(|| access(1, Vec::new(), random));
+    let label = row.entries[usize::from(held.entry) - 1].label.clone();
+    let mut draft = match sort {
+        Sort::Open => {
+            let entry = random.below(row.entries.len());
+            let entry = &mut row.entries[entry];
+            entry.flags &= MAY_ROAM;
+            let mut session = text(random, 127);
+            session.push(b'+');
+            Draft::open(&row.name, &session, &gateway, &entry.label)
+        }
+        Sort::Policy => Draft::policy(&row.name, &held.session, &gateway, &text(random, 128)),
+        Sort::Termination => Draft::termination(&row.name, &held.session, &gateway, &label),
+    };
+    let roams = sort != Sort::Open || row.entries.iter().all(|e| e.flags & MAY_ROAM != 0);
+    if roams && random.once_in(2) {
+        draft.insert(random.below(9), DraftAvp::new(VISITED_NETWORK, b"mnc010"));
+    }
+    ignored(&mut draft, sort, random);
+    garnish(&mut draft, random);
+    draft
+}
+
+/// AVPs that are known but have no say in this sort of request, for 275 even with
+/// values that its own list would not allow.
+fn ignored(draft: &mut Draft, sort: Sort, random: &mut Random) {
+    if random.once_in(3) {
+        let avp = match sort {
+            Sort::Open => DraftAvp::new(ROUTING_POLICY, &text(random, 128)),
+            Sort::Policy => DraftAvp::new(W_APN, &text(random, 100)),
+            Sort::Termination => DraftAvp::number(SESSION_REQUEST_TYPE, random.below(9) as u32),
+        };
+        draft.insert(random.below(20), avp);
+    }
+    if sort != Sort::Termination && random.once_in(6) {
+        draft.insert(random.below(20), DraftAvp::new(TERMINATION_CAUSE, b"?"));
+    }
+}
+
+/// What must make no difference: flags, padding, identifiers, other AVPs, the order of
+/// the AVPs, and Proxy-Info of any shape.
+pub fn garnish(draft: &mut Draft, random: &mut Random) {
+    draft.flags = *random.pick(&[0x80, 0x90, 0xC0, 0xD0]);
+    draft.identifiers = random.draw().to_be_bytes();
+    for avp in &mut draft.avps {
+        if random.once_in(4) {
+            avp.flags = *random.pick(&[0, 0x20, 0x40, 0x60]);
+        }
+        avp.padding = if random.once_in(2) { random.byte() } else { 0 };
+    }
+    if random.once_in(4) {
+        random.shuffle(&mut draft.avps[1..]);
+    }
+    if draft.command == 275 && random.once_in(2) {
+        draft.application = 0;
+    }
+    while random.once_in(3) {
+        let length = random.below(14);
+        let mut avp = DraftAvp::new(stranger(random), &random.bytes(length));
+        avp.padding = random.byte();
+        avp.flags = *random.pick(&[0, 0x20, 0x40, 0x60]);
+        draft.insert(random.below(20), avp);
+    }
+}
+
+/// A name that is in no list: Proxy-Info, an AVP of no meaning here, or one that has
+/// only the code of a known one.
+fn stranger(random: &mut Random) -> Name {
+    const VENDORS: [Option<u32>; 4] = [None, Some(0), Some(9), Some(10_415)];
+    const CODES: [u32; 18] = [
+        1, 100, 258, 263, 264, 274, 283, 284, 293, 295, 296, 311, 312, 600, 25, 33, 282, 99_999,
+    ];
+    if random.once_in(2) {
+        return PROXY_INFO;
+    }
+    loop {
+        let vendor = *random.pick(&VENDORS);
+        let code = *random.pick(&CODES);
+        let of_3gpp = matches!(code, 100 | 311 | 312 | 600);
+        let plain = matches!(code, 25 | 33 | 282 | 284 | 99_999);
+        let own = if of_3gpp { Some(10_415) } else { None };
+        if plain || vendor != own {
+            return Name { code, vendor };
+        }
+    }
+}
+
+/// A subscriber's name.
+pub fn digits(random: &mut Random) -> Vec<u8> {
+    let length = *random.pick(&[1, 2, 8, 14, 15, 15]);
+    (0..length).map(|_| b'0' + random.below(10) as u8).collect()
+}
+
+/// A text of at least one byte, now and then as long as may be or of odd bytes.
+pub fn text(random: &mut Random, most: usize) -> Vec<u8> {
+    let short = random.from_to(1, 12);
+    let length = *random.pick(&[1, short, short, short, short, most - 1, most]);
+    if random.once_in(12) {
+        return random.bytes(length);
+    }
+    (0..length)
+        .map(|_| *random.pick(b"abcdefghij.;@0123"))
+        .collect()
+}
+
+/// A sound row in any state that limits, places and order line can have.
+pub fn sound_row(name: &[u8], random: &mut Random) -> Row {
+    let mut row = Row {
+        name: name.to_vec(),
+        entries: entries(random),
+        ..Row::default()
+    };
+    let mut places: Vec<u8> = (1..=PLACES).collect();
+    random.shuffle(&mut places);
+    for index in 0..row.entries.len() {
+        let limit = usize::from(row.entries[index].limit);
+        let open = limit - random.below(limit + 1) * random.below(2);
+        for count in 0..open {
+            let mut session = text(random, 120);
+            session.extend([b'-', b'0' + index as u8, b'0' + count as u8]);
+            let place = places.pop().unwrap_or(1);
+            row.places[usize::from(place) - 1] = Some(access(index as u8 + 1, session, random));
+            row.line.push(place);
+        }
+    }
+    random.shuffle(&mut row.line);
+    row
+}
+
+/// One to four entries whose limits fit, half the time with nothing to spare.
+pub fn entries(random: &mut Random) -> Vec<Entry> {
+    let count = random.from_to(1, 4);
+    let all = random.once_in(2);
+    let mut spare = 8 - count;
+    let mut entries: Vec<Entry> = Vec::new();
+    for index in 0..count {
+        let more = if index + 1 == count && all {
+            spare
+        } else {
+            random.below(spare + 1)
+        };
+        spare -= more;
+        let mut label = text(random, 99);
+        label.push(b'A' + index as u8);
+        entries.push(Entry {
+            label,
+            flags: random.below(4) as u8,
+            limit: 1 + more as u8,
+        });
+    }
+    random.shuffle(&mut entries);
+    entries
+}
+
+pub fn access(entry: u8, session: Vec<u8>, random: &mut Random) -> Access {
+    Access {
+        entry,
+        session,
+        host: text(random, 128),
+        policy: random.once_in(2).then(|| text(random, 128)),
+    }
+}

@@ -1,0 +1,300 @@
+//! Scripts as bytes. The README gives the format byte by byte.
+
+use crate::program::{Asked, Operation, Room};
+use crate::script::{Changes, Expected, K1, Record, digest};
+
+pub const MAGIC: &[u8; 8] = b"WMSCRIPT";
+pub const VERSION: u32 = 1;
+
+/// No record is longer, its type and length included.
+pub const LONGEST_RECORD: usize = 65_536;
+/// No table is longer.
+pub const LONGEST_TABLE: usize = 4_723_264;
+
+const HEADER: u8 = 1;
+const SET_TABLE: u8 = 2;
+const PATCH: u8 = 3;
+const CLEAR: u8 = 4;
+const ENTER: u8 = 5;
+const ADD: u8 = 6;
+const HANDLE: u8 = 7;
+const END: u8 = 8;
+
+/// Appends a record: type, length of the rest, body, check.
+fn frame(script: &mut Vec<u8>, kind: u8, body: &[u8]) {
+    let start = script.len();
+    script.push(kind);
+    word(script, body.len() + 4);
+    script.extend(body);
+    let check = digest(K1, &script[start..]);
+    script.extend(check.to_be_bytes());
+}
+
+fn word(to: &mut Vec<u8>, value: usize) {
+    to.extend((value as u32).to_be_bytes());
+}
+
+fn bytes(to: &mut Vec<u8>, value: &[u8]) {
+    word(to, value.len());
+    to.extend(value);
+}
+
+/// A whole script, from header to end.
+pub fn write(records: &[Record]) -> Vec<u8> {
+    let mut script = Vec::new();
+    let mut body = MAGIC.to_vec();
+    body.extend(VERSION.to_be_bytes());
+    word(&mut body, records.len() + 2);
+    frame(&mut script, HEADER, &body);
+    let mut calls = 0;
+    for record in records {
+        calls += usize::from(matches!(record, Record::Call(..)));
+        let (kind, body) = write_record(record);
+        frame(&mut script, kind, &body);
+    }
+    body.clear();
+    word(&mut body, calls);
+    frame(&mut script, END, &body);
+    script
+}
+
+fn write_record(record: &Record) -> (u8, Vec<u8>) {
+    let mut body = Vec::new();
+    let kind = match record {
+        Record::SetTable(length) => {
+            word(&mut body, *length as usize);
+            SET_TABLE
+        }
+        Record::Patch { offset, bytes: new } => {
+            word(&mut body, *offset as usize);
+            bytes(&mut body, new);
+            PATCH
+        }
+        Record::Call(operation, expected) => {
+            let kind = write_operation(&mut body, operation);
+            write_expected(&mut body, expected);
+            kind
+        }
+    };
+    (kind, body)
+}
+
+fn write_operation(body: &mut Vec<u8>, operation: &Operation) -> u8 {
+    match operation {
+        Operation::Clear => CLEAR,
+        Operation::Enter { name } => {
+            bytes(body, name);
+            ENTER
+        }
+        Operation::Add {
+            name,
+            label,
+            limit,
+            flags,
+        } => {
+            bytes(body, name);
+            bytes(body, label);
+            body.extend([*limit, *flags]);
+            ADD
+        }
+        Operation::Handle(asked) => {
+            bytes(body, &asked.host);
+            bytes(body, &asked.realm);
+            bytes(body, &asked.message);
+            body.push(u8::from(asked.wag));
+            for room in [asked.answer_room, asked.notice_room] {
+                word(body, room.length as usize);
+                body.push(room.seed);
+            }
+            HANDLE
+        }
+    }
+}
+
+fn write_expected(body: &mut Vec<u8>, expected: &Expected) {
+    for number in expected.numbers {
+        word(body, number as usize);
+    }
+    bytes(body, &expected.answer);
+    bytes(body, &expected.notice);
+    match &expected.changes {
+        Changes::AllZero => {
+            body.push(1);
+            word(body, 0);
+        }
+        Changes::Runs(runs) => {
+            body.push(0);
+            word(body, runs.len());
+            for (offset, new) in runs {
+                word(body, *offset as usize);
+                bytes(body, new);
+            }
+        }
+    }
+    body.push(u8::from(expected.digests.is_some()));
+    for half in expected.digests.unwrap_or_default() {
+        word(body, half as usize);
+    }
+}
+
+/// What is wrong with a script that is cut short or damaged.
+pub type Defect = &'static str;
+
+/// Takes fields off the front of a record's body.
+struct Fields<'a>(&'a [u8]);
+
+impl<'a> Fields<'a> {
+    fn take(&mut self, count: usize) -> Result<&'a [u8], Defect> {
+        let short = "a record's fields do not fill it";
+        let (taken, rest) = self.0.split_at_checked(count).ok_or(short)?;
+        self.0 = rest;
+        Ok(taken)
+    }
+
+    fn byte(&mut self) -> Result<u8, Defect> {
+        Ok(self.take(1)?[0])
+    }
+
+    fn word(&mut self) -> Result<u32, Defect> {
+        let bytes = self.take(4)?;
+        Ok(u32::from_be_bytes([bytes[0], bytes[1], bytes[2], bytes[3]]))
+    }
+
+    fn bytes(&mut self) -> Result<Vec<u8>, Defect> {
+        let length = self.word()? as usize;
+        Ok(self.take(length)?.to_vec())
+    }
+
+    fn room(&mut self) -> Result<Room, Defect> {
+        let length = self.word()?;
+        let seed = self.byte()?;
+        Ok(Room { length, seed })
+    }
+
+    fn done(&self) -> Result<(), Defect> {
+        let long = "a record's fields do not fill it";
+        if self.0.is_empty() { Ok(()) } else { Err(long) }
+    }
+}
+
+/// Splits one record off the script: its type and body, the check being right.
+fn unframe<'a>(script: &mut &'a [u8]) -> Result<(u8, Fields<'a>), Defect> {
+    let cut_short = "the script is cut short";
+    let (head, rest) = script.split_at_checked(5).ok_or(cut_short)?;
+    let length = u32::from_be_bytes([head[1], head[2], head[3], head[4]]) as usize;
+    if !(4..=LONGEST_RECORD - 5).contains(&length) {
+        return Err("a record's length is out of bounds");
+    }
+    let (body, after) = rest.split_at_checked(length).ok_or(cut_short)?;
+    let (body, check) = body.split_at(length - 4);
+    if digest(K1, head.iter().chain(body)).to_be_bytes() != check {
+        return Err("a record's check is wrong");
+    }
+    *script = after;
+    Ok((head[0], Fields(body)))
+}
+
+/// Reads a whole script. Nothing of it is returned unless all of it is in order.
+pub fn read(mut script: &[u8]) -> Result<Vec<Record>, Defect> {
+    let announced = read_header(&mut script)?;
+    let mut records = Vec::new();
+    let mut calls = 0;
+    loop {
+        let (kind, mut fields) = unframe(&mut script)?;
+        if kind == END {
+            let counted = fields.word()? == calls && announced as usize == records.len() + 2;
+            fields.done()?;
+            if !counted {
+                return Err("a count is wrong");
+            }
+            let nothing_after = script.is_empty();
+            return nothing_after
+                .then_some(records)
+                .ok_or("bytes after the end");
+        }
+        let record = read_record(kind, &mut fields)?;
+        fields.done()?;
+        calls += u32::from(matches!(record, Record::Call(..)));
+        records.push(record);
+    }
+}
+
+fn read_header(script: &mut &[u8]) -> Result<u32, Defect> {
+    let (kind, mut fields) = unframe(script)?;
+    if kind != HEADER || fields.take(8)? != MAGIC || fields.word()? != VERSION {
+        return Err("this is no script of this version");
+    }
+    let announced = fields.word()?;
+    fields.done()?;
+    Ok(announced)
+}
+
+fn read_record(kind: u8, fields: &mut Fields) -> Result<Record, Defect> {
+    let operation = match kind {
+        SET_TABLE => {
+            let length = fields.word()?;
+            let fits = length as usize <= LONGEST_TABLE;
+            return fits
+                .then_some(Record::SetTable(length))
+                .ok_or("a table too long");
+        }
+        PATCH => {
+            return Ok(Record::Patch {
+                offset: fields.word()?,
+                bytes: fields.bytes()?,
+            });
+        }
+        CLEAR => Operation::Clear,
+        ENTER => Operation::Enter {
+            name: fields.bytes()?,
+        },
+        ADD => Operation::Add {
+            name: fields.bytes()?,
+            label: fields.bytes()?,
+            limit: fields.byte()?,
+            flags: fields.byte()?,
+        },
+        HANDLE => Operation::Handle(read_asked(fields)?),
+        _ => return Err("a record of no known type"),
+    };
+    Ok(Record::Call(operation, read_expected(fields)?))
+}
+
+fn read_asked(fields: &mut Fields) -> Result<Asked, Defect> {
+    let asked = Asked {
+        host: fields.bytes()?,
+        realm: fields.bytes()?,
+        message: fields.bytes()?,
+        wag: fields.byte()? == 1,
+        answer_room: fields.room()?,
+        notice_room: fields.room()?,
+    };
+    let fit = asked.answer_room.length <= 8_192 && asked.notice_room.length <= 1_024;
+    fit.then_some(asked).ok_or("a room too long")
+}
+
+fn read_expected(fields: &mut Fields) -> Result<Expected, Defect> {
+    let mut numbers = [0; 7];
+    for number in &mut numbers {
+        *number = fields.word()?;
+    }
+    let (answer, notice) = (fields.bytes()?, fields.bytes()?);
+    let all_zero = fields.byte()? == 1;
+    let mut runs = Vec::new();
+    for _ in 0..fields.word()? {
+        runs.push((fields.word()?, fields.bytes()?));
+    }
+    let given = fields.byte()? == 1;
+    let digests = [fields.word()?, fields.word()?];
+    Ok(Expected {
+        numbers,
+        answer,
+        notice,
+        changes: if all_zero {
+            Changes::AllZero
+        } else {
+            Changes::Runs(runs)
+        },
+        digests: given.then_some(digests),
+    })
+}

@@ -1,0 +1,124 @@
+//! Handling one request: the calls that get no Diameter answer, then reading,
+//! deciding and writing in this order.
+
+use crate::deciding::{Decision, decide};
+use crate::reading_a_message::{Avp, Header, REQUEST, Request, header, walk};
+use crate::rules::Rules;
+use crate::the_table::put;
+use crate::writing_the_answer::{Reached, Reply, answer};
+use crate::{Code, Outcome};
+
+/// One call's inputs. Table and rooms hold its results afterwards.
+pub struct Call<'a> {
+    pub table: &'a mut [u8],
+    pub host: &'a [u8],
+    pub realm: &'a [u8],
+    pub message: &'a [u8],
+    pub wag: bool,
+    pub answer_room: &'a mut [u8],
+    pub notice_room: &'a mut [u8],
+}
+
+/// Numbers 1 to 8, in this order; 0 for a call that gets an answer.
+pub fn no_answer(rules: &Rules, call: &Call) -> u16 {
+    let fits = |name: &[u8]| (1..=128).contains(&name.len());
+    if !(rules.table_fits)(call.table) {
+        return 1;
+    }
+    if !fits(call.host) || !fits(call.realm) {
+        return 2;
+    }
+    if call.answer_room.len() < 5_120 {
+        return 3;
+    }
+    if call.notice_room.len() < 256 {
+        return 4;
+    }
+    message_number(call.message)
+}
+
+/// Numbers 5 to 8, on the message alone.
+fn message_number(message: &[u8]) -> u16 {
+    let Some(header) = header(message) else {
+        return 5;
+    };
+    let length = message.len();
+    if length > 4_096 {
+        5
+    } else if header.version != 1 {
+        6
+    } else if header.length as usize != length || !length.is_multiple_of(4) {
+        7
+    } else if header.flags & REQUEST == 0 {
+        8
+    } else {
+        0
+    }
+}
+
+/// What was read of a message: how far it came, its AVPs once the whole walk passed,
+/// and its request or the code of the first test that failed.
+struct Read<'m> {
+    reached: Reached,
+    avps: Vec<Avp<'m>>,
+    request: Result<Request<'m>, Code>,
+}
+
+fn read<'m>(rules: &Rules, header: &Header, message: &'m [u8]) -> Read<'m> {
+    let failed = |reached, code| Read {
+        reached,
+        avps: Vec::new(),
+        request: Err(code),
+    };
+    if let Err(code) = (rules.header_tests)(header) {
+        return failed(Reached::Header, code);
+    }
+    let avps = match walk(rules, message) {
+        Ok(avps) => avps,
+        Err(code) => return failed(Reached::Walk, code),
+    };
+    let request = (rules.read_list)(rules, header.command, &avps);
+    let passed = request.is_ok();
+    Read {
+        reached: if passed {
+            Reached::Decision
+        } else {
+            Reached::List
+        },
+        avps,
+        request,
+    }
+}
+
+pub fn handle(rules: &Rules, call: Call) -> Outcome {
+    let number = (rules.no_answer)(rules, &call);
+    let Some(header) = header(call.message).filter(|_| number == 0) else {
+        return Outcome::no_answer(number);
+    };
+    let read = read(rules, &header, call.message);
+    let decision = match &read.request {
+        Ok(request) => decide(rules, call.table, request, call.wag),
+        Err(code) => Decision::refused(*code),
+    };
+    let reply = Reply {
+        message: call.message,
+        header,
+        reached: read.reached,
+        avps: &read.avps,
+        request: &read.request.unwrap_or_default(),
+        code: decision.code,
+        host: call.host,
+        realm: call.realm,
+    };
+    let bytes = answer(rules, &reply);
+    put(call.answer_room, 0, &bytes);
+    if let Some(cut) = &decision.cut {
+        (rules.notice)(call.notice_room, cut);
+    }
+    Outcome {
+        code: decision.code,
+        length: bytes.len(),
+        place: decision.place,
+        cut: decision.cut.map(|cut| (cut.session.len(), cut.host.len())),
+    }
+}

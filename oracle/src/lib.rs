@@ -1,0 +1,84 @@
+//! A second reading of document 01: the Wm side of a tunnel access server, written
+//! to be held beside the paper and compared with another program call by call.
+//!
+//! The first modules bear the names of the paper's headings; the others make calls
+//! and write them down as a script.
+
+pub mod deciding;
+pub mod handling;
+pub mod reading_a_message;
+pub mod rules;
+pub mod set_up;
+pub mod the_table;
+pub mod writing_the_answer;
+
+pub mod cases;
+pub mod damages;
+pub mod drafts;
+pub mod faults;
+pub mod framing;
+pub mod generator;
+pub mod program;
+pub mod random;
+pub mod recorder;
+pub mod report;
+pub mod script;
+pub mod sequences;
+
+/// The code of an outcome and its kind.
+#[derive(Clone, Copy, Debug, PartialEq, Eq)]
+pub enum Code {
+    /// A number from 1 to 8: no Diameter answer was written.
+    NoAnswer(u16),
+    /// A Result-Code.
+    Plain(u16),
+    /// An Experimental-Result of 3GPP.
+    Experimental(u16),
+}
+
+pub const fn plain(number: u16) -> Code {
+    Code::Plain(number)
+}
+
+pub const fn experimental(number: u16) -> Code {
+    Code::Experimental(number)
+}
+
+pub const SUCCESS: Code = plain(2001);
+
+impl Code {
+    pub fn number(self) -> u16 {
+        let (Code::NoAnswer(n) | Code::Plain(n) | Code::Experimental(n)) = self;
+        n
+    }
+
+    /// 0 no answer, 1 Result-Code, 2 Experimental-Result.
+    pub fn kind(self) -> u8 {
+        match self {
+            Code::NoAnswer(_) => 0,
+            Code::Plain(_) => 1,
+            Code::Experimental(_) => 2,
+        }
+    }
+}
+
+/// What handling a request returns. `cut` holds the lengths of the cut access's
+/// Session-Id and gateway host.
+#[derive(Clone, Copy, Debug, PartialEq, Eq)]
+pub struct Outcome {
+    pub code: Code,
+    pub length: usize,
+    pub place: u8,
+    pub cut: Option<(usize, usize)>,
+}
+
+impl Outcome {
+    pub fn no_answer(number: u16) -> Outcome {
+        Outcome {
+            code: Code::NoAnswer(number),
+            length: 0,
+            place: 0,
+            cut: None,
+        }
+    }
+}

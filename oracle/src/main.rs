@@ -1,0 +1,97 @@
+//! The command: writes scripts and checks them.
+
+use std::fs;
+use std::io::{self, Write};
+use std::process::ExitCode;
+
+use oracle::framing::{read, write};
+use oracle::generator::generate;
+use oracle::rules::DOCUMENT_01;
+use oracle::script::{Record, judge};
+
+const USAGE: &str = "usage: oracle script [--seed N] [--calls M] [--out FILE] | oracle check FILE";
+
+/// From this size on, a script in which something never comes up is a failure.
+const FULL_SIZE: usize = 5_000;
+
+fn main() -> ExitCode {
+    let arguments: Vec<String> = std::env::args().skip(1).collect();
+    let words: Vec<&str> = arguments.iter().map(String::as_str).collect();
+    let done = match words.as_slice() {
+        ["script", options @ ..] => Options::read(options).map(|o| script(&o)),
+        ["check", file] => Ok(check(file)),
+        _ => Err(USAGE.to_string()),
+    };
+    match done {
+        Ok(Ok(())) => ExitCode::SUCCESS,
+        Ok(Err(line)) => {
+            eprintln!("oracle: {line}");
+            ExitCode::FAILURE
+        }
+        Err(line) => {
+            eprintln!("oracle: {line}");
+            ExitCode::from(2)
+        }
+    }
+}
+
+struct Options {
+    seed: u64,
+    calls: usize,
+    out: Option<String>,
+}
+
+impl Options {
+    fn read(words: &[&str]) -> Result<Options, String> {
+        let mut options = Options {
+            seed: 1,
+            calls: 5_000,
+            out: None,
+        };
+        for pair in words.chunks(2) {
+            let &[option, value] = pair else {
+                return Err(USAGE.to_string());
+            };
+            let no_number = |_| format!("{option} takes a number, not {value}");
+            match option {
+                "--seed" => options.seed = value.parse().map_err(no_number)?,
+                "--calls" => options.calls = value.parse().map_err(no_number)?,
+                "--out" => options.out = Some(value.to_string()),
+                _ => return Err(USAGE.to_string()),
+            }
+        }
+        Ok(options)
+    }
+}
+
+fn script(options: &Options) -> Result<(), String> {
+    let recorder = generate(options.seed, options.calls);
+    let bytes = write(&recorder.records);
+    let written = match &options.out {
+        Some(file) => fs::write(file, &bytes),
+        None => io::stdout().write_all(&bytes),
+    };
+    written.map_err(|error| format!("the script can not be written: {error}"))?;
+    eprint!("{}", recorder.report);
+    let missing = recorder.report.missing();
+    if options.calls >= FULL_SIZE && !missing.is_empty() {
+        return Err(format!("never came up: {}", missing.join(", ")));
+    }
+    Ok(())
+}
+
+/// Reads a script and performs it with the oracle.
+fn check(file: &str) -> Result<(), String> {
+    let bytes = fs::read(file).map_err(|error| format!("{file}: {error}"))?;
+    let records = read(&bytes).map_err(|fault| format!("{file}: {fault}"))?;
+    let mut table = Vec::new();
+    let mut calls = 0;
+    for (place, record) in records.iter().enumerate() {
+        let judged = judge(&mut DOCUMENT_01.clone(), record, &mut table);
+        let differs = |what| format!("{file}: record {}: differs in {what}", place + 2);
+        judged.map_err(differs)?;
+        calls += usize::from(matches!(record, Record::Call(..)));
+    }
+    eprintln!("{calls} calls, all as expected");
+    Ok(())
+}

@@ -1,0 +1,159 @@
+//! How often each number, code, place and kind of cut came up in a script.
+
+use std::collections::BTreeMap;
+use std::fmt;
+
+use crate::program::{Operation, Seen};
+use crate::reading_a_message::{
+    AA, HEADER, SESSION_REQUEST_TYPE, TERMINATION, USER_NAME, header, is, number, walk_tests,
+};
+use crate::the_table::{Row, decode, find, row_at};
+
+#[derive(Clone, Debug, Default)]
+pub struct Report {
+    counts: BTreeMap<String, usize>,
+}
+
+/// The codes that each sort of request can be given; E marks Experimental-Results.
+const WANTED: [(&str, &str); 4] = [
+    (
+        "265 type 0",
+        "2001 3007 3008 3009 5003 5004 5005 5009 5012 5013 5014 E5001 E5004 E5044",
+    ),
+    (
+        "265 type 1",
+        "2001 3007 3008 3009 5004 5005 5009 5012 5013 5014 E5001",
+    ),
+    (
+        "275",
+        "2001 3007 3008 3009 5004 5005 5009 5012 5013 5014 E5001 E5042",
+    ),
+    ("other command", "3001 3008 5013"),
+];
+
+/// The numbers of the four operations, apart from the codes above.
+const NUMBERS: [(&str, &[u32]); 4] = [
+    ("clear", &[0, 1]),
+    ("enter", &[0, 1, 9, 10, 11]),
+    ("add", &[0, 1, 12, 13, 14, 15, 16, 17]),
+    ("handle", &[1, 2, 3, 4, 5, 6, 7, 8]),
+];
+
+/// Everything that has to come up at least once.
+fn wanted() -> Vec<String> {
+    let mut all = Vec::new();
+    for (operation, numbers) in NUMBERS {
+        all.extend(numbers.iter().map(|n| number_key(operation, *n)));
+    }
+    for (sort, codes) in WANTED {
+        all.extend(codes.split(' ').map(|code| format!("{sort}: {code}")));
+    }
+    all.extend((1..=8).map(|place| format!("place {place}")));
+    all.extend((1..=8).map(|place| format!("cut from line position {place}")));
+    all.extend((1..=4).map(|entry| format!("cut of entry {entry}")));
+    all.extend([RETAKEN.to_string(), LOWER.to_string()]);
+    all
+}
+
+const RETAKEN: &str = "cut, the freed place taken again";
+const LOWER: &str = "cut, a lower place taken";
+
+fn number_key(operation: &str, number: u32) -> String {
+    format!("{operation}: number {number}")
+}
+
+impl Report {
+    fn add(&mut self, key: String) {
+        *self.counts.entry(key).or_default() += 1;
+    }
+
+    /// Counts one call, from the table before it and what came of it.
+    pub fn count(&mut self, operation: &Operation, table: &[u8], seen: &Seen) {
+        let code = seen.numbers[0];
+        let key = match operation {
+            Operation::Clear => number_key("clear", code),
+            Operation::Enter { .. } => number_key("enter", code),
+            Operation::Add { .. } => number_key("add", code),
+            Operation::Handle(_) if seen.numbers[1] == 0 => number_key("handle", code),
+            Operation::Handle(asked) => {
+                self.count_place(&asked.message, table, seen);
+                let mark = if seen.numbers[1] == 2 { "E" } else { "" };
+                format!("{}: {mark}{code}", sort(&asked.message))
+            }
+        };
+        self.add(key);
+    }
+
+    fn count_place(&mut self, message: &[u8], table: &[u8], seen: &Seen) {
+        let place = seen.numbers[3];
+        if place == 0 {
+            return;
+        }
+        self.add(format!("place {place}"));
+        if let (1, Some(row)) = (seen.numbers[4], row_of(message, table)) {
+            self.count_cut(&row, seen);
+        }
+    }
+
+    /// The cut access is the one whose Session-Id stands in the notice.
+    fn count_cut(&mut self, row: &Row, seen: &Seen) {
+        let session = &seen.notice_room[..seen.numbers[5] as usize];
+        let Some(freed) = row.place_of(session) else {
+            return;
+        };
+        let position = row.line.iter().position(|&p| p == freed);
+        let entry = row.access(freed).map_or(0, |access| access.entry);
+        let position = position.map_or(0, |p| p + 1);
+        self.add(format!("cut from line position {position}"));
+        self.add(format!("cut of entry {entry}"));
+        let again = u32::from(freed) == seen.numbers[3];
+        self.add(if again { RETAKEN } else { LOWER }.to_string());
+    }
+
+    /// What never came up though it should.
+    pub fn missing(&self) -> Vec<String> {
+        let absent = |key: &String| !self.counts.contains_key(key);
+        wanted().into_iter().filter(absent).collect()
+    }
+}
+
+impl fmt::Display for Report {
+    fn fmt(&self, f: &mut fmt::Formatter) -> fmt::Result {
+        for (key, count) in &self.counts {
+            writeln!(f, "{count:>8}  {key}")?;
+        }
+        for key in self.missing() {
+            writeln!(f, "   never  {key}")?;
+        }
+        Ok(())
+    }
+}
+
+/// The AVPs that can be read before one fails, by name and value.
+fn readable(message: &[u8], name: crate::reading_a_message::Name) -> Option<&[u8]> {
+    let mut rest = message.get(HEADER..)?;
+    while let Ok(avp) = walk_tests(rest) {
+        if is(&avp, name) {
+            return Some(avp.value);
+        }
+        rest = &rest[avp.whole.len()..];
+    }
+    None
+}
+
+/// The sort of request, by what can be read of it.
+fn sort(message: &[u8]) -> &'static str {
+    let session_type = readable(message, SESSION_REQUEST_TYPE).map(number);
+    match (header(message).map(|h| h.command), session_type) {
+        (Some(AA), Some(0)) => "265 type 0",
+        (Some(AA), Some(1)) => "265 type 1",
+        (Some(AA), _) => "265 of no type",
+        (Some(TERMINATION), _) => "275",
+        _ => "other command",
+    }
+}
+
+fn row_of(message: &[u8], table: &[u8]) -> Option<Row> {
+    let index = find(table, readable(message, USER_NAME)?)?;
+    decode(row_at(table, index))
+}

@@ -1,0 +1,166 @@
+//! Scripts: operations with all their inputs and, beside them, what has to come of
+//! them; how they are recorded and how a program is judged by them.
+
+use crate::program::{Operation, Program, Room, Seen, perform};
+use crate::the_table::ROW;
+
+/// A patch brings at most so many bytes.
+pub const LONGEST_PATCH: usize = 32_768;
+/// Up to this many bytes of table, every call has the table's digests.
+pub const SMALL_TABLE: usize = 16 * ROW;
+
+const PRIME: u64 = 2_147_483_647;
+pub const K1: u64 = 1_103_515_245;
+pub const K2: u64 = 1_664_525;
+
+/// h = (h * K + byte + 1) mod 2,147,483,647, from h = 0.
+pub fn digest<'a>(k: u64, bytes: impl IntoIterator<Item = &'a u8>) -> u32 {
+    let all = bytes.into_iter();
+    (all.fold(0, |h, &byte| step(k, h, byte)) % PRIME) as u32
+}
+
+/// One step of a digest. The prime being one less than a power of two, high bits count
+/// like low ones and are added to them, which is quicker than dividing; what is left
+/// is below 2^32, and is brought below the prime at the end.
+fn step(k: u64, h: u64, byte: u8) -> u64 {
+    let fold = |x: u64| (x & PRIME) + (x >> 31);
+    fold(fold(h * k + u64::from(byte) + 1))
+}
+
+/// Both digests in one pass.
+pub fn digests(table: &[u8]) -> [u32; 2] {
+    let both = |[a, b]: [u64; 2], &byte: &u8| [step(K1, a, byte), step(K2, b, byte)];
+    table.iter().fold([0, 0], both).map(|h| (h % PRIME) as u32)
+}
+
+/// How the table stands after a call.
+#[derive(Clone, Debug, PartialEq, Eq)]
+pub enum Changes {
+    /// Every byte is zero.
+    AllZero,
+    /// These bytes stand at these offsets; elsewhere nothing changed.
+    Runs(Vec<(u32, Vec<u8>)>),
+}
+
+#[derive(Clone, Debug, PartialEq, Eq)]
+pub struct Expected {
+    pub numbers: [u32; 7],
+    pub answer: Vec<u8>,
+    pub notice: Vec<u8>,
+    pub changes: Changes,
+    pub digests: Option<[u32; 2]>,
+}
+
+#[derive(Clone, Debug, PartialEq, Eq)]
+pub enum Record {
+    /// The table has this length now, and is all zero.
+    SetTable(u32),
+    Patch {
+        offset: u32,
+        bytes: Vec<u8>,
+    },
+    Call(Operation, Expected),
+}
+
+/// The stretches in which two tables of one length differ. Stretches with little
+/// between them are taken as one.
+pub fn runs(old: &[u8], new: &[u8]) -> Vec<(u32, Vec<u8>)> {
+    let mut found: Vec<(usize, usize)> = Vec::new();
+    for (row, (was, is)) in old.chunks(ROW).zip(new.chunks(ROW)).enumerate() {
+        if was == is {
+            continue;
+        }
+        for at in (0..was.len()).filter(|&i| was[i] != is[i]) {
+            let at = row * ROW + at;
+            match found.last_mut() {
+                Some((start, end)) if at - *end < 9 && at - *start < LONGEST_PATCH => *end = at + 1,
+                _ => found.push((at, at + 1)),
+            }
+        }
+    }
+    let bytes = |(start, end): (usize, usize)| (start as u32, new[start..end].to_vec());
+    found.into_iter().map(bytes).collect()
+}
+
+/// What a call has to give, from what the oracle gave.
+pub fn expect(operation: &Operation, seen: &Seen, old: &[u8], new: &[u8], mark: bool) -> Expected {
+    let length = seen.numbers[2] as usize;
+    let noticed = if seen.numbers[4] == 1 { 256 } else { 0 };
+    let cleared = *operation == Operation::Clear && seen.numbers[0] == 0;
+    Expected {
+        numbers: seen.numbers,
+        answer: seen.answer_room[..length].to_vec(),
+        notice: seen.notice_room[..noticed].to_vec(),
+        changes: if cleared {
+            Changes::AllZero
+        } else {
+            Changes::Runs(runs(old, new))
+        },
+        digests: (mark || new.len() <= SMALL_TABLE).then(|| digests(new)),
+    }
+}
+
+/// Applies a record to a table; a call is performed by the program and its results
+/// are held against the expected ones. The error says what differs.
+pub fn judge(
+    program: &mut dyn Program,
+    record: &Record,
+    table: &mut Vec<u8>,
+) -> Result<(), &'static str> {
+    match record {
+        Record::SetTable(length) => {
+            table.clear();
+            table.resize(*length as usize, 0);
+            Ok(())
+        }
+        Record::Patch { offset, bytes } => {
+            let end = *offset as usize + bytes.len();
+            let to = table.get_mut(*offset as usize..end);
+            to.ok_or("a patch beyond the table")?.copy_from_slice(bytes);
+            Ok(())
+        }
+        Record::Call(operation, expected) => {
+            let seen = perform(program, operation, table);
+            compare(operation, &seen, expected)?;
+            compare_table(table, expected)
+        }
+    }
+}
+
+fn compare(operation: &Operation, seen: &Seen, expected: &Expected) -> Result<(), &'static str> {
+    if seen.numbers != expected.numbers {
+        return Err("the numbers returned");
+    }
+    if let Operation::Handle(asked) = operation {
+        if !room_holds(asked.answer_room, &seen.answer_room, &expected.answer) {
+            return Err("the answer room");
+        }
+        if !room_holds(asked.notice_room, &seen.notice_room, &expected.notice) {
+            return Err("the notice room");
+        }
+    }
+    Ok(())
+}
+
+/// The front is as expected, the rest as it was before the call.
+fn room_holds(room: Room, now: &[u8], front: &[u8]) -> bool {
+    let rest = now.iter().enumerate().skip(front.len());
+    now.starts_with(front) && rest.fold(true, |same, (i, &byte)| same & (byte == room.fill(i)))
+}
+
+fn compare_table(table: &[u8], expected: &Expected) -> Result<(), &'static str> {
+    let as_expected = match &expected.changes {
+        Changes::AllZero => table.iter().all(|&byte| byte == 0),
+        Changes::Runs(runs) => runs.iter().all(|(offset, bytes)| {
+            let from = table.get(*offset as usize..).unwrap_or_default();
+            from.starts_with(bytes)
+        }),
+    };
+    if !as_expected {
+        return Err("the table's changes");
+    }
+    match expected.digests {
+        Some(wanted) if digests(table) != wanted => Err("the table's digests"),
+        _ => Ok(()),
+    }
+}

@@ -1,0 +1,293 @@
+//! What holds for every call: refusals change nothing, sound rows stay sound, no input
+//! of any size stops the program, and subscribers do not touch each other.
+
+use oracle::drafts::{Draft, DraftAvp};
+use oracle::generator::{add, generate, request};
+use oracle::handling::Call;
+use oracle::program::{Asked, Operation, Room, Seen, perform};
+use oracle::random::Random;
+use oracle::reading_a_message::PROXY_INFO;
+use oracle::rules::DOCUMENT_01;
+use oracle::script::{Changes, Record, judge};
+use oracle::set_up::NewEntry;
+use oracle::the_table::{ROW, find, row_at, sound};
+
+fn run(operation: &Operation, table: &mut [u8]) -> Seen {
+    perform(&mut DOCUMENT_01.clone(), operation, table)
+}
+
+/// Whether a call ended in success: number 0 of a set-up, or 2001.
+fn succeeded(operation: &Operation, seen: &Seen) -> bool {
+    match operation {
+        Operation::Handle(_) => seen.numbers[0] == 2001,
+        _ => seen.numbers[0] == 0,
+    }
+}
+
+/// Goes through generated calls with the table before and after each.
+fn each_call(seed: u64, calls: usize, look: impl Fn(&Operation, &Seen, &[u8], &[u8])) {
+    let mut table = Vec::new();
+    for record in generate(seed, calls).records {
+        match &record {
+            Record::Call(operation, _) => {
+                let before = table.clone();
+                let seen = run(operation, &mut table);
+                look(operation, &seen, &before, &table);
+            }
+            other => judge(&mut DOCUMENT_01.clone(), other, &mut table).unwrap(),
+        }
+    }
+}
+
+#[test]
+fn refusals_change_nothing() {
+    each_call(21, 4_000, |operation, seen, before, after| {
+        if succeeded(operation, seen) {
+            return;
+        }
+        assert!(before == after, "{operation:?}");
+        assert_eq!(seen.numbers[3..], [0; 4]);
+        if let Operation::Handle(asked) = operation {
+            assert!(seen.notice_room == asked.notice_room.fresh());
+            let answer = asked.answer_room.fresh();
+            let length = seen.numbers[2] as usize;
+            assert_eq!(length == 0, seen.numbers[1] == 0);
+            assert!(seen.answer_room[length..] == answer[length..]);
+        }
+    });
+}
+
+#[test]
+fn sound_rows_stay_sound() {
+    each_call(22, 4_000, |operation, _, before, after| {
+        if *operation == Operation::Clear || before.len() > 64 * ROW {
+            return;
+        }
+        for (was, is) in before.chunks_exact(ROW).zip(after.chunks_exact(ROW)) {
+            if was != is {
+                let entered = was.iter().all(|&b| b == 0);
+                assert!(entered || sound(&DOCUMENT_01, was).is_some());
+                assert!(sound(&DOCUMENT_01, is).is_some(), "{operation:?}");
+            }
+        }
+    });
+}
+
+#[test]
+fn only_one_row_changes() {
+    each_call(23, 3_000, |operation, _, before, after| {
+        let rows = before.chunks(ROW).zip(after.chunks(ROW));
+        let changed = rows.filter(|(was, is)| was != is).count();
+        assert!(changed <= 1 || *operation == Operation::Clear);
+    });
+}
+
+const SIZES: [usize; 15] = [
+    0, 1, 7, 8, 19, 20, 21, 24, 128, 129, 255, 256, 4_096, 5_120, 9_000,
+];
+
+/// Names of megabytes, rooms of nothing: number 1 or 2, and nothing changes.
+#[test]
+fn no_size_stops_a_request() {
+    let long = vec![b'7'; 3 << 20];
+    for (size, other) in SIZES.iter().flat_map(|&a| SIZES.map(|b| (a, b))) {
+        let (mut answer_room, mut notice_room) = (vec![1; other], vec![2; size]);
+        let mut table = vec![0xFF; ROW * (size % 3) + other % 2];
+        let call = Call {
+            table: &mut table,
+            host: &long[..size],
+            realm: &long,
+            message: &long[..other],
+            wag: true,
+            answer_room: &mut answer_room,
+            notice_room: &mut notice_room,
+        };
+        let outcome = (DOCUMENT_01.handle)(&DOCUMENT_01, call);
+        assert!([1, 2].contains(&outcome.code.number()));
+        assert_eq!(answer_room, vec![1; other]);
+        assert_eq!(notice_room, vec![2; size]);
+    }
+}
+
+#[test]
+fn no_size_stops_a_set_up() {
+    let rules = &DOCUMENT_01;
+    let long = vec![b'7'; 3 << 20];
+    for size in SIZES {
+        let mut table = vec![0; ROW];
+        let name = &long[..size];
+        let right = if (1..=15).contains(&size) { 0 } else { 9 };
+        assert_eq!((rules.enter)(rules, &mut table, name), right);
+        let label = name;
+        let (limit, flags) = (size as u8, 0);
+        let new = NewEntry {
+            label,
+            limit,
+            flags,
+        };
+        assert_eq!((rules.add)(rules, &mut table, &long, &new), 12);
+        let part = size.min(ROW - 1);
+        assert_eq!((rules.clear)(rules, &mut table[..part]), 1);
+    }
+}
+
+/// The longest answer: all names as long as may be, and the rest of a message of
+/// 4,096 bytes is one Proxy-Info, which comes back although the lists fail.
+#[test]
+fn the_longest_answer_fits() {
+    let mut draft = Draft::open(b"1", &[b's'; 128], b"pdg", b"board");
+    draft.avps.truncate(1);
+    draft
+        .avps
+        .push(DraftAvp::new(PROXY_INFO, &[7; 4_096 - 20 - 136 - 8]));
+    let Operation::Handle(asked) = ask(draft.bytes()) else {
+        return;
+    };
+    let own = vec![b'o'; 128];
+    let (host, realm) = (own.clone(), own);
+    let operation = Operation::Handle(Asked {
+        host,
+        realm,
+        ..asked
+    });
+    let seen = run(&operation, &mut [0; ROW]);
+    let length = 20 + 136 + 24 + 12 + 136 + 136 + (4_096 - 20 - 136);
+    assert_eq!(seen.numbers, [5005, 1, length, 0, 0, 0, 0]);
+    assert_eq!(seen.answer_room[1..4], length.to_be_bytes()[1..]);
+}
+
+/// Random rows and random messages behind a good header: answered, nothing changed.
+#[test]
+fn chance_does_not_stop_the_program() {
+    let mut random = Random::new(24);
+    for _ in 0..3_000 {
+        let length = random.below(60) * 4;
+        let mut message = vec![
+            1, 0, 0, 0, 0x80, 0, 1, 9, 0, 0, 0, 1, 0, 0, 0, 0, 0, 0, 0, 0,
+        ];
+        message.extend(random.bytes(length));
+        let size = (message.len() as u32).to_be_bytes();
+        message[1..4].copy_from_slice(&size[1..]);
+        let mut table = random.bytes(ROW);
+        let before = table.clone();
+        let seen = run(&ask(message), &mut table);
+        assert_eq!(seen.numbers[1], 1);
+        assert!(table == before);
+    }
+}
+
+fn ask(message: Vec<u8>) -> Operation {
+    let seed = 3;
+    Operation::Handle(Asked {
+        host: b"h".to_vec(),
+        realm: b"r".to_vec(),
+        message,
+        wag: true,
+        answer_room: Room {
+            length: 5_120,
+            seed,
+        },
+        notice_room: Room { length: 256, seed },
+    })
+}
+
+// ---- Order between subscribers ----------------------------------------------------
+
+const NAMES: [&[u8]; 3] = [b"001", b"0010", b"999"];
+
+/// A table with three subscribers, each with two W-APNs.
+fn three_subscribers() -> Vec<u8> {
+    let mut table = vec![0; 4 * ROW];
+    for name in NAMES {
+        run(
+            &Operation::Enter {
+                name: name.to_vec(),
+            },
+            &mut table,
+        );
+        run(&add(name, b"board", 2, 2), &mut table);
+        run(&add(name, b"yard", 3, 0), &mut table);
+    }
+    table
+}
+
+/// Requests of one subscriber, some of which can not be read as far as the name.
+fn requests_of(name: &[u8], random: &mut Random) -> Vec<Operation> {
+    let one = |random: &mut Random| {
+        let session = [*random.pick(b"abcdefgh")];
+        let label: &[u8] = if random.once_in(2) { b"board" } else { b"yard" };
+        let mut draft = match random.below(6) {
+            0 => Draft::policy(name, &session, b"pdg", b"permit out 50"),
+            1 => Draft::termination(name, &session, b"pdg", label),
+            _ => Draft::open(name, &session, b"pdg", label),
+        };
+        if random.once_in(10) {
+            draft.flags |= 1 << random.below(6);
+        }
+        if random.once_in(10) {
+            draft.avps.truncate(random.below(10));
+        }
+        request(&draft, random.once_in(2), random)
+    };
+    (0..30).map(|_| one(random)).collect()
+}
+
+/// Handles lists in an order of chance that keeps each list's own order; gives each
+/// list's results, and the table.
+fn mixed(lists: &[Vec<Operation>], random: &mut Random) -> (Vec<Vec<Seen>>, Vec<u8>) {
+    let mut table = three_subscribers();
+    let mut turns: Vec<usize> = Vec::new();
+    for (turn, list) in lists.iter().enumerate() {
+        turns.extend(vec![turn; list.len()]);
+    }
+    random.shuffle(&mut turns);
+    let mut results = vec![Vec::new(); lists.len()];
+    for turn in turns {
+        let next = results[turn].len();
+        let seen = run(&lists[turn][next], &mut table);
+        results[turn].push(seen);
+    }
+    (results, table)
+}
+
+#[test]
+fn order_between_subscribers_does_not_matter() {
+    let mut random = Random::new(25);
+    for _ in 0..12 {
+        let lists: Vec<_> = NAMES
+            .iter()
+            .map(|name| requests_of(name, &mut random))
+            .collect();
+        let first = mixed(&lists, &mut random);
+        for _ in 0..4 {
+            assert!(mixed(&lists, &mut random) == first);
+        }
+        alone(&lists, &first);
+    }
+}
+
+/// Each subscriber's requests alone give the same answers and the same row.
+fn alone(lists: &[Vec<Operation>], (results, table): &(Vec<Vec<Seen>>, Vec<u8>)) {
+    for (turn, name) in NAMES.iter().enumerate() {
+        let mut own = three_subscribers();
+        let seen: Vec<Seen> = lists[turn].iter().map(|o| run(o, &mut own)).collect();
+        assert!(seen == results[turn]);
+        let index = find(table, name).unwrap();
+        assert!(row_at(&own, index) == row_at(table, index));
+    }
+}
+
+/// Calls on tables that are not small are seldom summed up, but always in the end.
+#[test]
+fn every_table_is_summed_up_before_it_goes() {
+    let mut digested = true;
+    for record in generate(26, 6_000).records {
+        match record {
+            Record::SetTable(_) => assert!(std::mem::replace(&mut digested, true)),
+            Record::Patch { .. } => (),
+            Record::Call(_, expected) => {
+                digested = expected.digests.is_some() || expected.changes == Changes::AllZero;
+            }
+        }
+    }
+}

@@ -1,0 +1,125 @@
+//! Wrong programs, each with one rule taken otherwise, and that the generated calls
+//! tell every one of them apart from the right program.
+
+/// Writes a list of wrong programs: a name, and the fields that are exchanged.
+macro_rules! wrong {
+    ($($name:literal: $($field:ident = $value:expr),+;)+) => {
+        vec![$(($name, Rules { $($field: $value,)+ ..RIGHT })),+]
+    };
+}
+
+mod calls;
+mod deciding;
+mod lists;
+mod reading;
+mod table;
+mod writing;
+
+use oracle::generator::generate;
+use oracle::handling::{Call, no_answer};
+use oracle::program::Program;
+use oracle::reading_a_message::{Name, is, walk};
+use oracle::rules::{DOCUMENT_01, Rules};
+use oracle::script::{Record, judge};
+use oracle::set_up::NewEntry;
+use oracle::the_table::CONDITIONS;
+use oracle::{Outcome, SUCCESS};
+
+const RIGHT: Rules = DOCUMENT_01;
+
+/// Returns at which record a program first differs from the right one.
+fn told_apart(program: &mut dyn Program, records: &[Record]) -> Option<usize> {
+    let mut table = Vec::new();
+    let differs = |record: &Record| judge(program, record, &mut table).is_err();
+    records.iter().position(differs)
+}
+
+#[test]
+fn the_right_program_is_not_told_apart() {
+    let records = generate(11, 6_000).records;
+    assert_eq!(told_apart(&mut DOCUMENT_01.clone(), &records), None);
+}
+
+#[test]
+fn every_wrong_program_is_told_apart() {
+    let records = generate(12, 14_000).records;
+    let mut unnoticed: Vec<String> = Vec::new();
+    let mut programs = [
+        calls::programs(),
+        reading::programs(),
+        lists::programs(),
+        lists::programs_of_order(),
+        table::programs(),
+        deciding::programs(),
+        writing::programs(),
+    ]
+    .concat();
+    assert!(programs.len() > 150);
+    for (name, rules) in &mut programs {
+        if told_apart(rules, &records).is_none() {
+            unnoticed.push(name.to_string());
+        }
+    }
+    for left_out in 0..CONDITIONS.len() {
+        if told_apart(&mut without_condition(left_out), &records).is_none() {
+            unnoticed.push(format!("does not test condition {left_out} of a sound row"));
+        }
+    }
+    if told_apart(&mut Echo::default(), &records).is_none() {
+        unnoticed.push("echoes success after the first message".to_string());
+    }
+    assert!(unnoticed.is_empty(), "not told apart: {unnoticed:#?}");
+}
+
+type Wrong = (&'static str, Rules);
+
+/// Handles the first message and answers all others like a success, without change.
+#[derive(Default)]
+struct Echo {
+    handled: bool,
+}
+
+impl Program for Echo {
+    fn clear(&mut self, table: &mut [u8]) -> u8 {
+        RIGHT.clone().clear(table)
+    }
+
+    fn enter(&mut self, table: &mut [u8], name: &[u8]) -> u8 {
+        RIGHT.clone().enter(table, name)
+    }
+
+    fn add(&mut self, table: &mut [u8], name: &[u8], new: &NewEntry) -> u8 {
+        RIGHT.clone().add(table, name, new)
+    }
+
+    fn handle(&mut self, call: Call) -> Outcome {
+        if no_answer(&RIGHT, &call) != 0 || !self.handled {
+            self.handled = true;
+            return RIGHT.clone().handle(call);
+        }
+        let mut copy = call.table.to_vec();
+        let mut outcome = RIGHT.clone().handle(Call {
+            table: &mut copy,
+            ..call
+        });
+        outcome.code = SUCCESS;
+        outcome
+    }
+}
+
+/// A program for which one condition of a sound row does not count.
+fn without_condition(left_out: usize) -> Rules {
+    let mut kept = CONDITIONS.to_vec();
+    kept.remove(left_out);
+    Rules {
+        conditions: kept.leak(),
+        ..RIGHT
+    }
+}
+
+/// The value of an AVP of the message, empty if there is none.
+fn asked_about(message: &[u8], name: Name) -> Vec<u8> {
+    let avps = walk(&RIGHT, message).unwrap_or_default();
+    let found = avps.iter().find(|a| is(a, name));
+    found.map(|a| a.value.to_vec()).unwrap_or_default()
+}
