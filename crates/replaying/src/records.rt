@@ -1,0 +1,67 @@
+// Records as a whole: the check, and those that are no calls. A number is 4 bytes, high byte first.
+use crate::bytes::digest;
+use crate::judging::number;
+use crate::judging::text_end;
+ghost use mathlib.Core.Path.{_≡_};
+ghost use Prim.Native.Nat.{_+_, _-_, _≤_, _<_};
+ghost use lib.Dec.{eqb};
+ghost use lib.ListN.{length, take};
+ghost use Rattle.octets.specs.Numbers.{net32};
+ghost use Rattle.replaying.specs.TheScript.{digestOf};
+
+// What may stand in a number's place.
+pub enum Told {
+    Number(usize),
+    Nothing,
+}
+
+// Whether the check at the end of a whole record is right.
+pub fn is_checked(whole: &[u8]) -> bool
+    requires { ⌜ 4 ≤ length (now whole) ⌝ }
+    ensures { λ r. ⌜ r ≡ eqb (digestOf 1103515245 0 (take (length (now (whole .entry)) - 4) (now (whole .entry)))) (net32 (now (whole .entry)) (length (now (whole .entry)) - 4)) ⌝ }
+{
+    let end = whole.len() - 4;
+    let expected = octets::read32(whole, end) as u64;
+    digest(&whole[0..end], 1103515245) == expected
+}
+
+// The number of records that a HEADER announces.
+pub fn announced(r: &[u8]) -> Told {
+    if r.len() != 16 {
+        return Told::Nothing;
+    }
+    if !octets::same_bytes(&r[0..8], b"WMSCRIPT") {
+        return Told::Nothing;
+    }
+    if number(r, 8) != 1 {
+        return Told::Nothing;
+    }
+    Told::Number(number(r, 12))
+}
+
+// The only number of a SET-TABLE or an END.
+pub fn only_number(r: &[u8]) -> Told {
+    if r.len() != 4 {
+        return Told::Nothing;
+    }
+    Told::Number(number(r, 0))
+}
+
+// A PATCH put into the table; false where its fields do not fill it or it goes past the table's end.
+pub fn is_patched(table: &mut [u8], r: &[u8]) -> bool
+    requires { ⌜ length (now r) ≤ 65536 ⌝ }
+{
+    if r.len() < 8 {
+        return false;
+    }
+    let at = number(r, 0);
+    let e = text_end(r, 4);
+    if r.len() != e {
+        return false;
+    }
+    if table.len() < at + (e - 8) {
+        return false;
+    }
+    octets::put_bytes(table, at, &r[8..e]);
+    true
+}
