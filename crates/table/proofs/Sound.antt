@@ -395,7 +395,7 @@ module _ (r : List ℕ) (c : Clauses r) where
       sym (entries-form (getD (block r 0) 18 0) 4 (part (block r 0) 32 416) (length-part (block r 0) 32 416 (omega arith)) count-of) ∙ c .entries-form
 
   -- a place on the line has an access's form
-  formed-on : (k : ℕ) → within 1 8 k ≡ true → isOn (orderLine r) k ≡ true → Formed (block r k)
+  pub formed-on : (k : ℕ) → within 1 8 k ≡ true → isOn (orderLine r) k ≡ true → Formed (block r k)
   unfolding placeForm pick
   formed-on k w o =
       let u : inUse r k ≡ true = in-use r k (c .bits) w ∙ o in
