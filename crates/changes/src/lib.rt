@@ -1,4 +1,5 @@
 // The changes to a row, and the set-up operations.
+use table::RowFound;
 ghost use mathlib.Core.Path.{_≡_};
 ghost use mathlib.Core.Bool.{true};
 ghost use Prim.Native.Nat.{ℕ, _+_, _-_, _*_, _^_, _≤_, _<_};
@@ -6,9 +7,9 @@ ghost use lib.ListN.{length, take, set};
 ghost use Rattle.octets.specs.Texts.{part};
 ghost use Rattle.octets.specs.Lists.{isOn};
 ghost use Rattle.table.specs.TheTable.{Entry, entryBytes, orderLine, readRow, rowAt, rowBytes, sealed, withRow};
-ghost use Rattle.table.specs.Soundness.{sound};
+ghost use Rattle.table.specs.Soundness.{isName, sound};
 ghost use Rattle.changes.specs.Changes.{freed, lowestFree, opened, routed};
-ghost use Rattle.changes.specs.SetUp.{named, withEntry};
+ghost use Rattle.changes.specs.SetUp.{clear, enter, left, named, withEntry};
 ghost use Rattle.changes.specs.Writes.{closedUp, entriesWith, headWith, openedBytes, policyWith};
 
 // The sums of a block's first 510 bytes, written behind them: the second, then the first.
@@ -211,4 +212,62 @@ pub fn route(table: &mut [u8], i: usize, k: usize, policy: &[u8])
     let a = 4608 * i;
     let e = a + 4608;
     replace_policy(&mut table[a..e], k, policy);
+}
+
+// SET-UP: a number other than 0 leaves the table as it was.
+
+// Every byte zero.
+pub fn clear(table: &mut [u8]) -> u32
+    ensures { λ r. ⌜ left r (now (table .exit)) ≡ clear (now (table .entry)) ⌝ }
+{
+    let n = table::table_number(table);
+    if n != 0 {
+        return n;
+    }
+    octets::clear(table);
+    0
+}
+
+// A name: 1 to 15 digits.
+fn is_name(name: &[u8]) -> bool
+    ensures { λ r. ⌜ r ≡ isName (now (name .entry)) ⌝ }
+{
+    if name.len() < 1 {
+        return false;
+    }
+    if 15 < name.len() {
+        return false;
+    }
+    table::digits(name)
+}
+
+// Row i is that of a new subscriber.
+fn enter_row(table: &mut [u8], i: usize, name: &[u8])
+    requires { ⌜ (4608 * i + 4608 ≤ length (now table)) × (length (now name) ≤ 15) ⌝ }
+    ensures { λ _. ⌜ now (table .exit) ≡ withRow (now (table .entry)) i (rowBytes (named (now (name .entry)))) ⌝ }
+{
+    let a = 4608 * i;
+    let e = a + 4608;
+    new_row(&mut table[a..e], name);
+}
+
+// A new subscriber takes the first wholly zero row.
+pub fn enter(table: &mut [u8], name: &[u8]) -> u32
+    ensures { λ r. ⌜ left r (now (table .exit)) ≡ enter (now (table .entry)) (now (name .entry)) ⌝ }
+{
+    let n = table::table_number(table);
+    if n != 0 {
+        return n;
+    }
+    if !is_name(name) {
+        return 9;
+    }
+    let RowFound::Nothing = table::lookup(table, name) else {
+        return 10;
+    };
+    let RowFound::At(i) = table::first_zero_row(table) else {
+        return 11;
+    };
+    enter_row(table, i, name);
+    0
 }
