@@ -4,13 +4,13 @@ use mathlib.Core.Bool.{Bool, true, false, not, _&&_}
 use mathlib.Core.List.{List, [], _∷_, _++_}
 use Prim.Native.Nat.{ℕ, zero, suc, _+_, _-_, _*_, _≤_, _<_}
 use native.Mathlib.Omega.{arith}
-use borrow.Author.Tests.{eq-eqb, ne-eqb, le-leb, lt-leb}
+use borrow.Author.Tests.{eq-eqb, ne-eqb, le-leb, leb-true, lt-leb}
 use lib.Dec.{eqb, leb}
 use lib.ListN.{length}
 use Rattle.octets.specs.Choice.{firstOf, pick, require, within}
 use Rattle.octets.specs.Lists.{every}
 use Rattle.octets.specs.Texts.{allZero, zeros}
-use Rattle.octets.proofs.Lists.{by-test, in-within}
+use Rattle.octets.proofs.Lists.{and-left, and-right, by-test, in-within, within-high, within-low}
 use Rattle.table.specs.Soundness.{isDigit, isName}
 use Rattle.table.specs.TheTable.{Found, firstRow, isFound, lookup, nothing, row, rowBytes, rows, tableNumber, withRow}
 use Rattle.changes.specs.SetUp.{SetUp, clear, enter, enterNumber, leaving, left, named, withRowAt}
@@ -118,3 +118,19 @@ module _ (t name : List ℕ) where
       ap (left 0) e
       ∙ ap (λ (f : Found). left 0 (withRowAt f t (rowBytes (named name)))) (sym z)
       ∙ done (enterNumber t name) t (withRowAt (firstRow allZero (rows t)) t (rowBytes (named name))) n
+
+-- WHAT AN ENTRY IS GIVEN
+
+module _ (size flags limit : ℕ) where
+  pub not-given : (1 ≤ size → size ≤ 100 → flags ≤ 3 → 1 ≤ limit → limit ≤ 8 → ⊥) → false ≡ within 1 100 size && (leb flags 3 && within 1 8 limit)
+  not-given h =
+      by-test (within 1 100 size && (leb flags 3 && within 1 8 limit))
+      (λ e.
+      let a : within 1 100 size ≡ true = and-left (within 1 100 size) _ e in
+      let b : leb flags 3 && within 1 8 limit ≡ true = and-right (within 1 100 size) _ e in
+      let w : within 1 8 limit ≡ true = and-right (leb flags 3) _ b in
+      absurd (h (within-low 1 100 size a) (within-high 1 100 size a) (leb-true flags 3 (and-left (leb flags 3) _ b)) (within-low 1 8 limit w) (within-high 1 8 limit w)))
+      (λ e. sym e)
+
+  pub given-last : 1 ≤ size → size ≤ 100 → flags ≤ 3 → 1 ≤ limit → leb limit 8 ≡ within 1 100 size && (leb flags 3 && within 1 8 limit)
+  given-last a b f l = rw (in-within 1 100 size a b, le-leb flags 3 f) (unfold within in rw (le-leb 1 limit l))

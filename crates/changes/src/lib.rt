@@ -1,13 +1,15 @@
 // The changes to a row, and the set-up operations.
 use table::RowFound;
 ghost use mathlib.Core.Path.{_≡_};
-ghost use mathlib.Core.Bool.{true};
+ghost use mathlib.Core.Bool.{not, true, _&&_};
+ghost use lib.Dec.{leb};
 ghost use Prim.Native.Nat.{ℕ, _+_, _-_, _*_, _^_, _≤_, _<_};
 ghost use lib.ListN.{length, take, set};
 ghost use Rattle.octets.specs.Texts.{part};
-ghost use Rattle.octets.specs.Lists.{isOn};
-ghost use Rattle.table.specs.TheTable.{Entry, entryBytes, orderLine, readRow, rowAt, rowBytes, sealed, withRow};
-ghost use Rattle.table.specs.Soundness.{isName, sound};
+ghost use Rattle.octets.specs.Choice.{within};
+ghost use Rattle.octets.specs.Lists.{every, isOn, sumOf};
+ghost use Rattle.table.specs.TheTable.{Entry, entryBytes, orderLine, readEntries, readRow, rowAt, rowBytes, sealed, withRow};
+ghost use Rattle.table.specs.Soundness.{entriesForm, isName, labels, limits, sameLabel, sound};
 ghost use Rattle.changes.specs.Changes.{freed, lowestFree, opened, routed};
 ghost use Rattle.changes.specs.SetUp.{clear, enter, left, named, withEntry};
 ghost use Rattle.changes.specs.Writes.{closedUp, entriesWith, headWith, openedBytes, policyWith};
@@ -270,4 +272,61 @@ pub fn enter(table: &mut [u8], name: &[u8]) -> u32
     };
     enter_row(table, i, name);
     0
+}
+
+// When two labels are the same.
+pub fn same_label(a: &[u8], b: &[u8]) -> bool
+    ensures { λ r. ⌜ r ≡ sameLabel (now (a .entry)) (now (b .entry)) ⌝ }
+{
+    octets::same_bytes(a, b)
+}
+
+// None of the n labels in the room of entries is the one given.
+fn label_new(room: &[u8], n: usize, label: &[u8]) -> bool
+    requires { ⌜ (length (now room) ≡ 416) × (n ≤ 4) × (entriesForm n (now room) ≡ true) ⌝ }
+    ensures { λ r. ⌜ r ≡ every (λ l. not (sameLabel l (now (label .entry)))) (labels (readEntries n (now (room .entry)))) ⌝ }
+{
+    let mut i: usize = 0;
+    while i < n {
+        let from = 104 * i + 1;
+        let to = from + octets::long(room[104 * i]);
+        if same_label(&room[from..to], label) {
+            return false;
+        }
+        i += 1;
+    }
+    true
+}
+
+// The sum of the n limits in the room of entries.
+fn limits_sum(room: &[u8], n: usize) -> u32
+    requires { ⌜ (length (now room) ≡ 416) × (n ≤ 4) ⌝ }
+    ensures { λ r. ⌜ (r ≡ sumOf (limits (readEntries n (now (room .entry))))) × (r ≤ 1020) ⌝ }
+{
+    let mut sum: u32 = 0;
+    let mut i: usize = 0;
+    while i < n {
+        sum += octets::wide(room[104 * i + 102]);
+        i += 1;
+    }
+    sum
+}
+
+// What an entry is given: a label of 1 to 100 bytes, flags of at most 3, a limit of 1 to 8.
+fn entry_given(label: &[u8], limit: u8, flags: u8) -> bool
+    ensures { λ r. ⌜ r ≡ within 1 100 (length (now (label .entry))) && (leb flags 3 && within 1 8 limit) ⌝ }
+{
+    if label.len() < 1 {
+        return false;
+    }
+    if 100 < label.len() {
+        return false;
+    }
+    if 3 < flags {
+        return false;
+    }
+    if limit < 1 {
+        return false;
+    }
+    limit <= 8
 }
