@@ -2,18 +2,22 @@
 use mathlib.Core.Path.{_≡_, refl, sym, ap, _∙_}
 use mathlib.Core.Bool.{Bool, true, false, not, _&&_}
 use mathlib.Core.List.{List, [], _∷_, _++_}
-use Prim.Native.Nat.{ℕ, zero, suc, _+_, _-_, _*_, _≤_, _<_}
+use Prim.Native.Nat.{ℕ, zero, suc, _+_, _-_, _*_, _/_, _%_, _≤_, _<_}
 use native.Mathlib.Omega.{arith}
-use borrow.Author.Tests.{eq-eqb, ne-eqb, le-leb, leb-true, lt-leb}
-use lib.Dec.{eqb, leb}
-use lib.ListN.{length}
+use borrow.Author.Tests.{eq-eqb, le-leb, le-ltb, leb-true, lt-leb, lt-ltb, ltb-true, ne-eqb}
+use lib.Dec.{eqb, leb, ltb}
+use lib.ListN.{length, take, drop, getD}
+use lib.Seq.{getD-take}
 use Rattle.octets.specs.Choice.{firstOf, pick, require, within}
-use Rattle.octets.specs.Lists.{every}
-use Rattle.octets.specs.Texts.{allZero, zeros}
+use Rattle.octets.specs.Lists.{every, sumOf}
+use Rattle.octets.specs.Texts.{allZero, part, zeros}
+use Rattle.octets.proofs.Choice.{first-passes, others-pass, passed}
 use Rattle.octets.proofs.Lists.{and-left, and-right, by-test, in-within, within-high, within-low}
-use Rattle.table.specs.Soundness.{isDigit, isName}
-use Rattle.table.specs.TheTable.{Found, firstRow, isFound, lookup, nothing, row, rowBytes, rows, tableNumber, withRow}
-use Rattle.changes.specs.SetUp.{SetUp, clear, enter, enterNumber, leaving, left, named, withRowAt}
+use Rattle.table.specs.Soundness.{entriesForm, isDigit, isName, labels, limits, sameLabel, sound}
+use Rattle.table.specs.TheTable.{Entry, Found, firstRow, isFound, lookup, nothing, readEntries, readRow, row, rowAt, rowBytes, rowLength, rows, tableNumber, withRow}
+use Rattle.table.proofs.Form.{length-read, part-take}
+use Rattle.table.proofs.Sound.{clauses, says-good}
+use Rattle.changes.specs.SetUp.{SetUp, add, addAt, clear, enter, enterNumber, entryNumber, leaving, left, named, withEntry, withRowAt}
 
 -- A NUMBER AND WHAT IT LEAVES
 
@@ -134,3 +138,152 @@ module _ (size flags limit : ℕ) where
 
   pub given-last : 1 ≤ size → size ≤ 100 → flags ≤ 3 → 1 ≤ limit → leb limit 8 ≡ within 1 100 size && (leb flags 3 && within 1 8 limit)
   given-last a b f l = rw (in-within 1 100 size a b, le-leb flags 3 f) (unfold within in rw (le-leb 1 limit l))
+
+-- ADDING A W-APN: THE TESTS ON THE ROW
+
+-- the entries, as code reads them
+module _ (r : List ℕ) (size : length r ≡ 4608) where
+  entries-read : (readRow r) .entries ≡ readEntries (getD r 18 0) (part r 32 416)
+  unfolding readRow
+  entries-read =
+      let n : getD (take 512 r) 18 0 ≡ getD r 18 0 = getD-take 512 r 18 0 (omega arith) in
+      let p : part (take 512 r) 32 416 ≡ part r 32 416 = part-take 512 32 416 r (omega arith) in
+      λ i. readEntries (n i) (p i)
+
+  pub form-read : sound r ≡ true → entriesForm (getD r 18 0) (part r 32 416) ≡ true
+  form-read h =
+      let n : getD (take 512 r) 18 0 ≡ getD r 18 0 = getD-take 512 r 18 0 (omega arith) in
+      let p : part (take 512 r) 32 416 ≡ part r 32 416 = part-take 512 32 416 r (omega arith) in
+      sym (λ i. entriesForm (n i) (p i)) ∙ (clauses r h) .entries-form
+
+  pub count-read : length ((readRow r) .entries) ≡ getD r 18 0
+  count-read = ap length entries-read ∙ length-read (getD r 18 0) (part r 32 416)
+
+  pub labels-read : labels ((readRow r) .entries) ≡ labels (readEntries (getD r 18 0) (part r 32 416))
+  labels-read = ap labels entries-read
+
+  pub limits-read : limits ((readRow r) .entries) ≡ limits (readEntries (getD r 18 0) (part r 32 416))
+  limits-read = ap limits entries-read
+
+pub at-most-four : (r : List ℕ) → sound r ≡ true → length ((readRow r) .entries) ≤ 4
+at-most-four r h = leb-true (length ((readRow r) .entries)) 4 ((says-good r h) .entries-good .four)
+
+abbrev pub given : Entry → Bool
+given e = within 1 100 (length (e .label)) && (leb (e .flags) 3 && within 1 8 (e .limit))
+
+abbrev pub newLabel : List ℕ → Entry → Bool
+newLabel r e = every (λ l. not (sameLabel l (e .label))) (labels ((readRow r) .entries))
+
+-- what the code's tests say of the row
+module _ (r : List ℕ) (n : ℕ) (size : length r ≡ 4608) (same-n : n ≡ getD r 18 0) where
+  pub label-said : (e : Entry) {x : Bool} → x ≡ every (λ l. not (sameLabel l (e .label))) (labels (readEntries n (part r 32 416))) → x ≡ newLabel r e
+  label-said e q =
+      q
+      ∙ ap (λ (i : ℕ). every (λ l. not (sameLabel l (e .label))) (labels (readEntries i (part r 32 416)))) same-n
+      ∙ ap (λ (ls : List (List ℕ)). every (λ l. not (sameLabel l (e .label))) ls) (sym (labels-read r size))
+
+  pub sum-said : {x : ℕ} → x ≡ sumOf (limits (readEntries n (part r 32 416))) → x ≡ sumOf (limits ((readRow r) .entries))
+  sum-said q = q ∙ ap (λ (i : ℕ). sumOf (limits (readEntries i (part r 32 416)))) same-n ∙ ap sumOf (sym (limits-read r size))
+
+module _ (r : List ℕ) (e : Entry) (h : sound r ≡ true) where
+  after-13 : entryNumber r e
+      ≡ firstOf (require (given e) 14 ∷ require (newLabel r e) 15 ∷ require (ltb (length ((readRow r) .entries)) 4) 16
+      ∷ require (leb (sumOf (limits ((readRow r) .entries)) + e .limit) 8) 17 ∷ [])
+  unfolding entryNumber
+  after-13 = passed-on (sound r) 13 _ h
+
+  pub entry-14 : given e ≡ false → 14 ≡ entryNumber r e
+  entry-14 g = sym (after-13 ∙ failed (given e) 14 _ g (omega arith))
+
+  after-14 : given e ≡ true → entryNumber r e
+      ≡ firstOf (require (newLabel r e) 15 ∷ require (ltb (length ((readRow r) .entries)) 4) 16 ∷ require (leb (sumOf (limits ((readRow r) .entries)) + e .limit) 8) 17 ∷ [])
+  after-14 g = after-13 ∙ passed-on (given e) 14 _ g
+
+  pub entry-15 : given e ≡ true → newLabel r e ≡ false → 15 ≡ entryNumber r e
+  entry-15 g l = sym (after-14 g ∙ failed (newLabel r e) 15 _ l (omega arith))
+
+  after-15 : given e ≡ true → newLabel r e ≡ true → entryNumber r e
+      ≡ firstOf (require (ltb (length ((readRow r) .entries)) 4) 16 ∷ require (leb (sumOf (limits ((readRow r) .entries)) + e .limit) 8) 17 ∷ [])
+  after-15 g l = after-14 g ∙ passed-on (newLabel r e) 15 _ l
+
+  pub entry-16 : given e ≡ true → newLabel r e ≡ true → 4 ≤ length ((readRow r) .entries) → 16 ≡ entryNumber r e
+  entry-16 g l n = sym (after-15 g l ∙ failed (ltb (length ((readRow r) .entries)) 4) 16 _ (le-ltb (length ((readRow r) .entries)) 4 n) (omega arith))
+
+  after-16 : given e ≡ true → newLabel r e ≡ true → length ((readRow r) .entries) < 4
+      → entryNumber r e ≡ firstOf (require (leb (sumOf (limits ((readRow r) .entries)) + e .limit) 8) 17 ∷ [])
+  after-16 g l n = after-15 g l ∙ passed-on (ltb (length ((readRow r) .entries)) 4) 16 _ (lt-ltb (length ((readRow r) .entries)) 4 n)
+
+  pub entry-17 : given e ≡ true → newLabel r e ≡ true → length ((readRow r) .entries) < 4 → 8 < sumOf (limits ((readRow r) .entries)) + e .limit → 17 ≡ entryNumber r e
+  entry-17 g l n s = sym (after-16 g l n ∙ failed (leb (sumOf (limits ((readRow r) .entries)) + e .limit) 8) 17 [] (lt-leb (sumOf (limits ((readRow r) .entries)) + e .limit) 8 s) (omega arith))
+
+  pub entry-0 : given e ≡ true → newLabel r e ≡ true → length ((readRow r) .entries) < 4 → sumOf (limits ((readRow r) .entries)) + e .limit ≤ 8 → 0 ≡ entryNumber r e
+  entry-0 g l n s = sym (after-16 g l n ∙ passed-on (leb (sumOf (limits ((readRow r) .entries)) + e .limit) 8) 17 [] (le-leb (sumOf (limits ((readRow r) .entries)) + e .limit) 8 s) ∙ none-failed)
+
+pub entry-13 : (r : List ℕ) (e : Entry) → sound r ≡ false → 13 ≡ entryNumber r e
+unfolding entryNumber
+entry-13 r e h = sym (failed (sound r) 13 _ h (omega arith))
+
+-- where no test fails, all passed
+pub record Passed (r : List ℕ) (e : Entry) : Type 0 where
+  pub is-sound : sound r ≡ true
+  pub fine : given e ≡ true
+  pub new-label : newLabel r e ≡ true
+  pub room : length ((readRow r) .entries) < 4
+  pub sum-room : sumOf (limits ((readRow r) .entries)) + e .limit ≤ 8
+
+pub entry-passed : (r : List ℕ) (e : Entry) → entryNumber r e ≡ 0 → Passed r e
+unfolding entryNumber
+entry-passed r e h =
+    let h1 = others-pass (require (sound r) 13) _ h in
+    let h2 = others-pass (require (given e) 14) _ h1 in
+    let h3 = others-pass (require (newLabel r e) 15) _ h2 in
+    let h4 = others-pass (require (ltb (length ((readRow r) .entries)) 4) 16) _ h3 in
+    record {
+      is-sound = passed (sound r) 13 (omega arith) (first-passes _ _ h);
+      fine = passed (given e) 14 (omega arith) (first-passes _ _ h1);
+      new-label = passed (newLabel r e) 15 (omega arith) (first-passes _ _ h2);
+      room = ltb-true (length ((readRow r) .entries)) 4 (passed _ 16 (omega arith) (first-passes _ _ h3));
+      sum-room = leb-true (sumOf (limits ((readRow r) .entries)) + e .limit) 8 (passed _ 17 (omega arith) (first-passes _ _ h4));
+    }
+
+-- ADDING A W-APN TO A TABLE
+
+one-or : (b : Bool) → (require b 1 ≡ 0 → ⊥) → require b 1 ≡ 1
+unfolding require
+one-or true h = absurd (h refl)
+one-or false h = refl
+
+number-one : (t : List ℕ) → (tableNumber t ≡ 0 → ⊥) → tableNumber t ≡ 1
+unfolding tableNumber require
+number-one t h = one-or (eqb (length t % rowLength) 0 && within 1 1024 (length t / rowLength)) h
+
+module _ (t name : List ℕ) (e : Entry) where
+  pub add-1 : (n : ℕ) → n ≡ tableNumber t → (n ≡ 0 → ⊥) → left n t ≡ add t name e
+  unfolding add leaving pick
+  add-1 n q h =
+      let w : tableNumber t ≡ 1 = number-one t (λ z. h (q ∙ z)) in
+      let v : n ≡ 1 = q ∙ w in
+      rw (v, w)
+
+  to-row : tableNumber t ≡ 0 → addAt (lookup t name) t e ≡ add t name e
+  unfolding add pick
+  to-row h = rw h
+
+  pub add-12 : tableNumber t ≡ 0 → lookup t name ≡ nothing → left 12 t ≡ add t name e
+  unfolding addAt
+  add-12 h l = refused 12 t t (λ z. omega arith) ∙ ap (λ (f : Found). addAt f t e) (sym l) ∙ to-row h
+
+  pub add-refused : (i n : ℕ) → tableNumber t ≡ 0 → lookup t name ≡ row i → n ≡ entryNumber (rowAt t i) e → (n ≡ 0 → ⊥) → left n t ≡ add t name e
+  unfolding addAt
+  add-refused i n h l q z =
+      ap (λ (m : ℕ). left m t) q
+      ∙ refused (entryNumber (rowAt t i) e) t (withRow t i (rowBytes (withEntry e (readRow (rowAt t i))))) (λ y. z (q ∙ y))
+      ∙ ap (λ (f : Found). addAt f t e) (sym l) ∙ to-row h
+
+  pub add-done : (i n : ℕ) (after : List ℕ) → tableNumber t ≡ 0 → lookup t name ≡ row i → n ≡ entryNumber (rowAt t i) e → n ≡ 0
+      → after ≡ withRow t i (rowBytes (withEntry e (readRow (rowAt t i)))) → left 0 after ≡ add t name e
+  unfolding addAt
+  add-done i n after h l q z a =
+      ap (left 0) a
+      ∙ done (entryNumber (rowAt t i) e) t (withRow t i (rowBytes (withEntry e (readRow (rowAt t i))))) (sym q ∙ z)
+      ∙ ap (λ (f : Found). addAt f t e) (sym l) ∙ to-row h

@@ -11,7 +11,7 @@ ghost use Rattle.octets.specs.Lists.{every, isOn, sumOf};
 ghost use Rattle.table.specs.TheTable.{Entry, entryBytes, orderLine, readEntries, readRow, rowAt, rowBytes, sealed, withRow};
 ghost use Rattle.table.specs.Soundness.{entriesForm, isName, labels, limits, sameLabel, sound};
 ghost use Rattle.changes.specs.Changes.{freed, lowestFree, opened, routed};
-ghost use Rattle.changes.specs.SetUp.{clear, enter, left, named, withEntry};
+ghost use Rattle.changes.specs.SetUp.{clear, enter, entryNumber, left, named, withEntry};
 ghost use Rattle.changes.specs.Writes.{closedUp, entriesWith, headWith, openedBytes, policyWith};
 
 // The sums of a block's first 510 bytes, written behind them: the second, then the first.
@@ -329,4 +329,37 @@ fn entry_given(label: &[u8], limit: u8, flags: u8) -> bool
         return false;
     }
     limit <= 8
+}
+
+// The number that a sound row gives to an entry, 0 where it may be added.
+fn next_number(row: &[u8], label: &[u8], limit: u8, flags: u8) -> u32
+    requires { ⌜ sound (now row) ≡ true ⌝ }
+    ensures { λ r. ⌜ r ≡ entryNumber (now (row .entry)) (record { label = now (label .entry); flags = flags; limit = limit }) ⌝ }
+{
+    if !entry_given(label, limit, flags) {
+        return 14;
+    }
+    let n = octets::long(row[18]);
+    if !label_new(&row[32..448], n, label) {
+        return 15;
+    }
+    if 4 <= n {
+        return 16;
+    }
+    if 8 < limits_sum(&row[32..448], n) + octets::wide(limit) {
+        return 17;
+    }
+    0
+}
+
+// The entry behind the others of row i.
+fn add_entry(table: &mut [u8], i: usize, label: &[u8], flags: u8, limit: u8)
+    requires { ⌜ (4608 * i + 4608 ≤ length (now table)) × (sound (rowAt (now table) i) ≡ true) × (length ((readRow (rowAt (now table) i)) .entries) < 4)
+        × (length (now label) ≤ 100) ⌝ }
+    ensures { λ _. ⌜ now (table .exit)
+        ≡ withRow (now (table .entry)) i (rowBytes (withEntry (record { label = now (label .entry); flags = flags; limit = limit }) (readRow (rowAt (now (table .entry)) i)))) ⌝ }
+{
+    let a = 4608 * i;
+    let e = a + 4608;
+    append_entry(&mut table[a..e], label, flags, limit);
 }
