@@ -6,3 +6,4 @@ pub mod Steps
 pub mod Blocks
 pub mod Rows
 pub mod SetUps
+pub mod Kept
