@@ -307,12 +307,12 @@ headTests b =
     eqb (getD b 0 0) 1 && (zeroBehind (getD b 1 0) (part b 2 15) && (eqb (getD b 17 0) (usedBits (upTo0 l)) && (eqb (getD b 19 0) 0
     && (zeroBehind (length (upTo0 l)) l && (allZero (part b 28 4) && (entriesTests (getD b 18 0) (part b 32 416) && (allZero (part b 448 62) && sumOk b)))))))
 
-up-to-part : (l : List ℕ) → upTo0 l ≡ take (length (upTo0 l)) l
+pub up-to-part : (l : List ℕ) → upTo0 l ≡ take (length (upTo0 l)) l
 unfolding upTo0 pick
 up-to-part [] = refl
 up-to-part (x ∷ l) = by-test (eqb x 0) (λ e. rw e) (λ e. rw e (ap (λ (t : List ℕ). x ∷ t) (up-to-part l)))
 
-up-to-length : (l : List ℕ) → length (upTo0 l) ≤ length l
+pub up-to-length : (l : List ℕ) → length (upTo0 l) ≤ length l
 unfolding upTo0 pick
 up-to-length [] = omega arith
 up-to-length (x ∷ l) = by-test (eqb x 0) (λ e. rw e (omega arith)) (λ e. rw e (omega (arith, up-to-length l)))
