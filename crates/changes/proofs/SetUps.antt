@@ -246,6 +246,9 @@ entry-passed r e h =
       sum-room = leb-true (sumOf (limits ((readRow r) .entries)) + e .limit) 8 (passed _ 17 (omega arith) (first-passes _ _ h4));
     }
 
+pub label-fits : (e : Entry) → given e ≡ true → length (e .label) ≤ 100
+label-fits e g = within-high 1 100 (length (e .label)) (and-left (within 1 100 (length (e .label))) _ g)
+
 -- ADDING A W-APN TO A TABLE
 
 one-or : (b : Bool) → (require b 1 ≡ 0 → ⊥) → require b 1 ≡ 1

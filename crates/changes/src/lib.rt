@@ -11,7 +11,7 @@ ghost use Rattle.octets.specs.Lists.{every, isOn, sumOf};
 ghost use Rattle.table.specs.TheTable.{Entry, entryBytes, orderLine, readEntries, readRow, rowAt, rowBytes, sealed, withRow};
 ghost use Rattle.table.specs.Soundness.{entriesForm, isName, labels, limits, sameLabel, sound};
 ghost use Rattle.changes.specs.Changes.{freed, lowestFree, opened, routed};
-ghost use Rattle.changes.specs.SetUp.{clear, enter, entryNumber, left, named, withEntry};
+ghost use Rattle.changes.specs.SetUp.{add, clear, enter, entryNumber, left, named, withEntry};
 ghost use Rattle.changes.specs.Writes.{closedUp, entriesWith, headWith, openedBytes, policyWith};
 
 // The sums of a block's first 510 bytes, written behind them: the second, then the first.
@@ -362,4 +362,37 @@ fn add_entry(table: &mut [u8], i: usize, label: &[u8], flags: u8, limit: u8)
     let a = 4608 * i;
     let e = a + 4608;
     append_entry(&mut table[a..e], label, flags, limit);
+}
+
+// The number that a row gives to an entry. Nothing but its soundness is tested in an unsound row.
+fn entry_number(row: &[u8], label: &[u8], limit: u8, flags: u8) -> u32
+    requires { ⌜ length (now row) ≡ 4608 ⌝ }
+    ensures { λ r. ⌜ r ≡ entryNumber (now (row .entry)) (record { label = now (label .entry); flags = flags; limit = limit }) ⌝ }
+{
+    if !table::row_sound(row) {
+        return 13;
+    }
+    next_number(row, label, limit, flags)
+}
+
+// A W-APN for a subscriber.
+pub fn add(table: &mut [u8], name: &[u8], label: &[u8], limit: u8, flags: u8) -> u32
+    ensures { λ r. ⌜ left r (now (table .exit))
+        ≡ add (now (table .entry)) (now (name .entry)) (record { label = now (label .entry); flags = flags; limit = limit }) ⌝ }
+{
+    let n = table::table_number(table);
+    if n != 0 {
+        return n;
+    }
+    let RowFound::At(i) = table::lookup(table, name) else {
+        return 12;
+    };
+    let a = 4608 * i;
+    let e = a + 4608;
+    let m = entry_number(&table[a..e], label, limit, flags);
+    if m != 0 {
+        return m;
+    }
+    add_entry(table, i, label, flags, limit);
+    0
 }
