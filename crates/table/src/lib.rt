@@ -167,7 +167,7 @@ fn block_sums_agree(b: &[u8]) -> bool
 
 // BLOCK 0
 
-fn digits(s: &[u8]) -> bool
+pub fn digits(s: &[u8]) -> bool
     ensures { λ r. ⌜ r ≡ every isDigit (now (s .entry)) ⌝ }
 {
     let mut i: usize = 0;

@@ -1,0 +1,52 @@
+use Rattle.changes.specs.SetUp.{named}
+use Rattle.changes.proofs.Rows.{back-row}
+use mathlib.Core.Path.{_≡_, refl, sym, ap, _∙_}
+use mathlib.Core.List.{List, [], _∷_, _++_}
+use Prim.Native.Nat.{ℕ, suc, _+_, _-_, _*_, _/_, _%_, _^_, _<_, _≤_}
+use native.Mathlib.Omega.{arith}
+use native.Mathlib.Numerals.{add-one}
+use lib.ListN.{length, getD, take, drop, set, length-set, length-append, length-take, length-drop}
+use borrow.Author.Needs.{needs}
+use Rattle.changes.proofs.enter_row.Statement.{statement}
+use Rattle.changes.proofs.enter_row.Tie as tie
+use Rattle.changes.proofs.enter_row.Reads as reads
+use Rattle.changes.proofs.enter_row.Lts as lts
+use Rattle.changes.proofs.new_row.Reads as new-row-reads
+
+mul-a : tie.Need-mul-a
+mul-a c = search needs
+
+add-e : tie.Need-add-e
+add-e c = search needs
+
+sub-new-row : tie.Need-sub-new-row
+sub-new-row c = search needs
+
+part-new-row-start : tie.Need-part-new-row-start
+part-new-row-start c = search needs
+
+part-new-row-end : tie.Need-part-new-row-end
+part-new-row-end c = search needs
+
+new-row-requires : tie.Need-new-row-requires
+new-row-requires c κs = search needs
+
+same-length : tie.Need-same-length
+same-length c = search needs
+
+returns : tie.Need-returns
+returns c = let start = c .before .before .before .before .before .before in
+    back-row (start .args .table .now) (start .args .i) (c .before .before .new-row .last .0) (λ r. named (start .args .name .now)) (c .before .before .new-row .ensures)
+
+pub enter-row-spec : {M : Type 1} → statement M
+enter-row-spec =
+    tie.close
+    (tie.spec
+    mul-a
+    add-e
+    sub-new-row
+    part-new-row-start
+    part-new-row-end
+    new-row-requires
+    same-length
+    returns)
