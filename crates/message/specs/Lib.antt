@@ -3,3 +3,4 @@ pub mod CallsThatGetNoAnswer
 pub mod ReadingAMessage
 pub mod WritingTheAnswer
 pub mod WorkedCases
+pub mod Positions

@@ -1,1 +1,155 @@
-// The functions come with their proofs; the definitions that they meet stand in specs/.
+// Reading a request and writing its answer, over the caller's bytes: nothing is copied but into the answer room.
+ghost use mathlib.Core.Path.{_≡_};
+ghost use Prim.Native.Nat.{ℕ, _+_, _*_, _≤_, _<_};
+ghost use lib.ListN.{length};
+ghost use Rattle.message.specs.CallsThatGetNoAnswer.{messageNumber};
+ghost use Rattle.message.specs.ReadingAMessage.{base, vendor, headerCode};
+ghost use Rattle.message.specs.Positions.{slotOf, headAt};
+
+// CALLS THAT GET NO ANSWER
+
+// The number, 5 to 8, of the first test of the message that fails, 0 where none does.
+pub fn number(m: &[u8]) -> u32
+    ensures { λ r. ⌜ r ≡ messageNumber (now (m .entry)) ⌝ }
+{
+    let n = m.len();
+    if n < 20 {
+        return 5;
+    }
+    if 4096 < n {
+        return 5;
+    }
+    if m[0] != 1 {
+        return 6;
+    }
+    if octets::read24(m, 1) != n {
+        return 7;
+    }
+    if n % 4 != 0 {
+        return 7;
+    }
+    if m[4] < 128 {
+        return 8;
+    }
+    0
+}
+
+// THE HEADER
+
+// The code of the first header test that fails, 0 where none does.
+pub fn header_code(m: &[u8]) -> u32
+    requires { ⌜ 20 ≤ length (now m) ⌝ }
+    ensures { λ r. ⌜ r ≡ headerCode (now (m .entry)) ⌝ }
+{
+    let flags = m[4];
+    if flags % 16 != 0 {
+        return 5013;
+    }
+    if flags / 32 % 2 != 0 {
+        return 3008;
+    }
+    let command = octets::read24(m, 5);
+    let application = octets::read32(m, 8);
+    if command == 265 {
+        if application == 1 {
+            return 0;
+        }
+        return 3007;
+    }
+    if command == 275 {
+        if application <= 1 {
+            return 0;
+        }
+        return 3007;
+    }
+    3001
+}
+
+// ONE AVP
+
+// An AVP that passes the four tests: the slot of its name, 14 where no list names it, and where the next one starts.
+pub struct Spot {
+    pub slot: usize,
+    pub next: usize,
+}
+
+pub enum Head {
+    One(Spot),
+    Bad(u32),
+}
+
+// The slot of an AVP without V.
+fn base_slot(code: u32) -> usize
+    ensures { λ r. ⌜ r ≡ slotOf (base code) ⌝ }
+{
+    match code {
+        263 => 0,
+        258 => 1,
+        264 => 2,
+        296 => 3,
+        283 => 4,
+        274 => 5,
+        293 => 6,
+        1 => 7,
+        295 => 8,
+        284 => 9,
+        _ => 14,
+    }
+}
+
+// The slot of an AVP with V: vendor and code together make its name.
+fn vendor_slot(id: u32, code: u32) -> usize
+    ensures { λ r. ⌜ r ≡ slotOf (vendor id code) ⌝ }
+{
+    if id != 10415 {
+        return 14;
+    }
+    match code {
+        600 => 10,
+        311 => 11,
+        100 => 12,
+        312 => 13,
+        _ => 14,
+    }
+}
+
+// The AVP at a place, by the four tests.
+fn head_at(m: &[u8], at: usize) -> Head
+    requires { ⌜ at ≤ length (now m) ⌝ }
+    ensures { λ r. ⌜ r ≡ headAt (now (m .entry)) at ⌝ }
+{
+    let left = m.len() - at;
+    if left < 8 {
+        return Head::Bad(5014);
+    }
+    let flags = m[at + 4];
+    if flags % 32 != 0 {
+        return Head::Bad(3009);
+    }
+    let n = octets::read24(m, at + 5);
+    let whole = (n + 3) / 4 * 4;
+    if 128 <= flags {
+        if n < 12 {
+            return Head::Bad(5014);
+        }
+        if left < whole {
+            return Head::Bad(5014);
+        }
+        let slot = vendor_slot(octets::read32(m, at + 8), octets::read32(m, at));
+        return Head::One(Spot {
+            slot,
+            next: at + whole,
+        });
+    }
+    if n < 8 {
+        return Head::Bad(5014);
+    }
+    if left < whole {
+        return Head::Bad(5014);
+    }
+    let slot = base_slot(octets::read32(m, at));
+    Head::One(Spot {
+        slot,
+        next: at + whole,
+    })
+}
