@@ -3,8 +3,9 @@ ghost use mathlib.Core.Path.{_≡_};
 ghost use Prim.Native.Nat.{ℕ, _+_, _*_, _≤_, _<_};
 ghost use lib.ListN.{length};
 ghost use Rattle.message.specs.CallsThatGetNoAnswer.{messageNumber};
-ghost use Rattle.message.specs.ReadingAMessage.{base, vendor, headerCode};
-ghost use Rattle.message.specs.Positions.{slotOf, headAt};
+ghost use Rattle.octets.specs.Texts.{zeros};
+ghost use Rattle.message.specs.ReadingAMessage.{base, vendor, headerCode, walkCode};
+ghost use Rattle.message.specs.Positions.{slotOf, headAt, Gathered};
 
 // CALLS THAT GET NO ANSWER
 
@@ -152,4 +153,40 @@ fn head_at(m: &[u8], at: usize) -> Head
         slot,
         next: at + whole,
     })
+}
+
+// THE WALK
+
+// One walk over all AVPs. It notes for each slot 0 where no AVP has its name, the place of the only one that has,
+// 1 where there are more; its result is the code of the first AVP that fails, 0 where none does.
+// The inner loop steps over the AVPs that no list names; the end and a failing AVP leave both loops.
+fn gather(m: &[u8], index: &mut [usize]) -> u32
+    requires { ⌜ (20 ≤ length (now m)) × (now index ≡ zeros 14) ⌝ }
+    ensures { λ r. ⌜ (r ≡ walkCode (now (m .entry))) × Gathered (now (m .entry)) (now (index .exit)) ⌝ }
+{
+    let mut at: usize = 20;
+    'walk: loop {
+        let named = loop {
+            if m.len() <= at {
+                break 'walk 0;
+            }
+            let h = head_at(m, at);
+            match h {
+                Head::Bad(code) => break 'walk code,
+                Head::One(a) => {
+                    if a.slot < 14 {
+                        break a;
+                    }
+                    at = a.next;
+                }
+            }
+        };
+        let slot = named.slot;
+        if index[slot] == 0 {
+            index[slot] = at;
+        } else {
+            index[slot] = 1;
+        }
+        at = named.next;
+    }
 }
