@@ -106,7 +106,7 @@ slot-most (x ∷ xs) n = let r = slot-most xs n in by-test (sameName x n) (λ t.
 ownSlot : ℕ → Bool
 ownSlot k = eqb (slotOf (nameAt k)) k
 
-counted-every : (f : ℕ → Bool) (a n : ℕ) → every f (counted a n) ≡ true → (k : ℕ) → k < n → f (a + k) ≡ true
+pub counted-every : (f : ℕ → Bool) (a n : ℕ) → every f (counted a n) ≡ true → (k : ℕ) → k < n → f (a + k) ≡ true
 unfolding every counted
 counted-every f a zero h k l = absurd (omega arith)
 counted-every f a (suc n) h zero l = let z : a + zero ≡ a = omega arith in rw z (and-left (f a) (every f (counted (suc a) n)) h)
@@ -158,11 +158,11 @@ then-more absent a xs h = absurd (h refl)
 then-more (once b) a xs h = refl
 then-more twice a xs h = refl
 
-says-absent : (m : List ℕ) → slotSays m 0 ≡ absent
+pub says-absent : (m : List ℕ) → slotSays m 0 ≡ absent
 unfolding slotSays pick
 says-absent m = refl
 
-says-twice : (m : List ℕ) → slotSays m 1 ≡ twice
+pub says-twice : (m : List ℕ) → slotSays m 1 ≡ twice
 unfolding slotSays pick
 says-twice m = refl
 

@@ -1,3 +1,4 @@
 pub mod Walks
 pub mod Heads
 pub mod Gathering
+pub mod Readers

@@ -4,3 +4,4 @@ pub mod ReadingAMessage
 pub mod WritingTheAnswer
 pub mod WorkedCases
 pub mod Positions
+pub mod Spans

@@ -3,7 +3,7 @@ use mathlib.Core.Bool.{Bool, true, false}
 use mathlib.Core.List.{List, [], _∷_}
 use mathlib.Core.Path.{_≡_}
 use Prim.Native.Nat.{ℕ, zero, suc, _+_, _≤_, _<_}
-use lib.Dec.{eqb}
+use lib.Dec.{eqb, ltb}
 use lib.ListN.{length, getD, drop}
 use Rattle.octets.specs.Choice.{pick}
 use Rattle.octets.specs.Numbers.{up4}
@@ -43,6 +43,10 @@ slotOf n = slotIn names n
 
 unfoldable pub nameAt : ℕ → Name
 nameAt k = getD names k sessionId
+
+-- The length of the header of an AVP in a slot: the last four names have V.
+unfoldable pub headOf : ℕ → ℕ
+headOf k = pick (ltb k 10) 8 12
 
 -- ONE AVP
 

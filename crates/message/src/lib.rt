@@ -3,9 +3,12 @@ ghost use mathlib.Core.Path.{_≡_};
 ghost use Prim.Native.Nat.{ℕ, _+_, _*_, _≤_, _<_};
 ghost use lib.ListN.{length};
 ghost use Rattle.message.specs.CallsThatGetNoAnswer.{messageNumber};
+ghost use mathlib.Core.Bool.{Bool, true, false};
 ghost use Rattle.octets.specs.Texts.{zeros};
-ghost use Rattle.message.specs.ReadingAMessage.{base, vendor, headerCode, walkCode};
-ghost use Rattle.message.specs.Positions.{slotOf, headAt, Gathered};
+ghost use Rattle.octets.specs.Numbers.{net32};
+ghost use Rattle.message.specs.ReadingAMessage.{base, vendor, headerCode, walkCode, numberField};
+ghost use Rattle.message.specs.Positions.{slotOf, nameAt, headOf, headAt, Gathered};
+ghost use Rattle.message.specs.Spans.{bytesField, codeOf, Reads};
 
 // CALLS THAT GET NO ANSWER
 
@@ -188,5 +191,93 @@ fn gather(m: &[u8], index: &mut [usize]) -> u32
             index[slot] = 1;
         }
         at = named.next;
+    }
+}
+
+// ONE FIELD
+
+// A part of the message.
+pub struct Span {
+    pub at: usize,
+    pub len: usize,
+}
+
+// What a field's reader answers.
+pub enum Got {
+    Found(Span),
+    Absent,
+    Code(u32),
+}
+
+// How long the header of an AVP in a slot is: the last four have V.
+fn head_of(slot: usize) -> usize
+    ensures { λ r. ⌜ r ≡ headOf slot ⌝ }
+{
+    if slot < 10 {
+        return 8;
+    }
+    12
+}
+
+// The number in a value of four bytes.
+fn value32(value: &[u8]) -> u32
+    requires { ⌜ 4 ≤ length (now value) ⌝ }
+    ensures { λ r. ⌜ r ≡ net32 (now (value .entry)) 0 ⌝ }
+{
+    octets::read32(value, 0)
+}
+
+// The field of a slot, whose value has low to high bytes.
+fn text_field(m: &[u8], index: &[usize], slot: usize, low: usize, high: usize) -> Got
+    requires { ⌜ (slot < 14) × (1 ≤ low) × Gathered (now m) (now index) ⌝ }
+    ensures { λ r. ⌜ ((b : Bool) → Reads (now (m .entry)) (bytesField (nameAt slot) b low high) r) ⌝ }
+{
+    let at = index[slot];
+    if at == 0 {
+        return Got::Absent;
+    }
+    if at == 1 {
+        return Got::Code(5009);
+    }
+    let head = head_of(slot);
+    let len = octets::read24(m, at + 5) - head;
+    if len < low {
+        return Got::Code(5014);
+    }
+    if high < len {
+        return Got::Code(5014);
+    }
+    Got::Found(Span { at: at + head, len })
+}
+
+// The field of a slot whose value is a number from low to high.
+fn number_field(m: &[u8], index: &[usize], slot: usize, low: u32, high: u32) -> Got
+    requires { ⌜ (slot < 14) × Gathered (now m) (now index) ⌝ }
+    ensures { λ r. ⌜ Reads (now (m .entry)) (numberField (nameAt slot) low high) r ⌝ }
+{
+    let g = text_field(m, index, slot, 4, 4);
+    let Got::Found(s) = g else {
+        return g;
+    };
+    let a = s.at;
+    let e = a + s.len;
+    let n = value32(&m[a..e]);
+    if n < low {
+        return Got::Code(5004);
+    }
+    if high < n {
+        return Got::Code(5004);
+    }
+    g
+}
+
+// What a required field that was not found is refused with.
+fn refusal(g: Got) -> u32
+    ensures { λ r. ⌜ r ≡ codeOf true g ⌝ }
+{
+    match g {
+        Got::Found(_) => 0,
+        Got::Absent => 5005,
+        Got::Code(n) => n,
     }
 }
