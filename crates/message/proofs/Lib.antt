@@ -2,3 +2,4 @@ pub mod Walks
 pub mod Heads
 pub mod Gathering
 pub mod Readers
+pub mod Listing

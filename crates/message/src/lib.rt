@@ -6,9 +6,9 @@ ghost use Rattle.message.specs.CallsThatGetNoAnswer.{messageNumber};
 ghost use mathlib.Core.Bool.{Bool, true, false};
 ghost use Rattle.octets.specs.Texts.{zeros};
 ghost use Rattle.octets.specs.Numbers.{net32};
-ghost use Rattle.message.specs.ReadingAMessage.{base, vendor, headerCode, walkCode, numberField};
+ghost use Rattle.message.specs.ReadingAMessage.{base, vendor, command, headerCode, avps, walkCode, sessionId, originHost, userName, startsWith, numberField, readingCode, requestOf};
 ghost use Rattle.message.specs.Positions.{slotOf, nameAt, headOf, headAt, Gathered};
-ghost use Rattle.message.specs.Spans.{bytesField, codeOf, Reads};
+ghost use Rattle.message.specs.Spans.{bytesField, codeOf, isFound, Holds, Reads, BothRead, restCode, tunnelCode, tunnelOf, policyCode, policyOf, Listed, HeardOf};
 
 // CALLS THAT GET NO ANSWER
 
@@ -280,4 +280,113 @@ fn refusal(g: Got) -> u32
         Got::Absent => 5005,
         Got::Code(n) => n,
     }
+}
+
+// THE LISTS
+
+// The first five fields, of both requests: Session-Id and Origin-Host, or the code of the first that fails.
+pub enum Both {
+    Held(Span, Span),
+    Failed(u32),
+}
+
+// What is asked, by parts of the message.
+pub enum Asked {
+    Tunnel {
+        session: Span,
+        host: Span,
+        label: Span,
+        visited: bool,
+    },
+    Policy {
+        session: Span,
+        route: Span,
+    },
+    Termination {
+        session: Span,
+        label: Span,
+    },
+}
+
+// A message as it is read: refused with a code, or the user and what is asked.
+pub enum Told {
+    Refused(u32),
+    Request(Span, Asked),
+}
+
+// Whether the first AVP is Session-Id, in a message whose walk passed.
+fn starts(m: &[u8]) -> bool
+    requires { ⌜ (20 ≤ length (now m)) × (walkCode (now m) ≡ 0) ⌝ }
+    ensures { λ r. ⌜ r ≡ startsWith sessionId (avps (now (m .entry))) ⌝ }
+{
+    if m.len() < 28 {
+        return false;
+    }
+    if 128 <= m[24] {
+        return false;
+    }
+    octets::read32(m, 20) == 263
+}
+
+// The end of a 265 of type 0: the W-APN, and a policy that is tested and not used.
+fn tunnel_end(
+    m: &[u8],
+    index: &[usize],
+    user: Span,
+    session: Span,
+    host: Span,
+    visited: bool,
+) -> Told
+    requires { ⌜ (Gathered (now m) (now index)) × (Holds (now m) userName user) × (Holds (now m) sessionId session) × (Holds (now m) originHost host) ⌝ }
+    ensures { λ r. ⌜ Listed (now (m .entry)) (tunnelCode (avps (now (m .entry)))) (tunnelOf visited (avps (now (m .entry)))) r ⌝ }
+{
+    let g1 = text_field(m, index, 12, 1, 100);
+    let Got::Found(label) = g1 else {
+        return Told::Refused(refusal(g1));
+    };
+    let g2 = text_field(m, index, 13, 1, 128);
+    if let Got::Code(n) = g2 {
+        return Told::Refused(n);
+    }
+    Told::Request(
+        user,
+        Asked::Tunnel {
+            session,
+            host,
+            label,
+            visited,
+        },
+    )
+}
+
+// The end of a 265 of type 1: a W-APN that is tested and not used, and the policy.
+fn policy_end(m: &[u8], index: &[usize], user: Span, session: Span) -> Told
+    requires { ⌜ (Gathered (now m) (now index)) × (Holds (now m) userName user) × (Holds (now m) sessionId session) ⌝ }
+    ensures { λ r. ⌜ Listed (now (m .entry)) (policyCode (avps (now (m .entry)))) (policyOf (avps (now (m .entry)))) r ⌝ }
+{
+    let g1 = text_field(m, index, 12, 1, 100);
+    if let Got::Code(n) = g1 {
+        return Told::Refused(n);
+    }
+    let g2 = text_field(m, index, 13, 1, 128);
+    let Got::Found(route) = g2 else {
+        return Told::Refused(refusal(g2));
+    };
+    Told::Request(user, Asked::Policy { session, route })
+}
+
+// Whether a field that may be absent is there.
+fn is_found(g: Got) -> bool
+    ensures { λ r. ⌜ r ≡ isFound g ⌝ }
+{
+    match g {
+        Got::Found(_) => true,
+        _ => false,
+    }
+}
+
+// A whole message.
+pub struct Heard {
+    pub told: Told,
+    pub proxies: bool,
 }
