@@ -328,6 +328,36 @@ fn starts(m: &[u8]) -> bool
     octets::read32(m, 20) == 263
 }
 
+fn first_five(m: &[u8], index: &[usize]) -> Both
+    requires { ⌜ (20 ≤ length (now m)) × (walkCode (now m) ≡ 0) × Gathered (now m) (now index) ⌝ }
+    ensures { λ r. ⌜ BothRead (now (m .entry)) r ⌝ }
+{
+    if !starts(m) {
+        return Both::Failed(5005);
+    }
+    let g1 = text_field(m, index, 0, 1, 128);
+    let Got::Found(session) = g1 else {
+        return Both::Failed(refusal(g1));
+    };
+    let g2 = number_field(m, index, 1, 1, 1);
+    let Got::Found(_) = g2 else {
+        return Both::Failed(refusal(g2));
+    };
+    let g3 = text_field(m, index, 2, 1, 128);
+    let Got::Found(host) = g3 else {
+        return Both::Failed(refusal(g3));
+    };
+    let g4 = text_field(m, index, 3, 1, 128);
+    let Got::Found(_) = g4 else {
+        return Both::Failed(refusal(g4));
+    };
+    let g5 = text_field(m, index, 4, 1, 128);
+    let Got::Found(_) = g5 else {
+        return Both::Failed(refusal(g5));
+    };
+    Both::Held(session, host)
+}
+
 // The end of a 265 of type 0: the W-APN, and a policy that is tested and not used.
 fn tunnel_end(
     m: &[u8],
@@ -383,6 +413,30 @@ fn is_found(g: Got) -> bool
         Got::Found(_) => true,
         _ => false,
     }
+}
+
+// The fields of a 275.
+fn list_275(m: &[u8], index: &[usize], session: Span) -> Told
+    requires { ⌜ (Gathered (now m) (now index)) × (Holds (now m) sessionId session) ⌝ }
+    ensures { λ r. ⌜ Listed (now (m .entry)) (restCode 275 (avps (now (m .entry)))) (requestOf 275 (avps (now (m .entry)))) r ⌝ }
+{
+    let g1 = number_field(m, index, 8, 1, 8);
+    let Got::Found(_) = g1 else {
+        return Told::Refused(refusal(g1));
+    };
+    let g2 = text_field(m, index, 6, 1, 128);
+    let Got::Found(_) = g2 else {
+        return Told::Refused(refusal(g2));
+    };
+    let g3 = text_field(m, index, 7, 1, 128);
+    let Got::Found(user) = g3 else {
+        return Told::Refused(refusal(g3));
+    };
+    let g4 = text_field(m, index, 12, 1, 100);
+    let Got::Found(label) = g4 else {
+        return Told::Refused(refusal(g4));
+    };
+    Told::Request(user, Asked::Termination { session, label })
 }
 
 // A whole message.
