@@ -415,6 +415,39 @@ fn is_found(g: Got) -> bool
     }
 }
 
+// The fields of a 265.
+fn list_265(m: &[u8], index: &[usize], session: Span, host: Span) -> Told
+    requires { ⌜ (Gathered (now m) (now index)) × (Holds (now m) sessionId session) × (Holds (now m) originHost host) ⌝ }
+    ensures { λ r. ⌜ Listed (now (m .entry)) (restCode 265 (avps (now (m .entry)))) (requestOf 265 (avps (now (m .entry)))) r ⌝ }
+{
+    let g1 = number_field(m, index, 5, 2, 2);
+    let Got::Found(_) = g1 else {
+        return Told::Refused(refusal(g1));
+    };
+    let g2 = text_field(m, index, 6, 1, 128);
+    let Got::Found(_) = g2 else {
+        return Told::Refused(refusal(g2));
+    };
+    let g3 = text_field(m, index, 7, 1, 128);
+    let Got::Found(user) = g3 else {
+        return Told::Refused(refusal(g3));
+    };
+    let g4 = number_field(m, index, 11, 0, 1);
+    let Got::Found(kind) = g4 else {
+        return Told::Refused(refusal(g4));
+    };
+    let g5 = text_field(m, index, 10, 1, 128);
+    if let Got::Code(n) = g5 {
+        return Told::Refused(n);
+    }
+    let a = kind.at;
+    let e = a + kind.len;
+    if value32(&m[a..e]) == 0 {
+        return tunnel_end(m, index, user, session, host, is_found(g5));
+    }
+    policy_end(m, index, user, session)
+}
+
 // The fields of a 275.
 fn list_275(m: &[u8], index: &[usize], session: Span) -> Told
     requires { ⌜ (Gathered (now m) (now index)) × (Holds (now m) sessionId session) ⌝ }
@@ -439,8 +472,52 @@ fn list_275(m: &[u8], index: &[usize], session: Span) -> Told
     Told::Request(user, Asked::Termination { session, label })
 }
 
+// Both lists of a message whose header and walk passed.
+fn lists(m: &[u8], index: &[usize]) -> Told
+    requires { ⌜ (20 ≤ length (now m)) × (headerCode (now m) ≡ 0) × (walkCode (now m) ≡ 0) × Gathered (now m) (now index) ⌝ }
+    ensures { λ r. ⌜ Listed (now (m .entry)) (readingCode (now (m .entry))) (requestOf (command (now (m .entry))) (avps (now (m .entry)))) r ⌝ }
+{
+    let b = first_five(m, index);
+    match b {
+        Both::Failed(n) => Told::Refused(n),
+        Both::Held(session, host) => {
+            if octets::read24(m, 5) == 265 {
+                list_265(m, index, session, host)
+            } else {
+                list_275(m, index, session)
+            }
+        }
+    }
+}
+
 // A whole message.
 pub struct Heard {
     pub told: Told,
     pub proxies: bool,
+}
+
+// Header tests, the walk, the lists: the request with its fields, or the code of the first test that fails;
+// and whether the answer has a Proxy-Info to copy.
+pub fn read(m: &[u8]) -> Heard
+    requires { ⌜ 20 ≤ length (now m) ⌝ }
+    ensures { λ r. ⌜ HeardOf (now (m .entry)) r ⌝ }
+{
+    let h = header_code(m);
+    if h != 0 {
+        return Heard {
+            told: Told::Refused(h),
+            proxies: false,
+        };
+    }
+    let mut index = [0usize; 14];
+    let w = gather(m, &mut index);
+    if w != 0 {
+        return Heard {
+            told: Told::Refused(w),
+            proxies: false,
+        };
+    }
+    let proxies = index[9] != 0;
+    let told = lists(m, &index);
+    Heard { told, proxies }
 }
