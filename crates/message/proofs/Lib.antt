@@ -3,3 +3,4 @@ pub mod Heads
 pub mod Gathering
 pub mod Readers
 pub mod Listing
+pub mod Writing

@@ -4,11 +4,14 @@ ghost use Prim.Native.Nat.{ℕ, _+_, _*_, _≤_, _<_};
 ghost use lib.ListN.{length};
 ghost use Rattle.message.specs.CallsThatGetNoAnswer.{messageNumber};
 ghost use mathlib.Core.Bool.{Bool, true, false};
-ghost use Rattle.octets.specs.Texts.{zeros};
-ghost use Rattle.octets.specs.Numbers.{net32};
+ghost use Rattle.octets.specs.Texts.{zeros, put};
+ghost use Rattle.octets.specs.Numbers.{net32, in32};
 ghost use Rattle.message.specs.ReadingAMessage.{base, vendor, command, headerCode, avps, walkCode, sessionId, originHost, userName, startsWith, numberField, readingCode, requestOf};
 ghost use Rattle.message.specs.Positions.{slotOf, nameAt, headOf, headAt, Gathered};
-ghost use Rattle.message.specs.Spans.{bytesField, codeOf, isFound, Holds, Reads, BothRead, restCode, tunnelCode, tunnelOf, policyCode, policyOf, Listed, HeardOf};
+ghost use Rattle.message.specs.Spans.{bytesField, codeOf, isFound, hasProxies, Holds, Reads, BothRead, restCode, tunnelCode, tunnelOf, policyCode, policyOf, Listed, HeardOf};
+ghost use Rattle.message.specs.Codes.{plain};
+ghost use Rattle.message.specs.WritingTheAnswer.{avpBytes, sessionAvp, authAvps, is3xxx, resultAvp, subscriptionAvp, proxyAvps, answerFlags};
+ghost use Rattle.message.specs.Answers.{codeFrom, headBytes, answerHead, Written, Answerable, Answered};
 
 // CALLS THAT GET NO ANSWER
 
@@ -521,3 +524,13 @@ pub fn read(m: &[u8]) -> Heard
     let told = lists(m, &index);
     Heard { told, proxies }
 }
+
+// THE ANSWER
+
+// Which kind of code a call is answered with.
+pub enum Kind {
+    NoAnswer,
+    Plain,
+    Experimental,
+}
+
