@@ -27,7 +27,7 @@ use Rattle.message.specs.Spans.{Holds, hasProxies}
 use Rattle.message.specs.Answers.{codeFrom, headBytes, answerHead, Written, Answerable, Answered}
 use Rattle.message.proofs.Walks.{Passed, passes, up4-least, head-least}
 use Rattle.message.proofs.Heads.{net24-drop}
-use Rattle.message.proofs.Gathering.{walk-end, walk-one, head-is-one, head-is-bad, next-place, slot-named, slot-other, having-is, having-not, ahead}
+use Rattle.message.proofs.Gathering.{walk-end, walk-bad, walk-one, head-is-one, head-is-bad, next-place, slot-named, slot-other, having-is, having-not, ahead}
 use Rattle.message.proofs.Readers.{slot-head}
 
 -- LENGTHS
@@ -227,10 +227,10 @@ unfolding hasProxies proxyAvps pick present
 proxies-none m e =
     by-test (eqb (headerCode m) 0 && eqb (walkCode m) 0)
     (λ t.
-      let h = and-left (eqb (headerCode m) 0) (eqb (walkCode m) 0) t in
-      let w = and-right (eqb (headerCode m) 0) (eqb (walkCode m) 0) t in
-      let f = rw (h, w) at e in
-      rw t (bytes-none (having proxyInfo (avps m)) f))
+    let h = and-left (eqb (headerCode m) 0) (eqb (walkCode m) 0) t in
+    let w = and-right (eqb (headerCode m) 0) (eqb (walkCode m) 0) t in
+    let f = rw (h, w) at e in
+    rw t (bytes-none (having proxyInfo (avps m)) f))
     (λ t. rw t)
 
 pub proxies-start : (m : List ℕ) → true ≡ hasProxies m → proxyAvps m ≡ proxiesFrom m 20
@@ -243,6 +243,12 @@ proxies-start m e =
 pub proxies-end : (m : List ℕ) (from : ℕ) → length m ≤ from → proxiesFrom m from ≡ []
 unfolding proxiesFrom having keep allBytes
 proxies-end m from h = rw (walk-end (drop from m) (rw length-drop (omega arith)))
+
+proxies-stop : (m : List ℕ) (from c : ℕ) → from < length m → headAt m from ≡ Bad c → proxiesFrom m from ≡ []
+unfolding proxiesFrom having keep allBytes
+proxies-stop m from c h b =
+    let f = head-is-bad m from c b in
+    rw (walk-bad (drop from m) (rw length-drop (omega arith)) (omega (arith, f .0, f .1)))
 
 module _ (m : List ℕ) (from : ℕ) (a : Spot) (o : headAt m from ≡ One a) where
   ahead-avps : (ahead m from) .avps ≡ avpOf (drop from m) ∷ (ahead m (a .next)) .avps
@@ -287,11 +293,18 @@ copied-none m room at e h f =
     let p = proxies-start m e in
     record { inside = h; same = refl; fits = omega arith; end = rw p; all = rw p }
 
-pub copied-all : (m before room : List ℕ) (start to from : ℕ) → Copied m before start room to from → length m ≤ from → Written before room start to (proxyAvps m)
-copied-all m before room start to from w h =
-    let e = proxies-end m from h in
+-- nothing is ahead
+copied-empty : (m before room : List ℕ) (start to from : ℕ) → Copied m before start room to from → proxiesFrom m from ≡ [] → Written before room start to (proxyAvps m)
+copied-empty m before room start to from w e =
     let n : length (proxiesFrom m from) ≡ 0 = rw e in
     record { place = omega (arith, w .end, n); bytes-put = sym (put-nothing room to) ∙ rw e at (w .all) }
+
+pub copied-stop : (m before room : List ℕ) (start to from c : ℕ) → Copied m before start room to from → from < length m → headAt m from ≡ Bad c
+    → Written before room start to (proxyAvps m)
+copied-stop m before room start to from c w h b = copied-empty m before room start to from w (proxies-stop m from c h b)
+
+pub copied-all : (m before room : List ℕ) (start to from : ℕ) → Copied m before start room to from → length m ≤ from → Written before room start to (proxyAvps m)
+copied-all m before room start to from w h = copied-empty m before room start to from w (proxies-end m from h)
 
 module _ (m before room : List ℕ) (start to from : ℕ) (a : Spot) (w : Copied m before start room to from) (o : headAt m from ≡ One a) where
   pub copied-over : (a .slot ≡ 9 → ⊥) → Copied m before start room to (a .next)
@@ -333,15 +346,15 @@ bytes-walk (suc k) n s =
     by-test (eqb (length s) 0)
     (λ z. rw z (omega arith))
     (λ z.
-      by-test (eqb (avpCode s) 0)
-      (λ t.
-        let p : Passed s = passes s (eqb-true (avpCode s) 0 t) in
-        let r = bytes-walk k n (drop (up4 (avpLength s)) s) in
-        let r2 : length (allBytes (having n ((walkUpTo k (drop (up4 (avpLength s)) s)) .avps))) ≤ length s - up4 (avpLength s) = rw length-drop at r in
-        by-test (sameName n ((avpOf s) .name))
-        (λ u. rw (z, t, u) (rw (length-append, bytes-length s p) (omega (arith, p .whole))))
-        (λ u. rw (z, t, u) (omega (arith, p .whole))))
-      (λ t. rw (z, t) (omega arith)))
+    by-test (eqb (avpCode s) 0)
+    (λ t.
+    let p : Passed s = passes s (eqb-true (avpCode s) 0 t) in
+    let r = bytes-walk k n (drop (up4 (avpLength s)) s) in
+    let r2 : length (allBytes (having n ((walkUpTo k (drop (up4 (avpLength s)) s)) .avps))) ≤ length s - up4 (avpLength s) = rw length-drop at r in
+    by-test (sameName n ((avpOf s) .name))
+    (λ u. rw (z, t, u) (rw (length-append, bytes-length s p) (omega (arith, p .whole))))
+    (λ u. rw (z, t, u) (omega (arith, p .whole))))
+    (λ t. rw (z, t) (omega arith)))
 
 pub proxies-most : (m : List ℕ) → 20 ≤ length m → length (proxyAvps m) ≤ length m - 20
 unfolding proxyAvps pick avps walk
