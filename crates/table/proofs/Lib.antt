@@ -10,3 +10,4 @@ pub mod Bits
 pub mod Line
 pub mod Accesses
 pub mod Tested
+pub mod WorkedCases

@@ -19,7 +19,8 @@ pub struct Sums {
     pub second: u32,
 }
 
-// Fletcher-16 over the 510 bytes of a block that come before its sums.
+// Fletcher-16 over the 510 bytes of a block that come before its sums. Both plain sums fit, so that one remainder each,
+// at the end, is enough.
 pub fn sums_of(s: &[u8]) -> Sums
     requires { ⌜ length (now s) ≡ 510 ⌝ }
     ensures { λ r. ⌜ (r .second ∷ r .first ∷ [] ≡ sums (now (s .entry))) × (r .first < 255) × (r .second < 255) ⌝ }
@@ -28,13 +29,13 @@ pub fn sums_of(s: &[u8]) -> Sums
     let mut b: u32 = 0;
     let mut i: usize = 0;
     while i < s.len() {
-        a = (a + octets::wide(s[i])) % 255;
-        b = (b + a) % 255;
+        a += octets::wide(s[i]);
+        b += a;
         i += 1;
     }
     Sums {
-        first: a,
-        second: b,
+        first: a % 255,
+        second: b % 255,
     }
 }
 
@@ -90,14 +91,14 @@ pub fn lookup(t: &[u8], name: &[u8]) -> RowFound
     requires { ⌜ tableNumber (now t) ≡ 0 ⌝ }
     ensures { λ r. ⌜ (found r ≡ lookup (now (t .entry)) (now (name .entry))) × (rowEnd r ≤ length (now (t .entry))) ⌝ }
 {
-    let mut i: usize = 0;
+    let mut n: usize = 0;
     let mut at: usize = 0;
     while at < t.len() {
         let end = at + 4608;
         if is_row_of(&t[at..end], name) {
-            return RowFound::At(i);
+            return RowFound::At(n);
         }
-        i += 1;
+        n += 1;
         at = end;
     }
     RowFound::Nothing

@@ -1,5 +1,10 @@
 -- The clauses of a place in use in order; each way out is the first that fails.
+use mathlib.Core.Path.{_≡_}
+use mathlib.Core.Bool.{false, true}
+use lib.ListN.{getD}
+use lib.Dec.{eqb, leb}
 use borrow.Author.Needs.{needs}
+use Rattle.octets.specs.Choice.{pick}
 use Rattle.table.specs.RowTests.{accessSound}
 use Rattle.table.proofs.Tests.{fails, passes-on}
 use Rattle.table.proofs.Form.{access-form}
@@ -28,11 +33,13 @@ policy-marked-requires c κs = search needs
 returns-2 : tie.Need-returns-2
 unfolding accessSound
 returns-2 c =
-    let access-form-was = c .before .before .before .before .before .access-form in
-    let test1 = c .before .before .before .before .if1 in
+    let given = c .before .before .before .before .before .before .before .args in
     let policy-marked-was = c .before .policy-marked in
     let test2 = c .if2 in
-    rw (passes-on (access-form-was .ensures) (test1 .left), fails (policy-marked-was .ensures) (test2 .taken))
+    let access-form-was = c .before .before .before .before .before .access-form in
+    let test1 = c .before .before .before .before .if1 in
+    let marked : eqb (getD (given .b .now) 4 0) (pick (leb 1 (getD (given .b .now) 5 0)) 1 0) ≡ false = fails (policy-marked-was .ensures) (test2 .taken) in
+    rw (passes-on (access-form-was .ensures) (test1 .left), marked)
 
 shared-slice-read-is-within : tie.Need-shared-slice-read-is-within
 shared-slice-read-is-within c = search needs
@@ -43,13 +50,15 @@ is-within-requires c κs = search needs
 returns-3 : tie.Need-returns-3
 unfolding accessSound
 returns-3 c =
-    let access-form-was = c .before .before .before .before .before .before .before .before .access-form in
-    let test1 = c .before .before .before .before .before .before .before .if1 in
+    let given = c .before .before .before .before .before .before .before .before .before .before .args in
     let policy-marked-was = c .before .before .before .before .policy-marked in
     let test2 = c .before .before .before .if2 in
+    let access-form-was = c .before .before .before .before .before .before .before .before .access-form in
+    let test1 = c .before .before .before .before .before .before .before .if1 in
     let is-within-was = c .before .is-within in
     let test3 = c .if3 in
-    rw (passes-on (access-form-was .ensures) (test1 .left), passes-on (policy-marked-was .ensures) (test2 .left), fails (is-within-was .ensures) (test3 .taken))
+    let marked : eqb (getD (given .b .now) 4 0) (pick (leb 1 (getD (given .b .now) 5 0)) 1 0) ≡ true = passes-on (policy-marked-was .ensures) (test2 .left) in
+    rw (passes-on (access-form-was .ensures) (test1 .left), marked, fails (is-within-was .ensures) (test3 .taken))
 
 block-sums-agree-requires : tie.Need-block-sums-agree-requires
 block-sums-agree-requires c κs = search needs
@@ -57,14 +66,16 @@ block-sums-agree-requires c κs = search needs
 returns-4 : tie.Need-returns-4
 unfolding accessSound
 returns-4 c =
-    let access-form-was = c .before .before .before .before .before .before .before .before .before .access-form in
-    let test1 = c .before .before .before .before .before .before .before .before .if1 in
+    let given = c .before .before .before .before .before .before .before .before .before .before .before .args in
     let policy-marked-was = c .before .before .before .before .before .policy-marked in
     let test2 = c .before .before .before .before .if2 in
+    let access-form-was = c .before .before .before .before .before .before .before .before .before .access-form in
+    let test1 = c .before .before .before .before .before .before .before .before .if1 in
     let is-within-was = c .before .before .is-within in
     let test3 = c .before .if3 in
     let block-sums-agree-was = c .block-sums-agree in
-    rw (passes-on (access-form-was .ensures) (test1 .left), passes-on (policy-marked-was .ensures) (test2 .left), passes-on (is-within-was .ensures) (test3 .left)) (block-sums-agree-was .ensures)
+    let marked : eqb (getD (given .b .now) 4 0) (pick (leb 1 (getD (given .b .now) 5 0)) 1 0) ≡ true = passes-on (policy-marked-was .ensures) (test2 .left) in
+    rw (passes-on (access-form-was .ensures) (test1 .left), marked, passes-on (is-within-was .ensures) (test3 .left)) (block-sums-agree-was .ensures)
 
 pub access-sound-spec : {M : Type 1} → statement M
 access-sound-spec =

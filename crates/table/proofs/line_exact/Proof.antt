@@ -76,7 +76,8 @@ returns-2 c =
     let test2 = c .if2 in
     let this : getD (orderLine (given .r .now)) (loop-was .i) 0 ≡ long-was .result = line-at (given .r .now) (loop-was .i) pre-was (omega arith) ∙ sym (long-was .ensures .0) in
     let low : 1 ≤ long-was .result = omega (arith, line-low (given .r .now) (loop-was .i) pre-was (omega arith), long-was .ensures .0) in
-    let set-already : eqb (usedBits (take (loop-was .i) (orderLine (given .r .now))) / 2 ^ (long-was .result - 1) % 2) 1 ≡ true = rw (loop-was .inv .3) at (sym (in-use-was .ensures) ∙ test2 .taken) in
+    let was : eqb (loop-was .used / 2 ^ (long-was .result - 1) % 2) 1 ≡ true = sym (in-use-was .ensures) ∙ test2 .taken in
+    let set-already : eqb (usedBits (take (loop-was .i) (orderLine (given .r .now))) / 2 ^ (long-was .result - 1) % 2) 1 ≡ true = rw (loop-was .inv .3) at was in
     line-twice (given .r .now) (loop-was .i) (omega arith) (rw this (sym (used-bit (take (loop-was .i) (orderLine (given .r .now))) (long-was .result) low (omega arith)) ∙ set-already))
 
 with-place-requires : tie.Need-with-place-requires Inv-loop μ-loop

@@ -1,11 +1,12 @@
 -- What is left to test is the same test.
 use mathlib.Core.Path.{_∙_, _≡_, sym}
+use mathlib.Core.Bool.{false, not, true}
 use mathlib.Core.List.{List, []}
-use Prim.Native.Nat.{_-_, _≤_, ℕ}
+use Prim.Native.Nat.{_+_, _-_, _≤_, ℕ}
 use native.Mathlib.Omega.{arith}
-use lib.ListN.{drop}
+use lib.ListN.{drop, getD}
 use borrow.Author.Needs.{needs}
-use Rattle.octets.specs.Lists.{distinct}
+use Rattle.octets.specs.Lists.{distinct, every}
 use Rattle.octets.specs.Texts.{same}
 use Rattle.table.specs.Soundness.{sessions}
 use Rattle.table.specs.TheTable.{readRow}
@@ -36,11 +37,12 @@ returns : tie.Need-returns Inv-loop μ-loop
 returns c =
     let given = c .before .before .before .before .before .before .args in
     let loop-was = c .before .before .before .loop in
-    let accesses-in-use-was = c .before .before .before .before .accesses-in-use in
     let session-once-was = c .before .session-once in
     let test1 = c .if1 in
+    let accesses-in-use-was = c .before .before .before .before .accesses-in-use in
     let all : List (List ℕ) = sessions ((readRow (given .r .now)) .accesses) in
-    sym (distinct-turn [] same all (loop-was .i) (omega (arith, length-sessions (given .r .now), accesses-in-use-was .ensures .0)) ∙ rw (fails (session-once-was .ensures) (test1 .taken))) ∙ loop-was .inv .1
+    let said : every (λ y. not (same (getD all (loop-was .i) []) y)) (drop (loop-was .i + 1) all) ≡ false = fails (session-once-was .ensures) (test1 .taken) in
+    sym (distinct-turn [] same all (loop-was .i) (omega (arith, length-sessions (given .r .now), accesses-in-use-was .ensures .0)) ∙ rw said) ∙ loop-was .inv .1
 
 add-i : tie.Need-add-i Inv-loop μ-loop
 add-i c = search needs
@@ -52,11 +54,12 @@ loop-again : tie.Need-loop-again Inv-loop μ-loop
 loop-again c =
     let given = c .before .before .before .before .before .before .args in
     let loop-was = c .before .before .before .loop in
-    let accesses-in-use-was = c .before .before .before .before .accesses-in-use in
     let session-once-was = c .before .session-once in
     let test1 = c .if1 in
+    let accesses-in-use-was = c .before .before .before .before .accesses-in-use in
     let all : List (List ℕ) = sessions ((readRow (given .r .now)) .accesses) in
-    (omega arith, sym (distinct-turn [] same all (loop-was .i) (omega (arith, length-sessions (given .r .now), accesses-in-use-was .ensures .0)) ∙ rw (passes-on (session-once-was .ensures) (test1 .left))) ∙ loop-was .inv .1)
+    let said : every (λ y. not (same (getD all (loop-was .i) []) y)) (drop (loop-was .i + 1) all) ≡ true = passes-on (session-once-was .ensures) (test1 .left) in
+    (omega arith, sym (distinct-turn [] same all (loop-was .i) (omega (arith, length-sessions (given .r .now), accesses-in-use-was .ensures .0)) ∙ rw said) ∙ loop-was .inv .1)
 
 returns-2 : tie.Need-returns-2 Inv-loop μ-loop
 returns-2 c =
