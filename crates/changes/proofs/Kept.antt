@@ -1,33 +1,31 @@
 -- What the changes and the set-up operations keep: the length of a row, whose it is, every other row, and that it is sound.
 use mathlib.Core.Path.{_≡_, refl, sym, ap, _∙_}
-use mathlib.Core.Bool.{Bool, true, false, not, _&&_}
+use mathlib.Core.Bool.{Bool, true}
 use mathlib.Core.List.{List, [], _∷_, _++_}
-use Prim.Native.Nat.{ℕ, zero, suc, _+_, _-_, _*_, _/_, _%_, _≤_, _<_}
+use Prim.Native.Nat.{ℕ, zero, suc, _+_, _-_, _*_, _/_, _≤_, _<_}
 use native.Mathlib.Omega.{arith}
 use borrow.Author.Tests.{eqb-false, eqb-true, ltb-false, ltb-true}
 use lib.Dec.{eqb, ltb}
-use lib.ListN.{length, take, drop, getD, length-append, length-drop, length-take}
-use lib.Seq.{drop-append-le, drop-at, drop-drop, getD-take, length-take-le, take-append-le, take-at, take-take}
-use Rattle.octets.specs.Choice.{pick, within}
-use Rattle.octets.specs.Lists.{every, sumOf}
-use Rattle.octets.specs.Texts.{allZero, filled, part, put, same, zeros}
+use lib.ListN.{length, take, drop, getD}
+use lib.Seq.{drop-at, drop-drop, getD-take, length-take-le, take-at}
+use Rattle.octets.specs.Choice.{pick}
+use Rattle.octets.specs.Lists.{sumOf}
+use Rattle.octets.specs.Texts.{allZero, filled, part, put, zeros}
 use Rattle.octets.proofs.Choice.{by-pick, first-passes, others-pass, passed}
-use Rattle.octets.proofs.Lists.{by-test, same-refl}
-use Rattle.octets.proofs.Texts.{length-part, length-put, length-zeros}
-use Rattle.table.specs.Soundness.{isName, labels, limits, sameLabel, sound}
-use Rattle.table.specs.TheTable.{Entry, Found, Subscriber, cutInRows, firstRow, isFound, isRowOf, later, lookup, nothing, readRow, row, rowAt, rowBytes, rowLength, rows, tableNumber, withRow}
+use Rattle.octets.proofs.Lists.{by-test}
+use Rattle.octets.proofs.Texts.{length-put}
+use Rattle.table.specs.Soundness.{isName, limits, sound}
+use Rattle.table.specs.TheTable.{Entry, Found, Subscriber, cutInRows, firstRow, isRowOf, later, lookup, nothing, readRow, row, rowAt, rowBytes, rows, tableNumber, withRow}
 use Rattle.table.proofs.Bytes.{drop-past, length-row}
 use Rattle.table.proofs.Form.{part-take, take-zeros}
 use Rattle.table.proofs.Good.{goodEntry}
 use Rattle.table.proofs.Sound.{row-is}
 use Rattle.changes.specs.Changes.{freed, opened, routed}
 use Rattle.changes.specs.SetUp.{SetUp, add, addAt, clear, enter, enterNumber, entryNumber, leaving, named, withEntry, withRowAt}
-use Rattle.changes.proofs.Blocks.{zeros-drop}
 use Rattle.changes.proofs.Keep.{changed, sound-add, sound-new}
-use Rattle.changes.proofs.Rows.{row-size}
 use Rattle.changes.proofs.SetUps.{Passed, entry-passed}
 use Rattle.changes.proofs.Stays.{MayEnter}
-use Rattle.changes.proofs.Steps.{row-name}
+use Rattle.changes.proofs.Steps.{drop-zeros, row-name}
 
 -- A ROW
 
@@ -154,7 +152,7 @@ module _ (number : ℕ) (t after : List ℕ) (j : ℕ) where
 -- CLEARING: every row is wholly zero.
 
 zero-part : (n a m : ℕ) → a + m ≤ n → part (zeros n) a m ≡ zeros m
-zero-part n a m h = ap (take m) (zeros-drop a n (omega arith)) ∙ take-zeros m (n - a) (omega arith)
+zero-part n a m h = ap (take m) (drop-zeros a n) ∙ take-zeros m (n - a) (omega arith)
 
 pub clear-zero : (t : List ℕ) (j : ℕ) → tableNumber t ≡ 0 → 4608 * j + 4608 ≤ length t → rowAt ((clear t) .table) j ≡ zeros 4608
 unfolding clear rowAt

@@ -1,12 +1,12 @@
 -- The set-up operations: what each refusal and each success leaves.
 use mathlib.Core.Path.{_≡_, refl, sym, ap, _∙_}
 use mathlib.Core.Bool.{Bool, true, false, not, _&&_}
-use mathlib.Core.List.{List, [], _∷_, _++_}
-use Prim.Native.Nat.{ℕ, zero, suc, _+_, _-_, _*_, _/_, _%_, _≤_, _<_}
+use mathlib.Core.List.{List, [], _∷_}
+use Prim.Native.Nat.{ℕ, _+_, _-_, _/_, _%_, _≤_, _<_}
 use native.Mathlib.Omega.{arith}
 use borrow.Author.Tests.{eq-eqb, le-leb, le-ltb, leb-true, lt-leb, lt-ltb, ltb-true, ne-eqb}
 use lib.Dec.{eqb, leb, ltb}
-use lib.ListN.{length, take, drop, getD}
+use lib.ListN.{length, take, getD}
 use lib.Seq.{getD-take}
 use Rattle.octets.specs.Choice.{firstOf, pick, require, within}
 use Rattle.octets.specs.Lists.{every, sumOf}
@@ -17,7 +17,7 @@ use Rattle.table.specs.Soundness.{entriesForm, isDigit, isName, labels, limits,
 use Rattle.table.specs.TheTable.{Entry, Found, firstRow, isFound, lookup, nothing, readEntries, readRow, row, rowAt, rowBytes, rowLength, rows, tableNumber, withRow}
 use Rattle.table.proofs.Form.{length-read, part-take}
 use Rattle.table.proofs.Sound.{clauses, says-good}
-use Rattle.changes.specs.SetUp.{SetUp, add, addAt, clear, enter, enterNumber, entryNumber, leaving, left, named, withEntry, withRowAt}
+use Rattle.changes.specs.SetUp.{add, addAt, clear, enter, enterNumber, entryNumber, leaving, left, named, withEntry, withRowAt}
 
 -- A NUMBER AND WHAT IT LEAVES
 

@@ -222,9 +222,9 @@ pub fn route(table: &mut [u8], i: usize, k: usize, policy: &[u8])
 pub fn clear(table: &mut [u8]) -> u32
     ensures { λ r. ⌜ left r (now (table .exit)) ≡ clear (now (table .entry)) ⌝ }
 {
-    let n = table::table_number(table);
-    if n != 0 {
-        return n;
+    let number = table::table_number(table);
+    if number != 0 {
+        return number;
     }
     octets::clear(table);
     0

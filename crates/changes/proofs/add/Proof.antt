@@ -1,23 +1,16 @@
-use Rattle.table.specs.Answers.{found, rowEnd}
-use Rattle.table.specs.TheTable.{Entry, lookup, readRow, row, rowAt}
-use Rattle.changes.specs.SetUp.{entryNumber}
-use Rattle.changes.proofs.Rows.{lent-row}
-use Rattle.changes.proofs.SetUps.{Passed, add-1, add-12, add-done, add-refused, entry-passed, label-fits}
-use mathlib.Core.Path.{_≡_, refl, sym, ap, _∙_}
-use mathlib.Core.List.{List, [], _∷_, _++_}
-use Prim.Native.Nat.{ℕ, suc, _+_, _-_, _*_, _/_, _%_, _^_, _<_, _≤_}
+-- One law of SetUps for each way out: `add-1`, `add-12`, `add-refused`, `add-done`.
+use mathlib.Core.Path.{refl, _≡_, sym, ap, _∙_}
+use mathlib.Core.List.{List}
+use Prim.Native.Nat.{_*_, ℕ, _-_}
 use native.Mathlib.Omega.{arith}
-use native.Mathlib.Numerals.{add-one}
-use lib.ListN.{length, getD, take, drop, set, length-set, length-append, length-take, length-drop}
 use borrow.Author.Needs.{needs}
+use Rattle.table.specs.Answers.{found, rowEnd}
+use Rattle.table.specs.TheTable.{Entry, lookup, rowAt}
+use Rattle.table.proofs.Rows.{lent-row}
+use Rattle.changes.specs.SetUp.{entryNumber}
+use Rattle.changes.proofs.SetUps.{Passed, add-1, add-12, add-done, add-refused, entry-passed, label-fits}
 use Rattle.changes.proofs.add.Statement.{statement}
 use Rattle.changes.proofs.add.Tie as tie
-use Rattle.changes.proofs.add.Reads as reads
-use Rattle.changes.proofs.add.Lts as lts
-use Rattle.changes.proofs.add_entry.Reads as add-entry-reads
-use Rattle.changes.proofs.entry_number.Reads as entry-number-reads
-use Rattle.table.proofs.lookup.Reads as lookup-reads
-use Rattle.table.proofs.table_number.Reads as table-number-reads
 
 table-number-requires : tie.Need-table-number-requires
 table-number-requires c κs = search needs
@@ -77,7 +70,7 @@ returns-3 c = let start = c .before .before .before .before .before .before .bef
     let number = c .before .entry-number in
     add-refused t (start .args .name .now) e i (number .result) (sym (c .before .before .before .before .before .before .before .before .before .before .table-number .ensures) ∙ c .before .before .before .before .before .before .before .before .before .if1 .left)
     (sym (c .before .before .before .before .before .before .before .lookup .ensures .0) ∙ ap found (c .before .before .before .before .before .i .given .1))
-    (number .ensures ∙ ap (λ (r : List ℕ). entryNumber r e) (lent-row t i))
+    (number .ensures ∙ ap (λ (r : List ℕ). entryNumber r e) (lent-row t (4608 * i) i refl))
     (c .if2 .taken)
 
 add-entry-requires : tie.Need-add-entry-requires
@@ -86,7 +79,7 @@ add-entry-requires c κs = let start = c .before .before .before .before .before
     let i = c .before .before .before .before .before .before .i .given .0 .0 in
     let e : Entry = record { label = start .args .label .now; flags = start .args .flags; limit = start .args .limit } in
     let number = c .before .before .entry-number in
-    let none : entryNumber (rowAt t i) e ≡ 0 = sym (number .ensures ∙ ap (λ (r : List ℕ). entryNumber r e) (lent-row t i)) ∙ c .before .if2 .left in
+    let none : entryNumber (rowAt t i) e ≡ 0 = sym (number .ensures ∙ ap (λ (r : List ℕ). entryNumber r e) (lent-row t (4608 * i) i refl)) ∙ c .before .if2 .left in
     let all : Passed (rowAt t i) e = entry-passed (rowAt t i) e none in
     (omega (arith, c .before .before .before .before .before .before .before .before .lookup .ensures .1, ap rowEnd (c .before .before .before .before .before .before .i .given .1)), all .is-sound, all .room, label-fits e (all .fine))
 
@@ -101,7 +94,7 @@ returns-4 c = let start = c .before .before .before .before .before .before .bef
     let number = c .before .before .before .before .before .entry-number in
     add-done t (start .args .name .now) e i (number .result) (c .before .before .add-entry .last .0) (sym (c .before .before .before .before .before .before .before .before .before .before .before .before .before .before .table-number .ensures) ∙ c .before .before .before .before .before .before .before .before .before .before .before .before .before .if1 .left)
     (sym (c .before .before .before .before .before .before .before .before .before .before .before .lookup .ensures .0) ∙ ap found (c .before .before .before .before .before .before .before .before .before .i .given .1))
-    (number .ensures ∙ ap (λ (r : List ℕ). entryNumber r e) (lent-row t i))
+    (number .ensures ∙ ap (λ (r : List ℕ). entryNumber r e) (lent-row t (4608 * i) i refl))
     (c .before .before .before .before .if2 .left)
     (c .before .before .add-entry .ensures)
 

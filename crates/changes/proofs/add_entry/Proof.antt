@@ -1,19 +1,17 @@
+-- The row that is lent comes back: `back-row` of Rows.
+use mathlib.Core.Path.{refl, ap, _∙_}
+use mathlib.Core.List.{List}
+use Prim.Native.Nat.{_*_, ℕ, _-_}
+use native.Mathlib.Omega.{arith}
+use lib.ListN.{length}
+use borrow.Author.Needs.{needs}
 use Rattle.table.specs.Soundness.{sound}
 use Rattle.table.specs.TheTable.{readRow}
+use Rattle.table.proofs.Rows.{lent-row}
 use Rattle.changes.specs.SetUp.{withEntry}
-use Rattle.changes.proofs.Rows.{back-row, lent-row}
-use mathlib.Core.Path.{_≡_, refl, sym, ap, _∙_}
-use mathlib.Core.List.{List, [], _∷_, _++_}
-use Prim.Native.Nat.{ℕ, suc, _+_, _-_, _*_, _/_, _%_, _^_, _<_, _≤_}
-use native.Mathlib.Omega.{arith}
-use native.Mathlib.Numerals.{add-one}
-use lib.ListN.{length, getD, take, drop, set, length-set, length-append, length-take, length-drop}
-use borrow.Author.Needs.{needs}
+use Rattle.changes.proofs.Rows.{back-row}
 use Rattle.changes.proofs.add_entry.Statement.{statement}
 use Rattle.changes.proofs.add_entry.Tie as tie
-use Rattle.changes.proofs.add_entry.Reads as reads
-use Rattle.changes.proofs.add_entry.Lts as lts
-use Rattle.changes.proofs.append_entry.Reads as append-entry-reads
 
 mul-a : tie.Need-mul-a
 mul-a c = search needs
@@ -32,7 +30,7 @@ part-append-entry-end c = search needs
 
 append-entry-requires : tie.Need-append-entry-requires
 append-entry-requires c κs = let start = c .before .before .before in
-    let lent = lent-row (start .args .table .now) (start .args .i) in
+    let lent = lent-row (start .args .table .now) (4608 * (start .args .i)) (start .args .i) refl in
     (ap sound lent ∙ start .pre .1, omega (arith, ap (λ (r : List ℕ). length ((readRow r) .entries)) lent, start .pre .2), start .pre .3)
 
 same-length : tie.Need-same-length

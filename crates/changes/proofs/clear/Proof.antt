@@ -1,17 +1,9 @@
-use Rattle.changes.proofs.SetUps.{clear-done, clear-refused}
-use mathlib.Core.Path.{_≡_, refl, sym, ap, _∙_}
-use mathlib.Core.List.{List, [], _∷_, _++_}
-use Prim.Native.Nat.{ℕ, suc, _+_, _-_, _*_, _/_, _%_, _^_, _<_, _≤_}
-use native.Mathlib.Omega.{arith}
-use native.Mathlib.Numerals.{add-one}
-use lib.ListN.{length, getD, take, drop, set, length-set, length-append, length-take, length-drop}
+-- Refused by number 1, or every byte zero: `clear-refused` and `clear-done` of SetUps.
+use Prim.Native.Nat.{_-_}
 use borrow.Author.Needs.{needs}
+use Rattle.changes.proofs.SetUps.{clear-done, clear-refused}
 use Rattle.changes.proofs.clear.Statement.{statement}
 use Rattle.changes.proofs.clear.Tie as tie
-use Rattle.changes.proofs.clear.Reads as reads
-use Rattle.changes.proofs.clear.Lts as lts
-use Rattle.octets.proofs.clear.Reads as clear-reads
-use Rattle.table.proofs.table_number.Reads as table-number-reads
 
 table-number-requires : tie.Need-table-number-requires
 table-number-requires c κs = search needs

@@ -1,23 +1,14 @@
+-- One law of SetUps for each number: `enter-1`, `enter-9`, `enter-10`, `enter-11`, and `enter-done`.
+use mathlib.Core.Path.{sym, ap, _∙_}
+use Prim.Native.Nat.{_-_}
+use native.Mathlib.Omega.{arith}
+use borrow.Author.Needs.{needs}
 use Rattle.table.specs.Answers.{found, rowEnd}
 use Rattle.table.proofs.Bytes.{name-length}
 use Rattle.table.proofs.Tests.{fails, passes-on}
 use Rattle.changes.proofs.SetUps.{enter-1, enter-10, enter-11, enter-9, enter-done}
-use mathlib.Core.Path.{_≡_, refl, sym, ap, _∙_}
-use mathlib.Core.List.{List, [], _∷_, _++_}
-use Prim.Native.Nat.{ℕ, suc, _+_, _-_, _*_, _/_, _%_, _^_, _<_, _≤_}
-use native.Mathlib.Omega.{arith}
-use native.Mathlib.Numerals.{add-one}
-use lib.ListN.{length, getD, take, drop, set, length-set, length-append, length-take, length-drop}
-use borrow.Author.Needs.{needs}
 use Rattle.changes.proofs.enter.Statement.{statement}
 use Rattle.changes.proofs.enter.Tie as tie
-use Rattle.changes.proofs.enter.Reads as reads
-use Rattle.changes.proofs.enter.Lts as lts
-use Rattle.changes.proofs.enter_row.Reads as enter-row-reads
-use Rattle.changes.proofs.is_name.Reads as is-name-reads
-use Rattle.table.proofs.first_zero_row.Reads as first-zero-row-reads
-use Rattle.table.proofs.lookup.Reads as lookup-reads
-use Rattle.table.proofs.table_number.Reads as table-number-reads
 
 table-number-requires : tie.Need-table-number-requires
 table-number-requires c κs = search needs

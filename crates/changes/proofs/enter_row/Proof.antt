@@ -1,17 +1,10 @@
+-- The row that is lent comes back: `back-row` of Rows.
+use Prim.Native.Nat.{_-_}
+use borrow.Author.Needs.{needs}
 use Rattle.changes.specs.SetUp.{named}
 use Rattle.changes.proofs.Rows.{back-row}
-use mathlib.Core.Path.{_≡_, refl, sym, ap, _∙_}
-use mathlib.Core.List.{List, [], _∷_, _++_}
-use Prim.Native.Nat.{ℕ, suc, _+_, _-_, _*_, _/_, _%_, _^_, _<_, _≤_}
-use native.Mathlib.Omega.{arith}
-use native.Mathlib.Numerals.{add-one}
-use lib.ListN.{length, getD, take, drop, set, length-set, length-append, length-take, length-drop}
-use borrow.Author.Needs.{needs}
 use Rattle.changes.proofs.enter_row.Statement.{statement}
 use Rattle.changes.proofs.enter_row.Tie as tie
-use Rattle.changes.proofs.enter_row.Reads as reads
-use Rattle.changes.proofs.enter_row.Lts as lts
-use Rattle.changes.proofs.new_row.Reads as new-row-reads
 
 mul-a : tie.Need-mul-a
 mul-a c = search needs

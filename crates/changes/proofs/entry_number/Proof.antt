@@ -1,19 +1,11 @@
+-- An unsound row is 13: `entry-13` of SetUps; the other numbers are those of a sound row.
+use Prim.Native.Nat.{_-_}
+use borrow.Author.Needs.{needs}
 use Rattle.table.specs.TheTable.{Entry}
 use Rattle.table.proofs.Tests.{fails, passes-on}
 use Rattle.changes.proofs.SetUps.{entry-13}
-use mathlib.Core.Path.{_≡_, refl, sym, ap, _∙_}
-use mathlib.Core.List.{List, [], _∷_, _++_}
-use Prim.Native.Nat.{ℕ, suc, _+_, _-_, _*_, _/_, _%_, _^_, _<_, _≤_}
-use native.Mathlib.Omega.{arith}
-use native.Mathlib.Numerals.{add-one}
-use lib.ListN.{length, getD, take, drop, set, length-set, length-append, length-take, length-drop}
-use borrow.Author.Needs.{needs}
 use Rattle.changes.proofs.entry_number.Statement.{statement}
 use Rattle.changes.proofs.entry_number.Tie as tie
-use Rattle.changes.proofs.entry_number.Reads as reads
-use Rattle.changes.proofs.entry_number.Lts as lts
-use Rattle.changes.proofs.next_number.Reads as next-number-reads
-use Rattle.table.proofs.row_sound.Reads as row-sound-reads
 
 row-sound-requires : tie.Need-row-sound-requires
 row-sound-requires c κs = search needs

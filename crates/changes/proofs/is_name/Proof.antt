@@ -1,16 +1,10 @@
-use Rattle.changes.proofs.SetUps.{name-long, name-rest, name-short}
-use mathlib.Core.Path.{_≡_, refl, sym, ap, _∙_}
-use mathlib.Core.List.{List, [], _∷_, _++_}
-use Prim.Native.Nat.{ℕ, suc, _+_, _-_, _*_, _/_, _%_, _^_, _<_, _≤_}
-use native.Mathlib.Omega.{arith}
-use native.Mathlib.Numerals.{add-one}
-use lib.ListN.{length, getD, take, drop, set, length-set, length-append, length-take, length-drop}
+-- The length decides first, then the digits: `name-rest` of SetUps.
+use mathlib.Core.Path.{_∙_}
+use Prim.Native.Nat.{_-_}
 use borrow.Author.Needs.{needs}
+use Rattle.changes.proofs.SetUps.{name-long, name-rest, name-short}
 use Rattle.changes.proofs.is_name.Statement.{statement}
 use Rattle.changes.proofs.is_name.Tie as tie
-use Rattle.changes.proofs.is_name.Reads as reads
-use Rattle.changes.proofs.is_name.Lts as lts
-use Rattle.table.proofs.digits.Reads as digits-reads
 
 returns : tie.Need-returns
 returns c = name-short (c .before .before .args .name .now) (c .if1 .taken)

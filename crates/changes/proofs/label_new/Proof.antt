@@ -1,22 +1,18 @@
+-- What is left to test is the same test; the part lent is the label: `label-lent` of the table's Entries.
 use mathlib.Core.Bool.{not}
+use mathlib.Core.Path.{_≡_, sym, ap, _∙_}
+use mathlib.Core.List.{List, []}
+use Prim.Native.Nat.{ℕ, _-_, _≤_}
+use native.Mathlib.Omega.{arith}
+use lib.ListN.{drop}
+use borrow.Author.Needs.{needs}
 use Rattle.octets.specs.Lists.{every}
 use Rattle.table.specs.Soundness.{labels, sameLabel}
 use Rattle.table.specs.TheTable.{readEntries}
 use Rattle.table.proofs.Tests.{every-end, every-on-true, every-out}
 use Rattle.table.proofs.Entries.{label-lent, label-size, length-labels}
-use mathlib.Core.Path.{_≡_, refl, sym, ap, _∙_}
-use mathlib.Core.List.{List, [], _∷_, _++_}
-use Prim.Native.Nat.{ℕ, suc, _+_, _-_, _*_, _/_, _%_, _^_, _<_, _≤_}
-use native.Mathlib.Omega.{arith}
-use native.Mathlib.Numerals.{add-one}
-use lib.ListN.{length, getD, take, drop, set, length-set, length-append, length-take, length-drop}
-use borrow.Author.Needs.{needs}
 use Rattle.changes.proofs.label_new.Statement.{statement}
 use Rattle.changes.proofs.label_new.Tie as tie
-use Rattle.changes.proofs.label_new.Reads as reads
-use Rattle.changes.proofs.label_new.Lts as lts
-use Rattle.changes.proofs.same_label.Reads as same-label-reads
-use Rattle.octets.proofs.long.Reads as long-reads
 
 abbrev Inv-loop : tie.InvT-loop
 Inv-loop room n label i₀ i = (i ≤ n) × (every (λ l. not (sameLabel l label)) (drop i (labels (readEntries n room))) ≡ every (λ l. not (sameLabel l label)) (labels (readEntries n room)))

@@ -1,19 +1,16 @@
+-- The limits passed and the sum of those behind are the sum of all.
+use mathlib.Core.Path.{_≡_}
+use mathlib.Core.List.{List}
+use Prim.Native.Nat.{ℕ, _+_, _-_, _*_, _<_, _≤_}
+use native.Mathlib.Omega.{arith}
+use lib.ListN.{length, getD, drop}
+use borrow.Author.Needs.{needs}
 use Rattle.octets.specs.Lists.{sumOf}
 use Rattle.table.specs.Soundness.{limits}
 use Rattle.table.specs.TheTable.{readEntries}
 use Rattle.table.proofs.Entries.{length-limits-read, limits-at, sum-end, sum-turn}
-use mathlib.Core.Path.{_≡_, refl, sym, ap, _∙_}
-use mathlib.Core.List.{List, [], _∷_, _++_}
-use Prim.Native.Nat.{ℕ, suc, _+_, _-_, _*_, _/_, _%_, _^_, _<_, _≤_}
-use native.Mathlib.Omega.{arith}
-use native.Mathlib.Numerals.{add-one}
-use lib.ListN.{length, getD, take, drop, set, length-set, length-append, length-take, length-drop}
-use borrow.Author.Needs.{needs}
 use Rattle.changes.proofs.limits_sum.Statement.{statement}
 use Rattle.changes.proofs.limits_sum.Tie as tie
-use Rattle.changes.proofs.limits_sum.Reads as reads
-use Rattle.changes.proofs.limits_sum.Lts as lts
-use Rattle.octets.proofs.wide.Reads as wide-reads
 
 abbrev Inv-loop : tie.InvT-loop
 Inv-loop room n sum₀ i₀ sum i = (i ≤ n) × (sum ≤ 255 * i) × (sum + sumOf (drop i (limits (readEntries n room))) ≡ sumOf (limits (readEntries n room)))

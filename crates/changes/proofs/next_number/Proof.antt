@@ -1,26 +1,17 @@
-use Rattle.table.specs.TheTable.{Entry}
+-- One law of SetUps for each number: `entry-14` to `entry-17`, and `entry-0`.
+use mathlib.Core.Path.{ap, _∙_}
+use Prim.Native.Nat.{ℕ, _-_}
+use native.Mathlib.Omega.{arith}
+use borrow.Author.Needs.{needs}
 use Rattle.octets.specs.Texts.{part}
-use Rattle.table.specs.Soundness.{entriesForm}
 use Rattle.octets.proofs.Texts.{length-part}
+use Rattle.table.specs.TheTable.{Entry}
+use Rattle.table.specs.Soundness.{entriesForm}
 use Rattle.table.proofs.Tests.{fails, passes-on}
 use Rattle.changes.proofs.Rows.{row-size}
 use Rattle.changes.proofs.SetUps.{at-most-four, count-read, entry-0, entry-14, entry-15, entry-16, entry-17, form-read, label-said, sum-said}
-use mathlib.Core.Path.{_≡_, refl, sym, ap, _∙_}
-use mathlib.Core.List.{List, [], _∷_, _++_}
-use Prim.Native.Nat.{ℕ, suc, _+_, _-_, _*_, _/_, _%_, _^_, _<_, _≤_}
-use native.Mathlib.Omega.{arith}
-use native.Mathlib.Numerals.{add-one}
-use lib.ListN.{length, getD, take, drop, set, length-set, length-append, length-take, length-drop}
-use borrow.Author.Needs.{needs}
 use Rattle.changes.proofs.next_number.Statement.{statement}
 use Rattle.changes.proofs.next_number.Tie as tie
-use Rattle.changes.proofs.next_number.Reads as reads
-use Rattle.changes.proofs.next_number.Lts as lts
-use Rattle.changes.proofs.entry_given.Reads as entry-given-reads
-use Rattle.changes.proofs.label_new.Reads as label-new-reads
-use Rattle.changes.proofs.limits_sum.Reads as limits-sum-reads
-use Rattle.octets.proofs.long.Reads as long-reads
-use Rattle.octets.proofs.wide.Reads as wide-reads
 
 entry-given-requires : tie.Need-entry-given-requires
 entry-given-requires c κs = search needs
@@ -31,7 +22,9 @@ returns c = let start = c .before .before .before .before in
     entry-14 (start .args .row .now) e (start .pre) (fails (c .before .entry-given .ensures) (c .if1 .taken))
 
 shared-slice-read-long : tie.Need-shared-slice-read-long
-shared-slice-read-long c = omega (arith, row-size (c .before .before .before .before .before .args .row .now) (c .before .before .before .before .before .pre))
+shared-slice-read-long c =
+    let start = c .before .before .before .before .before in
+    omega (arith, row-size (start .args .row .now) (start .pre))
 
 long-requires : tie.Need-long-requires
 long-requires c κs = search needs
@@ -43,7 +36,9 @@ part-label-new-start : tie.Need-part-label-new-start
 part-label-new-start c = search needs
 
 part-label-new-end : tie.Need-part-label-new-end
-part-label-new-end c = omega (arith, row-size (c .before .before .before .before .before .before .args .row .now) (c .before .before .before .before .before .before .pre))
+part-label-new-end c =
+    let start = c .before .before .before .before .before .before in
+    omega (arith, row-size (start .args .row .now) (start .pre))
 
 label-new-requires : tie.Need-label-new-requires
 label-new-requires c κs = let start = c .before .before .before .before .before .before .before in
@@ -80,7 +75,9 @@ part-limits-sum-start : tie.Need-part-limits-sum-start
 part-limits-sum-start c = search needs
 
 part-limits-sum-end : tie.Need-part-limits-sum-end
-part-limits-sum-end c = omega (arith, row-size (c .before .before .before .before .before .before .before .before .before .before .args .row .now) (c .before .before .before .before .before .before .before .before .before .before .pre))
+part-limits-sum-end c =
+    let start = c .before .before .before .before .before .before .before .before .before .before in
+    omega (arith, row-size (start .args .row .now) (start .pre))
 
 limits-sum-requires : tie.Need-limits-sum-requires
 limits-sum-requires c κs = search needs

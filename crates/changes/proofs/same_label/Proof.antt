@@ -1,16 +1,9 @@
-use Rattle.table.specs.Soundness.{sameLabel}
-use mathlib.Core.Path.{_≡_, refl, sym, ap, _∙_}
-use mathlib.Core.List.{List, [], _∷_, _++_}
-use Prim.Native.Nat.{ℕ, suc, _+_, _-_, _*_, _/_, _%_, _^_, _<_, _≤_}
-use native.Mathlib.Omega.{arith}
-use native.Mathlib.Numerals.{add-one}
-use lib.ListN.{length, getD, take, drop, set, length-set, length-append, length-take, length-drop}
+-- The bytes are compared, which is what `sameLabel` says.
+use Prim.Native.Nat.{_-_}
 use borrow.Author.Needs.{needs}
+use Rattle.table.specs.Soundness.{sameLabel}
 use Rattle.changes.proofs.same_label.Statement.{statement}
 use Rattle.changes.proofs.same_label.Tie as tie
-use Rattle.changes.proofs.same_label.Reads as reads
-use Rattle.changes.proofs.same_label.Lts as lts
-use Rattle.octets.proofs.same_bytes.Reads as same-bytes-reads
 
 same-bytes-requires : tie.Need-same-bytes-requires
 same-bytes-requires c κs = search needs
