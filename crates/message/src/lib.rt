@@ -723,3 +723,28 @@ fn put_header(m: &[u8], code: u32, n: usize, room: &mut [u8])
     octets::put_bytes(room, 0, &head);
     octets::put_bytes(room, 5, &m[5..20]);
 }
+
+// The answer of a kind and a code at the start of the room: its length. What stands behind it stays.
+pub fn answer(
+    m: &[u8],
+    host: &[u8],
+    realm: &[u8],
+    kind: Kind,
+    code: u32,
+    user: Span,
+    proxies: bool,
+    room: &mut [u8],
+) -> usize
+    requires { ⌜ Answerable (now m) (now host) (now realm) code user proxies (now room) ⌝ }
+    ensures { λ r. ⌜ Answered (now (m .entry)) (now (host .entry)) (now (realm .entry)) (codeFrom kind code) r (now (room .entry)) (now (room .exit)) ⌝ }
+{
+    let a = put_session(m, room);
+    let b = put_auth(m, code, room, a);
+    let c = put_result(kind, code, room, b);
+    let d = put_avp(room, c, 264, host);
+    let e = put_avp(room, d, 296, realm);
+    let f = put_subscription(m, code, user, room, e);
+    let size = put_proxies(m, proxies, room, f);
+    put_header(m, code, size, room);
+    size
+}
