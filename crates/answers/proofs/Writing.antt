@@ -14,21 +14,22 @@ use Rattle.octets.specs.Texts.{part, zeros, put}
 use Rattle.octets.specs.Numbers.{net24, net32, in24, in32, up4}
 use Rattle.octets.proofs.Lists.{by-test, and-left, and-right, both, in-within, within-low, within-high}
 use Rattle.octets.proofs.Texts.{length-zeros, length-part, length-put, put-then, put-nothing}
 use Rattle.message.specs.Codes.{Code, none, plain, experimental, numberOf}
 use Rattle.message.specs.ReadingAMessage.{command, flags, headerCode, Name, sameName, Avp, Walk, behind, walkOne, walkUpTo, walk, headLength, avpLength, avpCode, avpOf, avps, walkCode, having, present, valueOf, sessionId, userName, proxyInfo}
 use Rattle.message.specs.WritingTheAnswer.{avpBytes, sessionAvp, is3xxx, authAvps, resultAvp, subscriptionAvp, allBytes, proxyAvps, answerBody, answerFlags, answer, answerRoom}
 use Rattle.message.specs.declared.Spot.{Spot}
 use Rattle.message.specs.declared.Span.{Span}
 use Rattle.message.specs.declared.Kind.{Kind}
 use Rattle.message.specs.declared.Kind.the-variants.{NoAnswer, Plain, Experimental}
 use Rattle.message.specs.declared.Head.the-variants.{One, Bad}
 use Rattle.message.specs.Positions.{names, nameAt, headOf, slotOf, spotAt, headAt}
 use Rattle.message.specs.Spans.{Holds, hasProxies}
-use Rattle.message.specs.Answers.{codeFrom, headBytes, answerHead, Written, Answerable, Answered}
+use Rattle.message.specs.Kinds.{codeFrom}
+use Rattle.answers.specs.Answers.{headBytes, answerHead, Written, Answerable, Answered}
 use Rattle.message.proofs.Walks.{Passed, passes, up4-least, head-least}
 use Rattle.message.proofs.Heads.{net24-drop}
 use Rattle.message.proofs.Gathering.{walk-end, walk-bad, walk-one, head-is-one, head-is-bad, next-place, slot-named, slot-other, having-is, having-not, ahead}
 use Rattle.message.proofs.Readers.{slot-head}
 
 -- LENGTHS
 

@@ -3,12 +3,12 @@ use mathlib.Core.Path.{_≡_, _∙_}
 use Prim.Native.Nat.{_≤_}
 use native.Mathlib.Omega.{arith}
 use lib.ListN.{length}
 use Rattle.message.specs.Codes.{plain, numberOf}
 use Rattle.message.specs.WritingTheAnswer.{avpBytes, sessionAvp, authAvps, resultAvp, subscriptionAvp, proxyAvps, answerBody}
-use Rattle.message.specs.Answers.{codeFrom}
-use Rattle.message.proofs.Writing.{session-most, auth-most, result-most, avp-most, subscription-most, length-body, auth-from, subscription-from, head-from, user-short, answerable-fits, written-seven, answer-put}
-use Rattle.message.proofs.answer.Statement.{statement}
-use Rattle.message.proofs.answer.Tie as tie
+use Rattle.message.specs.Kinds.{codeFrom}
+use Rattle.answers.proofs.Writing.{session-most, auth-most, result-most, avp-most, subscription-most, length-body, auth-from, subscription-from, head-from, user-short, answerable-fits, written-seven, answer-put}
+use Rattle.answers.proofs.answer.Statement.{statement}
+use Rattle.answers.proofs.answer.Tie as tie
 
 one : (p : tie.After-put-session) → (p .put-session .result ≤ 156) × (length (p .put-session .last .1 .0) ≡ length (p .before .before .before .before .before .before .args .room .now))
 one p = (omega (arith, p .put-session .ensures .place, session-most (p .before .before .before .before .before .before .args .m .now)), p .put-session .kept .1 .0)
