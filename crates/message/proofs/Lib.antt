@@ -3,4 +3,5 @@ pub mod Heads
 pub mod Gathering
 pub mod Readers
 pub mod Listing
-pub mod Writing
+pub mod Lengths
+pub mod WorkedCases

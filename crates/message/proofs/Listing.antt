@@ -96,7 +96,7 @@ found-there m f Absent r o = sym (r .absent refl)
 found-there m f (Code n) r o = ⊎-elim (λ (e : _≡_ {A = ℕ} 2 0). absurd (omega arith)) (λ (e : _≡_ {A = ℕ} 2 1). absurd (omega arith)) o
 
 -- a number that passes is in its range
-tested-in : (n : Name) (low high : ℕ) (xs : List Avp) → testedAs (numberField n low high) xs ≡ 0 → within low high (net32 (firstValue xs) 0) ≡ true
+pub tested-in : (n : Name) (low high : ℕ) (xs : List Avp) → testedAs (numberField n low high) xs ≡ 0 → within low high (net32 (firstValue xs) 0) ≡ true
 unfolding testedAs numberField firstValue numberIn require
 tested-in n low high [] e = absurd (omega arith)
 tested-in n low high (a ∷ []) e =

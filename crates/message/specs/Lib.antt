@@ -5,4 +5,4 @@ pub mod WritingTheAnswer
 pub mod WorkedCases
 pub mod Positions
 pub mod Spans
-pub mod Answers
+pub mod Kinds

@@ -7,11 +7,11 @@ use borrow.Author.Needs.{needs}
 use Rattle.octets.specs.Texts.{part}
 use Rattle.octets.specs.Numbers.{in24}
 use Rattle.octets.proofs.Texts.{put-then}
 use Rattle.message.specs.Codes.{plain}
 use Rattle.message.specs.WritingTheAnswer.{answerFlags}
-use Rattle.message.specs.Answers.{answerHead}
-use Rattle.message.proofs.put_header.Statement.{statement}
-use Rattle.message.proofs.put_header.Tie as tie
+use Rattle.answers.specs.Answers.{answerHead}
+use Rattle.answers.proofs.put_header.Statement.{statement}
+use Rattle.answers.proofs.put_header.Tie as tie
 
 cast-t8 : tie.Need-cast-t8
 cast-t8 c = search needs

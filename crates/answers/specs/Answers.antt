@@ -6,23 +6,11 @@ use Prim.Native.Nat.{ℕ, _+_, _≤_}
 use lib.ListN.{length}
 use Rattle.octets.specs.Texts.{part, put}
 use Rattle.octets.specs.Numbers.{in24, in32}
-use Rattle.message.specs.Codes.{Code, none, plain, experimental, kindOf}
+use Rattle.message.specs.Codes.{Code}
 use Rattle.message.specs.ReadingAMessage.{command, userName}
 use Rattle.message.specs.WritingTheAnswer.{answerFlags, answer, answerRoom}
 use Rattle.message.specs.declared.Span.{Span}
-use Rattle.message.specs.declared.Kind.{Kind}
-use Rattle.message.specs.declared.Kind.the-variants.{NoAnswer, Plain, Experimental}
 use Rattle.message.specs.Spans.{Holds, hasProxies}
-
--- A kind and a number together are what a call is answered with.
-unfoldable pub codeFrom : Kind → ℕ → Code
-codeFrom NoAnswer n = none n
-codeFrom Plain n = plain n
-codeFrom Experimental n = experimental n
-
--- The paper's number of a kind: 0 no answer, 1 Result-Code, 2 Experimental-Result.
-unfoldable pub kindNumber : Kind → ℕ
-kindNumber k = kindOf (codeFrom k 0)
 
 -- The first eight bytes of an AVP of ours of n bytes.
 unfoldable pub headBytes : ℕ → ℕ → List ℕ

@@ -2,9 +2,9 @@
 use native.Mathlib.Omega.{arith}
 use borrow.Author.Needs.{needs}
 use Rattle.octets.specs.Numbers.{up4}
-use Rattle.message.proofs.Writing.{length-avp, avp-put}
-use Rattle.message.proofs.put_avp.Statement.{statement}
-use Rattle.message.proofs.put_avp.Tie as tie
+use Rattle.answers.proofs.Writing.{length-avp, avp-put}
+use Rattle.answers.proofs.put_avp.Statement.{statement}
+use Rattle.answers.proofs.put_avp.Tie as tie
 
 add-whole : tie.Need-add-whole
 add-whole c = search needs

@@ -8,13 +8,13 @@ use borrow.Author.Needs.{needs}
 use Rattle.octets.specs.Texts.{part}
 use Rattle.octets.specs.Numbers.{in32, up4}
 use Rattle.octets.proofs.Texts.{length-part}
 use Rattle.message.specs.ReadingAMessage.{userName}
 use Rattle.message.specs.Codes.{plain}
 use Rattle.message.specs.Spans.{Holds}
 use Rattle.message.specs.WritingTheAnswer.{avpBytes, subscriptionAvp}
-use Rattle.message.proofs.Writing.{length-number, written-none, written-then, group-put, subscription-other, subscription-fail, subscription-is, subscription-length, up4-twice}
-use Rattle.message.proofs.put_subscription.Statement.{statement}
-use Rattle.message.proofs.put_subscription.Tie as tie
+use Rattle.answers.proofs.Writing.{length-number, written-none, written-then, group-put, subscription-other, subscription-fail, subscription-is, subscription-length, up4-twice}
+use Rattle.answers.proofs.put_subscription.Statement.{statement}
+use Rattle.answers.proofs.put_subscription.Tie as tie
 
 named : (p : tie.Else2) → Holds (p .before .before .before .before .before .args .m .now) userName (p .before .before .before .before .before .args .user)
 named p = p .before .before .before .before .before .pre .2 (sym (p .before .before .read24 .ensures .0) ∙ p .before .if1 .left) (p .if2 .left)

@@ -6,11 +6,11 @@ use native.Mathlib.Omega.{arith}
 use lib.ListN.{length, length-append}
 use borrow.Author.Needs.{needs}
 use Rattle.octets.specs.Numbers.{in32, up4}
 use Rattle.message.specs.WritingTheAnswer.{avpBytes, resultAvp}
-use Rattle.message.specs.Answers.{codeFrom}
-use Rattle.message.proofs.Writing.{length-number, written-nothing, written-then, group-put}
-use Rattle.message.proofs.put_result.Statement.{statement}
-use Rattle.message.proofs.put_result.Tie as tie
+use Rattle.message.specs.Kinds.{codeFrom}
+use Rattle.answers.proofs.Writing.{length-number, written-nothing, written-then, group-put}
+use Rattle.answers.proofs.put_result.Statement.{statement}
+use Rattle.answers.proofs.put_result.Tie as tie
 
 enum-told : tie.Need-enum-told
 enum-told c = search needs

@@ -3,9 +3,9 @@ use mathlib.Core.Path.{refl}
 use borrow.Author.Needs.{needs}
 use Rattle.octets.specs.Texts.{zeros}
 use Rattle.octets.specs.Numbers.{in24, in32, up4}
 use Rattle.message.specs.WritingTheAnswer.{avpBytes}
-use Rattle.message.proofs.put_number.Statement.{statement}
-use Rattle.message.proofs.put_number.Tie as tie
+use Rattle.answers.proofs.put_number.Statement.{statement}
+use Rattle.answers.proofs.put_number.Tie as tie
 
 cast-t8 : tie.Need-cast-t8
 cast-t8 c = search needs

@@ -7,28 +7,29 @@ use native.Mathlib.Omega.{arith}
 use borrow.Author.Tests.{leb-true, eqb-true, eqb-false, eq-eqb, ne-eqb, le-leb, lt-leb}
 use lib.Dec.{eqb, leb}
 use lib.ListN.{length, getD, take, drop, length-append, length-take, length-drop}
-use lib.Seq.{drop-drop, length-take-le}
+use lib.Seq.{drop-drop, drop-at, length-take-le}
 use Rattle.octets.specs.Choice.{pick, within}
 use Rattle.octets.specs.Lists.{keep}
 use Rattle.octets.specs.Texts.{part, zeros, put}
 use Rattle.octets.specs.Numbers.{net24, net32, in24, in32, up4}
 use Rattle.octets.proofs.Lists.{by-test, and-left, and-right, both, in-within, within-low, within-high}
 use Rattle.octets.proofs.Texts.{length-zeros, length-part, length-put, put-then, put-nothing}
 use Rattle.message.specs.Codes.{Code, none, plain, experimental, numberOf}
 use Rattle.message.specs.ReadingAMessage.{command, flags, headerCode, Name, sameName, Avp, Walk, behind, walkOne, walkUpTo, walk, headLength, avpLength, avpCode, avpOf, avps, walkCode, having, present, valueOf, sessionId, userName, proxyInfo}
 use Rattle.message.specs.WritingTheAnswer.{avpBytes, sessionAvp, is3xxx, authAvps, resultAvp, subscriptionAvp, allBytes, proxyAvps, answerBody, answerFlags, answer, answerRoom}
 use Rattle.message.specs.declared.Spot.{Spot}
 use Rattle.message.specs.declared.Span.{Span}
 use Rattle.message.specs.declared.Kind.{Kind}
 use Rattle.message.specs.declared.Kind.the-variants.{NoAnswer, Plain, Experimental}
 use Rattle.message.specs.declared.Head.the-variants.{One, Bad}
 use Rattle.message.specs.Positions.{names, nameAt, headOf, slotOf, spotAt, headAt}
 use Rattle.message.specs.Spans.{Holds, hasProxies}
-use Rattle.message.specs.Answers.{codeFrom, headBytes, answerHead, Written, Answerable, Answered}
+use Rattle.message.specs.Kinds.{codeFrom}
+use Rattle.answers.specs.Answers.{headBytes, answerHead, Written, Answerable, Answered}
 use Rattle.message.proofs.Walks.{Passed, passes, up4-least, head-least}
 use Rattle.message.proofs.Heads.{net24-drop}
 use Rattle.message.proofs.Gathering.{walk-end, walk-bad, walk-one, head-is-one, head-is-bad, next-place, slot-named, slot-other, having-is, having-not, ahead}
 use Rattle.message.proofs.Readers.{slot-head}
 
 -- LENGTHS
 
@@ -362,3 +363,124 @@ proxies-most m h =
     by-test (eqb (headerCode m) 0 && eqb (walkCode m) 0)
     (λ t. rw t (let b = bytes-walk (suc (length (drop 20 m))) proxyInfo (drop 20 m) in omega (arith, b, length-drop 20 m)))
     (λ t. rw t (omega arith))
+
+-- HOW LONG AN ANSWER IS
+
+pub up4-128 : (n : ℕ) → n ≤ 128 → up4 n ≤ 128
+unfolding up4
+up4-128 n h = omega arith
+
+pub avp-most : (code : ℕ) (v : List ℕ) → length v ≤ 128 → length (avpBytes code v) ≤ 136
+avp-most code v h = omega (arith, length-avp code v, up4-128 (length v) h)
+
+pub session-most : (m : List ℕ) → length (sessionAvp m) ≤ 136
+unfolding sessionAvp pick
+session-most m =
+    let v : List ℕ = (avpOf (drop 20 m)) .value in
+    by-test (eqb (avpCode (drop 20 m)) 0 && (sameName sessionId ((avpOf (drop 20 m)) .name) && within 1 128 (length v)))
+    (λ t.
+    let r = and-right (eqb (avpCode (drop 20 m)) 0) (sameName sessionId ((avpOf (drop 20 m)) .name) && within 1 128 (length v)) t in
+    rw t (avp-most 263 v (within-high 1 128 (length v) (and-right (sameName sessionId ((avpOf (drop 20 m)) .name)) (within 1 128 (length v)) r))))
+    (λ t. rw t (omega arith))
+
+pub auth-most : (m : List ℕ) (c : Code) → length (authAvps m c) ≤ 24
+unfolding authAvps pick avpBytes in32 in24 up4 zeros
+auth-most m c = by-test (eqb (command m) 265 && not (is3xxx c)) (λ t. rw t (omega arith)) (λ t. rw t (omega arith))
+
+pub result-most : (c : Code) → length (resultAvp c) ≤ 32
+unfolding resultAvp avpBytes in32 in24 up4 zeros
+result-most (none n) = omega arith
+result-most (plain n) = omega arith
+result-most (experimental n) = omega arith
+
+pub subscription-most : (m : List ℕ) (c : Code) → (command m ≡ 265 → numberOf c ≡ 2001 → length (valueOf userName (avps m)) ≤ 128) → length (subscriptionAvp m c) ≤ 156
+unfolding subscriptionAvp pick
+subscription-most m c h =
+    let v : List ℕ = valueOf userName (avps m) in
+    by-test (eqb (command m) 265 && eqb (numberOf c) 2001)
+    (λ t.
+    let p = eqb-true (command m) 265 (and-left (eqb (command m) 265) (eqb (numberOf c) 2001) t) in
+    let q = eqb-true (numberOf c) 2001 (and-right (eqb (command m) 265) (eqb (numberOf c) 2001) t) in
+    let k = subscription-length v in
+    let l : length (avpBytes 443 (avpBytes 450 (in32 1) ++ avpBytes 444 v)) ≡ 28 + up4 (length v) =
+    length-avp 443 (avpBytes 450 (in32 1) ++ avpBytes 444 v) ∙ rw (k, up4-twice (length v)) (omega arith) in
+    rw t (omega (arith, l, up4-128 (length v) (h p q))))
+    (λ t. rw t (omega arith))
+
+pub length-body : (m host realm : List ℕ) (c : Code)
+    → length (answerBody m host realm c)
+    ≡ length (sessionAvp m) + (length (authAvps m c) + (length (resultAvp c) + (length (avpBytes 264 host) + (length (avpBytes 296 realm) + (length (subscriptionAvp m c) + length (proxyAvps m))))))
+unfolding answerBody
+length-body m host realm c = simp length-append
+
+pub body-fits : (m host realm : List ℕ) (c : Code) → 20 ≤ length m → length m ≤ 4096 → length host ≤ 128 → length realm ≤ 128
+    → (command m ≡ 265 → numberOf c ≡ 2001 → length (valueOf userName (avps m)) ≤ 128) → 20 + length (answerBody m host realm c) ≤ 5120
+body-fits m host realm c h k p q u =
+    omega
+    (arith, length-body m host realm c, session-most m, auth-most m c, result-most c, avp-most 264 host p, avp-most 296 realm q, subscription-most m c u, proxies-most m h)
+
+pub length-answer : (m host realm : List ℕ) (c : Code) → 20 ≤ length m → length (answer m host realm c) ≡ 20 + length (answerBody m host realm c)
+unfolding answer in24
+length-answer m host realm c h =
+    let l : length (part m 5 15) ≡ 15 = length-part m 5 15 (omega arith) in
+    rw (length-append (part m 5 15) (answerBody m host realm c), l) (omega arith)
+
+-- every answer fits the room that a call must bring
+pub answer-fits : (m host realm : List ℕ) (c : Code) → 20 ≤ length m → length m ≤ 4096 → length host ≤ 128 → length realm ≤ 128
+    → (command m ≡ 265 → numberOf c ≡ 2001 → length (valueOf userName (avps m)) ≤ 128) → length (answer m host realm c) ≤ 5120
+answer-fits m host realm c h k p q u = omega (arith, length-answer m host realm c h, body-fits m host realm c h k p q u)
+
+-- THE WHOLE ANSWER
+
+-- seven writes, one behind the other
+pub written-seven : (d0 d1 d2 d3 d4 d5 d6 d7 : List ℕ) (p0 p1 p2 p3 p4 p5 p6 p7 : ℕ) (a b c d e f g : List ℕ)
+    → Written d0 d1 p0 p1 a → Written d1 d2 p1 p2 b → Written d2 d3 p2 p3 c → Written d3 d4 p3 p4 d → Written d4 d5 p4 p5 e → Written d5 d6 p5 p6 f → Written d6 d7 p6 p7 g
+    → p0 + (length a + (length b + (length c + (length d + (length e + (length f + length g)))))) ≤ length d0
+    → Written d0 d7 p0 p7 (a ++ (b ++ (c ++ (d ++ (e ++ (f ++ g))))))
+written-seven d0 d1 d2 d3 d4 d5 d6 d7 p0 p1 p2 p3 p4 p5 p6 p7 a b c d e f g w1 w2 w3 w4 w5 w6 w7 h =
+    let v2 = written-then d0 d1 d2 p0 p1 p2 a b w1 w2 (omega arith) in
+    let v3 = written-then d0 d2 d3 p0 p2 p3 (a ++ b) c v2 w3 (rw length-append (omega arith)) in
+    let v4 = written-then d0 d3 d4 p0 p3 p4 (a ++ b ++ c) d v3 w4 (simp length-append (omega arith)) in
+    let v5 = written-then d0 d4 d5 p0 p4 p5 (a ++ b ++ c ++ d) e v4 w5 (simp length-append (omega arith)) in
+    let v6 = written-then d0 d5 d6 p0 p5 p6 (a ++ b ++ c ++ d ++ e) f v5 w6 (simp length-append (omega arith)) in
+    let v7 = written-then d0 d6 d7 p0 p6 p7 (a ++ b ++ c ++ d ++ e ++ f) g v6 w7 (simp length-append (omega arith)) in
+    let r : a ++ b ++ c ++ d ++ e ++ f ++ g ≡ a ++ (b ++ (c ++ (d ++ (e ++ (f ++ g))))) = simp append-assoc in
+    rw r at v7
+
+-- the header in front of what was written behind it
+head-put : (d h b : List ℕ) → length h ≡ 20 → 20 + length b ≤ length d → put (put d 20 b) 0 h ≡ h ++ b ++ drop (length (h ++ b)) d
+unfolding put
+head-put d h b l k =
+    let t : length (take 20 d) ≡ 20 = length-take-le 20 d (omega arith) in
+    let z : 0 + length h ≡ 20 = omega (arith, l) in
+    let s : length (h ++ b) ≡ 20 + length b = length-append h b ∙ rw l in
+    rw (z, drop-at (take 20 d) (b ++ drop (20 + length b) d) 20 t, s, append-assoc h b (drop (20 + length b) d))
+
+pub answer-put : (m host realm : List ℕ) (c : Code) (before after last : List ℕ) (size : ℕ) → 20 ≤ length m → 20 + length (answerBody m host realm c) ≤ length before
+    → Written before after 20 size (answerBody m host realm c) → last ≡ put after 0 (answerHead m c size) → Answered m host realm c size before last
+unfolding answerRoom answer answerHead in24
+answer-put m host realm c before after last size h k w e =
+    let b : List ℕ = answerBody m host realm c in
+    let n : size ≡ 20 + length b = w .place in
+    let l : length (part m 5 15) ≡ 15 = length-part m 5 15 (omega arith) in
+    let hl : length (answerHead m c size) ≡ 20 = rw l in
+    let r1 : put after 0 (answerHead m c size) ≡ answerHead m c size ++ b ++ drop (length (answerHead m c size ++ b)) before =
+    rw (w .bytes-put) (head-put before (answerHead m c size) b hl k) in
+    record {
+      length-is = n ∙ sym (length-answer m host realm c h);
+      room-is = e ∙ r1 ∙ ap (λ (x : ℕ). answerHead m c x ++ b ++ drop (length (answerHead m c x ++ b)) before) n;
+    }
+
+-- the name that an answer repeats is short enough
+pub user-short : (m host realm : List ℕ) (code : ℕ) (user : Span) (proxies : Bool) (room : List ℕ) → Answerable m host realm code user proxies room
+    → command m ≡ 265 → code ≡ 2001 → length (valueOf userName (avps m)) ≤ 128
+user-short m host realm code user proxies room a p q =
+    let h : Holds m userName user = a .named p q in
+    rw (← h .value) (omega (arith, length-part m (user .at) (user .len) (h .inside), a .short p q))
+
+pub answerable-fits : (m host realm : List ℕ) (k : Kind) (code : ℕ) (user : Span) (proxies : Bool) (room : List ℕ) → Answerable m host realm code user proxies room
+    → 20 + length (answerBody m host realm (codeFrom k code)) ≤ length room
+answerable-fits m host realm k code user proxies room a =
+    let f = body-fits m host realm (codeFrom k code) (a .least) (a .most) (a .host-fits) (a .realm-fits)
+    (λ p q. user-short m host realm code user proxies room a p (sym (number-from k code) ∙ q)) in
+    omega (arith, f, a .room-fits)

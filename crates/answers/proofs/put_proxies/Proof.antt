@@ -6,11 +6,11 @@ use lib.ListN.{length}
 use borrow.Author.Needs.{needs}
 use borrow.Author.Tests.{not-true, not-false}
 use Rattle.octets.proofs.Texts.{length-part}
 use Rattle.message.specs.WritingTheAnswer.{proxyAvps}
 use Rattle.message.proofs.Gathering.{next-place}
-use Rattle.message.proofs.Writing.{written-none, proxies-none, Copied, copied-none, copied-over, copied-one, copied-all, copied-stop}
-use Rattle.message.proofs.put_proxies.Statement.{statement}
-use Rattle.message.proofs.put_proxies.Tie as tie
+use Rattle.answers.proofs.Writing.{written-none, proxies-none, Copied, copied-none, copied-over, copied-one, copied-all, copied-stop}
+use Rattle.answers.proofs.put_proxies.Statement.{statement}
+use Rattle.answers.proofs.put_proxies.Tie as tie
 
 abbrev Inv-loop : tie.InvT-loop
 Inv-loop m proxies room₀ at to₀ from₀ room to from = Copied m room₀ at room to from

@@ -4,10 +4,10 @@ use Prim.Native.Nat.{_+_, _-_}
 use native.Mathlib.Omega.{arith}
 use borrow.Author.Needs.{needs}
 use Rattle.octets.specs.Numbers.{net24}
 use Rattle.message.specs.WritingTheAnswer.{sessionAvp}
-use Rattle.message.proofs.Writing.{written-none, session-bad, session-other, session-short, session-long, session-is, session-end, past-first}
-use Rattle.message.proofs.put_session.Statement.{statement}
-use Rattle.message.proofs.put_session.Tie as tie
+use Rattle.answers.proofs.Writing.{written-none, session-bad, session-other, session-short, session-long, session-is, session-end, past-first}
+use Rattle.answers.proofs.put_session.Statement.{statement}
+use Rattle.answers.proofs.put_session.Tie as tie
 
 head-at-requires : tie.Need-head-at-requires
 head-at-requires c κs = search needs

@@ -1,9 +1,9 @@
 -- The eight bytes are those of the definition.
 use borrow.Author.Needs.{needs}
 use Rattle.octets.specs.Numbers.{in24, in32}
-use Rattle.message.specs.Answers.{headBytes}
-use Rattle.message.proofs.put_head.Statement.{statement}
-use Rattle.message.proofs.put_head.Tie as tie
+use Rattle.answers.specs.Answers.{headBytes}
+use Rattle.answers.proofs.put_head.Statement.{statement}
+use Rattle.answers.proofs.put_head.Tie as tie
 
 cast-t8 : tie.Need-cast-t8
 cast-t8 c = search needs

@@ -3,11 +3,11 @@ use mathlib.Core.Path.{sym, _∙_}
 use native.Mathlib.Omega.{arith}
 use borrow.Author.Needs.{needs}
 use Rattle.octets.specs.Numbers.{in32}
 use Rattle.message.specs.WritingTheAnswer.{avpBytes, authAvps}
 use Rattle.message.specs.Codes.{plain}
-use Rattle.message.proofs.Writing.{length-number, written-none, written-then, auth-other, auth-3xxx, auth-is}
-use Rattle.message.proofs.put_auth.Statement.{statement}
-use Rattle.message.proofs.put_auth.Tie as tie
+use Rattle.answers.proofs.Writing.{length-number, written-none, written-then, auth-other, auth-3xxx, auth-is}
+use Rattle.answers.proofs.put_auth.Statement.{statement}
+use Rattle.answers.proofs.put_auth.Tie as tie
 
 read24-requires : tie.Need-read24-requires
 read24-requires c κs = search needs

@@ -3,9 +3,9 @@ use mathlib.Core.Path.{sym, _∙_}
 use native.Mathlib.Omega.{arith}
 use borrow.Author.Needs.{needs}
 use Rattle.octets.specs.Choice.{pick}
 use Rattle.message.specs.WritingTheAnswer.{answerFlags}
-use Rattle.message.proofs.answer_flags.Statement.{statement}
-use Rattle.message.proofs.answer_flags.Tie as tie
+use Rattle.answers.proofs.answer_flags.Statement.{statement}
+use Rattle.answers.proofs.answer_flags.Tie as tie
 
 shared-slice-read-p : tie.Need-shared-slice-read-p
 shared-slice-read-p c = search needs

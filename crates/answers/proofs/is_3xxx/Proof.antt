@@ -1,10 +1,10 @@
 -- Both ends of the range are tested.
 use borrow.Author.Tests.{le-leb, lt-leb}
 use Rattle.octets.specs.Choice.{within}
 use Rattle.message.specs.Codes.{numberOf}
 use Rattle.message.specs.WritingTheAnswer.{is3xxx}
-use Rattle.message.proofs.is_3xxx.Statement.{statement}
-use Rattle.message.proofs.is_3xxx.Tie as tie
+use Rattle.answers.proofs.is_3xxx.Statement.{statement}
+use Rattle.answers.proofs.is_3xxx.Tie as tie
 
 returns : tie.Need-returns
 unfolding is3xxx within numberOf
