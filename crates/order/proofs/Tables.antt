@@ -5,8 +5,13 @@ use Prim.Native.Nat.{ℕ, zero, suc, _+_, _-_, _*_, _/_, _≤_, _<_}
 use native.Mathlib.Omega.{arith}
 use native.Mathlib.Nat.{mul-suc, mul-zero, add-comm, add-assoc, zero-add, not-suc-le-zero, le-of-suc-le-suc}
 use lib.ListN.{length, getD, take, drop, set, length-append, length-take, length-drop, take-append-drop}
-use lib.Seq.{take-at, drop-at, length-take-le, drop-drop, take-add}
+use lib.Seq.{take-at, drop-at, length-take-le, drop-drop, take-add, take-append-le, drop-append-le}
+use borrow.Author.Tests.{ltb-true, ltb-false}
+use lib.Dec.{ltb}
 use Rattle.octets.specs.Texts.{part, put}
+use Rattle.octets.proofs.Lists.{by-test}
+use Rattle.table.proofs.Bytes.{drop-past}
+use Rattle.table.proofs.Form.{part-take}
 use Rattle.table.specs.TheTable.{cutInRows, rowAt, withRow, rowLength}
 
 -- ROWS OF ANY WIDTH
@@ -113,3 +118,38 @@ module _ (n : ℕ) (t : List ℕ) (size : length t ≡ rowLength * n) where
     pub with-same : withRow t i (rowAt t i) ≡ t
     unfolding withRow put
     with-same = rw (length-rowAt, at-drop) (take-append-drop (rowLength * i) t)
+
+    -- the row that was written, and the others
+    pub at-with : (r : List ℕ) → length r ≡ rowLength → rowAt (withRow t i r) i ≡ r
+    unfolding rowAt withRow put
+    at-with r h =
+        let e : length (take (rowLength * i) t) ≡ rowLength * i = length-take-le (rowLength * i) t (omega arith) in
+        rw (drop-at (take (rowLength * i) t) (r ++ drop (rowLength * i + length r) t) (rowLength * i) e) (take-at r _ rowLength h)
+
+    row-ahead : (r : List ℕ) (j : ℕ) → j < i → rowAt (withRow t i r) j ≡ rowAt t j
+    unfolding rowAt withRow put
+    row-ahead r j l =
+        let front : List ℕ = take (rowLength * i) t in
+        let e : length front ≡ rowLength * i = length-take-le (rowLength * i) t (omega arith) in
+        let d : length (drop (rowLength * j) front) ≡ rowLength * i - rowLength * j = length-drop (rowLength * j) front ∙ ap (λ (k : ℕ). k - rowLength * j) e in
+        ap (take rowLength) (drop-append-le (rowLength * j) front _ (omega arith))
+        ∙ take-append-le rowLength (drop (rowLength * j) front) _ (omega arith)
+        ∙ part-take (rowLength * i) (rowLength * j) rowLength t (omega arith)
+
+    row-behind : (r : List ℕ) (j : ℕ) → length r ≡ rowLength → i < j → rowAt (withRow t i r) j ≡ rowAt t j
+    unfolding rowAt withRow put
+    row-behind r j h l =
+        let front : List ℕ = take (rowLength * i) t in
+        let e : length front ≡ rowLength * i = length-take-le (rowLength * i) t (omega arith) in
+        let m : ℕ = rowLength * j - (rowLength * i + rowLength) in
+        let p : rowLength * j ≡ rowLength * i + (rowLength + m) = omega arith in
+        let q : rowLength * i + rowLength + m ≡ rowLength * j = omega arith in
+        ap (λ (k : ℕ). take rowLength (drop k (front ++ (r ++ drop (rowLength * i + length r) t)))) p
+        ∙ ap (take rowLength) (drop-past (rowLength * i) (rowLength + m) front _ e ∙ drop-past rowLength m r _ h
+        ∙ ap (λ (k : ℕ). drop m (drop (rowLength * i + k) t)) h ∙ drop-drop m (rowLength * i + rowLength) t ∙ ap (λ (k : ℕ). drop k t) q)
+
+    pub at-other : (r : List ℕ) (j : ℕ) → length r ≡ rowLength → (j ≡ i → ⊥) → rowAt (withRow t i r) j ≡ rowAt t j
+    at-other r j h ne =
+        by-test (ltb j i)
+        (λ e. row-ahead r j (ltb-true j i e))
+        (λ e. row-behind r j h (omega (arith, ltb-false j i e)))
