@@ -9,3 +9,4 @@ pub mod Answered
 pub mod Cuts
 pub mod Checks
 pub mod Rest
+pub mod Setting
