@@ -1,6 +1,6 @@
 -- Block 0 and the places as code writes them: a few stores into the bytes that stood there, then the sums.
 use mathlib.Core.Path.{_≡_, refl, sym, ap, _∙_}
-use mathlib.Core.Bool.{Bool, true, false, not, _&&_}
+use mathlib.Core.Bool.{Bool, true, false, not}
 use mathlib.Core.List.{List, [], _∷_, _++_, map, append-assoc, append-nil}
 use Prim.Native.Nat.{ℕ, zero, suc, _+_, _-_, _*_, _≤_, _<_, _^_, _%_}
 use native.Mathlib.Omega.{arith}
@@ -8,34 +8,29 @@ use native.Mathlib.Numerals.{add-one}
 use native.Mathlib.Nat.{pow-suc, add-assoc, zero-add, suc-add, one-mul, mod-eq-of-lt}
 use borrow.Author.Tests.{eqb-true, eqb-false, eq-eqb, ne-eqb}
 use lib.Dec.{eqb}
-use lib.ListN.{length, take, drop, getD, set, replicate, length-append, length-take, length-drop, length-set, drop-of-length-le, take-append-drop}
-use lib.Seq.{take-append-add, drop-append-add, take-at, drop-at, set-at, set-split, set-append-seam, drop-cons, drop-drop, take-suc, length-take-le, take-append-le, drop-append-le, set-append-left, take-all}
+use lib.ListN.{length, take, drop, getD, set, length-append, length-set, drop-of-length-le, take-append-drop}
+use lib.Seq.{take-at, drop-at, set-at, set-split, set-append-seam, drop-cons, drop-drop, take-suc, length-take-le, take-append-le, drop-append-le, set-append-left, take-all}
 use lib.Pow.{pow-lt}
-use Rattle.octets.specs.Choice.{pick, within}
+use Rattle.octets.specs.Choice.{pick}
 use Rattle.octets.specs.Lists.{counted, every, isOn, keep}
 use Rattle.octets.specs.Texts.{filled, part, put, zeros}
 use Rattle.table.specs.TheTable.{Entry, accessBytes, entryBytes, fromBits, held, places, sealed, sums, usedBits}
 use Rattle.changes.specs.Writes.{closedUp, entriesWith, headWith, openedBytes, policyWith}
-use Rattle.octets.proofs.Lists.{and-left, and-right, by-test, keep-snoc, kept, on-cons}
+use Rattle.changes.proofs.Puts.{take-past}
+use Rattle.changes.proofs.Steps.{drop-zeros}
+use Rattle.octets.proofs.Lists.{by-test, keep-snoc, kept}
 use Rattle.octets.proofs.Texts.{length-filled, length-part, length-put, length-zeros}
-use Rattle.table.proofs.Bytes.{fill, length-entry}
+use Rattle.table.proofs.Bytes.{drop-past, fill, length-entry}
 use Rattle.table.proofs.Form.{take-zeros}
-
--- past the first n
-pub take-past : (n m : ℕ) (a b : List ℕ) → length a ≡ n → take (n + m) (a ++ b) ≡ a ++ take m b
-take-past n m a b h = rw (← h) (take-append-add a b m)
-
-pub drop-beyond : (n m : ℕ) (a b : List ℕ) → length a ≡ n → drop (n + m) (a ++ b) ≡ drop m b
-drop-beyond n m a b h = rw (← h) (drop-append-add a b m)
 
 pub put-past : (n m : ℕ) (a b s : List ℕ) → length a ≡ n → put (a ++ b) (n + m) s ≡ a ++ put b m s
 unfolding put
 put-past n m a b s h =
-    rw (take-past n m a b h, add-assoc n m (length s), drop-beyond n (m + length s) a b h, append-assoc)
+    rw (take-past n m a b h, add-assoc n m (length s), drop-past n (m + length s) a b h, append-assoc)
 
 pub put-at : (n : ℕ) (a b s : List ℕ) → length a ≡ n → put (a ++ b) n s ≡ a ++ (s ++ drop (length s) b)
 unfolding put
-put-at n a b s h = rw (take-at a b n h, drop-beyond n (length s) a b h)
+put-at n a b s h = rw (take-at a b n h, drop-past n (length s) a b h)
 
 -- THE SUMS
 
@@ -257,11 +252,6 @@ pub zeros-three : zeros 3 ≡ 0 ∷ 0 ∷ 0 ∷ []
 unfolding zeros
 zeros-three = refl
 
-pub zeros-drop : (i n : ℕ) → i ≤ n → drop i (zeros n) ≡ zeros (n - i)
-zeros-drop i n h =
-    let q : n ≡ i + (n - i) = omega arith in
-    ap (λ (j : ℕ). drop i (zeros j)) q ∙ ap (drop i) (zeros-split i (n - i)) ∙ drop-at (zeros i) (zeros (n - i)) i (length-zeros i)
-
 pub filled-none : (n : ℕ) → filled [] n ≡ zeros n
 filled-none n = let q : n - 0 ≡ n = omega arith in filled-is [] n (omega arith) ∙ ap (λ (j : ℕ). zeros j) q
 
@@ -269,7 +259,7 @@ filled-none n = let q : n - 0 ≡ n = omega arith in filled-is [] n (omega arith
 pub put-room : (a s r : List ℕ) (n m : ℕ) → length a ≡ n → length s ≤ m → put (a ++ (zeros m ++ r)) n s ≡ a ++ (filled s m ++ r)
 put-room a s r n m h l =
     let d : drop (length s) (zeros m ++ r) ≡ zeros (m - length s) ++ r =
-    drop-append-le (length s) (zeros m) r (rw (length-zeros m) l) ∙ ap (λ (t : List ℕ). t ++ r) (zeros-drop (length s) m l) in
+    drop-append-le (length s) (zeros m) r (rw (length-zeros m) l) ∙ ap (λ (t : List ℕ). t ++ r) (drop-zeros (length s) m) in
     put-at n a (zeros m ++ r) s h
     ∙ ap (λ (t : List ℕ). a ++ (s ++ t)) d
     ∙ ap (λ (t : List ℕ). a ++ t) (sym (append-assoc s (zeros (m - length s)) r) ∙ ap (λ (t : List ℕ). t ++ r) (sym (filled-is s m l)))
@@ -403,10 +393,3 @@ more-put b n e h l =
     ∙ ap sealed (take-past 18 492 a (d ++ (w ++ drop 448 b)) la
     ∙ ap (λ (t : List ℕ). a ++ t) (take-past 14 478 d (w ++ drop 448 b) ld
     ∙ ap (λ (t : List ℕ). d ++ t) (take-past 416 62 w (drop 448 b) lw)))
-
--- a lent part comes back: the whole is as long as it was
-pub back-length : (room : List ℕ) (a e : ℕ) (t : List ℕ) → a ≤ e → e ≤ length room → length t ≡ length (take (e - a) (drop a room))
-    → length (take a room ++ (t ++ drop (e - a) (drop a room))) ≡ length room
-back-length room a e t h l q =
-    let p : length (take (e - a) (drop a room)) ≡ e - a = length-part room a (e - a) (omega arith) in
-    simp (length-append, length-drop, length-take-le a room (omega arith), q, p) (omega arith)

@@ -5,3 +5,5 @@ pub mod Puts
 pub mod Steps
 pub mod Blocks
 pub mod Rows
+pub mod SetUps
+pub mod Kept

@@ -20,7 +20,7 @@ use Rattle.table.proofs.Bytes.{drop-past, length-head, length-place}
 abbrev pub putBlock : List ℕ → ℕ → List ℕ → List ℕ
 putBlock r k b = take (512 * k) r ++ (b ++ drop (512 * k + 512) r)
 
-take-past : (n m : ℕ) (a b : List ℕ) → length a ≡ n → take (n + m) (a ++ b) ≡ a ++ take m b
+pub take-past : (n m : ℕ) (a b : List ℕ) → length a ≡ n → take (n + m) (a ++ b) ≡ a ++ take m b
 take-past n m a b h = rw (← h) (take-append-add a b m)
 
 -- two states that agree on every place but k

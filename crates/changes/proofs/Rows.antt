@@ -1,11 +1,10 @@
 -- What code reads in a sound row, and the row that each change leaves, as code leaves it.
 use mathlib.Core.Path.{_≡_, refl, sym, ap, _∙_}
-use mathlib.Core.Bool.{Bool, true, false, not, _&&_}
+use mathlib.Core.Bool.{true, false, not}
 use mathlib.Core.List.{List, [], _∷_, _++_, map, append-assoc}
 use Prim.Native.Nat.{ℕ, zero, suc, _+_, _-_, _*_, _≤_, _<_, _^_}
 use native.Mathlib.Omega.{arith}
-use borrow.Author.Tests.{eqb-true, eq-eqb}
-use lib.Count.{ones, trailingZeros}
+use lib.Count.{trailingZeros}
 use lib.Dec.{eqb}
 use lib.ListN.{length, take, drop, getD, set, length-append, length-drop, length-map, take-append-drop}
 use lib.Seq.{drop-append-le, drop-at, take-append-le, take-at, take-take, length-take-le}
@@ -13,21 +12,22 @@ use Rattle.octets.specs.Choice.{pick, within}
 use Rattle.octets.specs.Lists.{counted, every, isOn, keep}
 use Rattle.octets.specs.Texts.{filled, part, put, zeros}
 use Rattle.octets.proofs.Lists.{by-test, eqb-comm, keep-length, on-cons, on-none, within-high, within-low}
-use Rattle.octets.proofs.Texts.{back-put, length-filled, length-part, length-put, length-zeros}
+use Rattle.octets.proofs.Texts.{back-put, length-filled, length-part, length-zeros}
 use Rattle.table.specs.Soundness.{sound}
 use Rattle.table.specs.TheTable.{Access, Entry, Subscriber, accessBytes, block, entriesBytes, entryBytes, fromBits, headBytes, held, line, orderLine, placeBytes, places, placesBytes, readRow, rowAt, rowBytes, sealed, sumsFrom, usedBits, withRow}
 use Rattle.table.proofs.Bytes.{block-place, drop-past, getD-past, length-access, length-entry, length-head, length-row, length-sealed}
 use Rattle.table.proofs.Form.{every-on, line-read}
 use Rattle.table.proofs.Good.{at-most-eight}
+use Rattle.table.proofs.Rows.{lent-row}
 use Rattle.table.proofs.Sound.{clauses, row-is, says-good}
-use Rattle.changes.specs.Changes.{freed, hold, leave, lowestFree, newAccess, opened, routed, vacant, withAccesses}
+use Rattle.changes.specs.Changes.{freed, hold, leave, lowestFree, newAccess, opened, routed, withAccesses}
 use Rattle.changes.specs.SetUp.{named, withEntry}
 use Rattle.changes.specs.Writes.{closedUp, entriesWith, headWith, openedBytes, policyWith}
 use Rattle.changes.proofs.Bits.{bits-bound, is-vacant}
-use Rattle.changes.proofs.Blocks.{bits-with, bits-without, closed-filled, filled-more, filled-none, put-over, put-room, take-past, zeros-split, zeros-three}
-use Rattle.changes.proofs.Puts.{freed-puts, onPlace, opened-puts, putBlock, routed-puts}
+use Rattle.changes.proofs.Blocks.{bits-with, bits-without, closed-filled, filled-more, filled-none, put-over, put-room, zeros-split, zeros-three}
+use Rattle.changes.proofs.Puts.{freed-puts, onPlace, opened-puts, putBlock, routed-puts, take-past}
 use Rattle.changes.proofs.Stays.{free-place, line-snoc}
-use Rattle.changes.proofs.Steps.{access-policy, free-byte, head-line, keep-map, ones-byte, room-entry}
+use Rattle.changes.proofs.Steps.{access-policy, free-byte, head-line, keep-map, room-entry, row-bits}
 
 -- THE FIRST BYTES OF A ROW
 
@@ -54,9 +54,6 @@ row-line s =
     ap (λ (t : List ℕ). part t 20 8) (row-shape s)
     ∙ ap (take 8) (drop-past 15 3 (filled (s .name) 15) _ (length-filled _ 15))
     ∙ take-at (filled (line (s .accesses)) 8) (behind s) 8 (length-filled _ 8)
-
-row-bits-are : (s : Subscriber) → getD (rowBytes s) 17 0 ≡ usedBits (line (s .accesses))
-row-bits-are s = ap (λ (t : List ℕ). getD t 17 0) (row-shape s) ∙ getD-past 15 0 (filled (s .name) 15) _ (length-filled _ 15)
 
 row-head : (s : Subscriber) → take 512 (rowBytes s) ≡ headBytes s
 unfolding rowBytes
@@ -89,7 +86,7 @@ module _ (r : List ℕ) (h : sound r ≡ true) where
   line-of = ap (λ (t : List ℕ). part t 20 8) (row-is r h) ∙ row-line (readRow r)
 
   pub bits-of : getD r 17 0 ≡ usedBits (line ((readRow r) .accesses))
-  bits-of = ap (λ (t : List ℕ). getD t 17 0) (row-is r h) ∙ row-bits-are (readRow r)
+  bits-of = ap (λ (t : List ℕ). getD t 17 0) (row-is r h) ∙ row-bits (readRow r)
 
   pub at-most : length ((readRow r) .accesses) ≤ 8
   at-most = at-most-eight ((readRow r) .entries) ((readRow r) .accesses) ((says-good r h) .entries-good) ((says-good r h) .accesses-good)
@@ -445,15 +442,10 @@ new-law name z l e =
 
 -- A ROW OF A TABLE
 
--- the row as it is lent
-pub lent-row : (t : List ℕ) (i : ℕ) → take (4608 * i + 4608 - 4608 * i) (drop (4608 * i) t) ≡ rowAt t i
-unfolding rowAt
-lent-row t i = let q : 4608 * i + 4608 - 4608 * i ≡ 4608 = omega arith in ap (λ (n : ℕ). take n (drop (4608 * i) t)) q
-
 -- the table when the row has come back, the bytes of a subscriber
 pub back-row : (t : List ℕ) (i : ℕ) (b : List ℕ) (f : List ℕ → Subscriber) → b ≡ rowBytes (f (take (4608 * i + 4608 - 4608 * i) (drop (4608 * i) t)))
     → take (4608 * i) t ++ (b ++ drop (4608 * i + 4608 - 4608 * i) (drop (4608 * i) t)) ≡ withRow t i (rowBytes (f (rowAt t i)))
 unfolding withRow
 back-row t i b f e =
     let s : Subscriber = f (rowAt t i) in
-    back-put t (4608 * i) (4608 * i + 4608) b (rowBytes s) (length-row s ∙ omega arith) (e ∙ ap (λ (r : List ℕ). rowBytes (f r)) (lent-row t i))
+    back-put t (4608 * i) (4608 * i + 4608) b (rowBytes s) (length-row s ∙ omega arith) (e ∙ ap (λ (r : List ℕ). rowBytes (f r)) (lent-row t (4608 * i) i refl))

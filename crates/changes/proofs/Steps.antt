@@ -128,7 +128,7 @@ unfolding entriesBytes
 entries-snoc [] e = append-nil (entryBytes e)
 entries-snoc (x ∷ es) e = rw (entries-snoc es e, append-assoc)
 
-drop-zeros : (i n : ℕ) → drop i (zeros n) ≡ zeros (n - i)
+pub drop-zeros : (i n : ℕ) → drop i (zeros n) ≡ zeros (n - i)
 unfolding zeros
 drop-zeros zero n = let q : n - 0 ≡ n = omega arith in rw q
 drop-zeros (suc i) zero = let q : 0 - suc i ≡ 0 = omega arith in rw q

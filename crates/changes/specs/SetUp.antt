@@ -74,3 +74,7 @@ addAt (row i) t e = leaving (entryNumber (rowAt t i) e) t (withRow t i (rowBytes
 
 unfoldable pub add : (t name : List ℕ) → Entry → SetUp
 add t name e = pick (eqb (tableNumber t) 0) (addAt (lookup t name) t e) (leaving 1 t t)
+
+-- A number and a table, as an operation leaves them.
+abbrev pub left : ℕ → List ℕ → SetUp
+left n t = record { number = n; table = t }

@@ -4,3 +4,4 @@ pub mod Found
 pub mod Entries
 pub mod Stay
 pub mod Verdicts
+pub mod Rooms

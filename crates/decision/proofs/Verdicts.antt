@@ -106,13 +106,13 @@ module _ (r : List ℕ) (h : sound r ≡ true) where
     entry-in : within 1 4 n ≡ true
     entry-in = in-within 1 4 n one (omega (arith, most-four r h))
 
-    pub fit-open : length (onEntry n ((readRow r) .accesses)) < (entryAt n (readRow r)) .limit → fitPlan (Open n 0) r ≡ true
+    pub fit-open : length (onEntry n ((readRow r) .accesses)) < (entryAt n (readRow r)) .limit → (route : List ℕ) → fitPlan route (Open n 0) r ≡ true
     unfolding fitPlan pick
-    fit-open below = both entry-in (lt-ltb (length ((readRow r) .accesses)) 8 (room-left n (readRow r) (says-good r h) (in-within 1 _ n one le) below))
+    fit-open below route = both entry-in (lt-ltb (length ((readRow r) .accesses)) 8 (room-left n (readRow r) (says-good r h) (in-within 1 _ n one le) below))
 
-    pub fit-cut : (firstOn n ((readRow r) .accesses) ≡ 0 → ⊥) → fitPlan (Open n (firstOn n ((readRow r) .accesses))) r ≡ true
+    pub fit-cut : (firstOn n ((readRow r) .accesses) ≡ 0 → ⊥) → (route : List ℕ) → fitPlan route (Open n (firstOn n ((readRow r) .accesses))) r ≡ true
     unfolding fitPlan pick
-    fit-cut nz =
+    fit-cut nz route =
         both entry-in
         (rw (ne-eqb (firstOn n ((readRow r) .accesses)) 0 nz, first-is r n) (hunt-on (entryIs r n) (orderLine r) (λ z. nz (first-is r n ∙ z))))
 

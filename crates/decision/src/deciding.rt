@@ -7,6 +7,7 @@ ghost use mathlib.Core.List.{List};
 ghost use Prim.Native.Nat.{ℕ, _≤_, _/_, _%_};
 ghost use lib.Dec.{eqb};
 ghost use lib.ListN.{length};
+ghost use Rattle.octets.specs.Choice.{within};
 ghost use Rattle.table.specs.TheTable.{readRow};
 ghost use Rattle.table.specs.Soundness.{sound};
 ghost use Rattle.decision.specs.Deciding.{type0, type1, terminate, admit};
@@ -19,7 +20,7 @@ fn plan_opening(row: &[u8], n: usize) -> Plan
         ⌜
         ((session host route : List ℕ)
         → planned session host route r (readRow (now (row .entry))) ≡ admit n session host (readRow (now (row .entry))))
-        × (fitPlan r (now (row .entry)) ≡ true)
+        × ((route : List ℕ) → fitPlan route r (now (row .entry)) ≡ true)
         ⌝ }
 {
     if row::count_on(row, n) < octets::long(row::limit_of(row, n)) {
@@ -46,7 +47,7 @@ pub fn plan_tunnel(row: &[u8], session: &[u8], label: &[u8], visited: bool) -> P
         ((host route : List ℕ)
         → planned (now (session .entry)) host route r (readRow (now (row .entry)))
         ≡ type0 (now (session .entry)) host (now (label .entry)) visited (readRow (now (row .entry))))
-        × (fitPlan r (now (row .entry)) ≡ true)
+        × ((route : List ℕ) → fitPlan route r (now (row .entry)) ≡ true)
         ⌝ }
 {
     let n = row::entry_named(row, label);
@@ -74,7 +75,7 @@ pub fn plan_policy(row: &[u8], session: &[u8], wag: bool) -> Plan
         ((host route : List ℕ)
         → planned (now (session .entry)) host route r (readRow (now (row .entry)))
         ≡ type1 (now (session .entry)) route wag (readRow (now (row .entry))))
-        × (fitPlan r (now (row .entry)) ≡ true)
+        × ((route : List ℕ) → within 1 128 (length route) ≡ true → fitPlan route r (now (row .entry)) ≡ true)
         ⌝ }
 {
     let k = row::place_of(row, session);
@@ -95,7 +96,7 @@ pub fn plan_termination(row: &[u8], session: &[u8], label: &[u8]) -> Plan
         ((host route : List ℕ)
         → planned (now (session .entry)) host route r (readRow (now (row .entry)))
         ≡ terminate (now (session .entry)) (now (label .entry)) (readRow (now (row .entry))))
-        × (fitPlan r (now (row .entry)) ≡ true)
+        × ((route : List ℕ) → fitPlan route r (now (row .entry)) ≡ true)
         ⌝ }
 {
     let n = row::entry_named(row, label);

@@ -1,4 +1,5 @@
 // Deciding on a subscriber's row, and a whole call.
+mod carrying;
 mod deciding;
 mod row;
 
@@ -15,4 +16,16 @@ pub enum Plan {
     Route(usize),
     // the place is freed
     Free(usize),
+}
+
+// Whether a cut was made, with the lengths of the cut access's Session-Id and gateway host.
+pub enum Cut {
+    NoCut,
+    Lengths(usize, usize),
+}
+
+// What carrying out a plan gives back: the place of a new access, else 0, and the cut.
+pub struct Done {
+    pub place: usize,
+    pub cut: Cut,
 }

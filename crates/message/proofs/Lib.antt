@@ -1,1 +1,7 @@
 pub mod Walks
+pub mod Heads
+pub mod Gathering
+pub mod Readers
+pub mod Listing
+pub mod Lengths
+pub mod WorkedCases

@@ -1,1 +1,530 @@
-// The functions come with their proofs; the definitions that they meet stand in specs/.
+// Reading a request over the caller's bytes: nothing is copied, a text is a part of the message.
+ghost use mathlib.Core.Path.{_≡_};
+ghost use Prim.Native.Nat.{ℕ, _+_, _*_, _≤_, _<_};
+ghost use lib.ListN.{length};
+ghost use Rattle.message.specs.CallsThatGetNoAnswer.{messageNumber};
+ghost use mathlib.Core.Bool.{Bool, true, false};
+ghost use Rattle.octets.specs.Texts.{zeros};
+ghost use Rattle.octets.specs.Numbers.{net32};
+ghost use Rattle.message.specs.ReadingAMessage.{base, vendor, command, headerCode, avps, walkCode, sessionId, originHost, userName, startsWith, numberField, readingCode, requestOf};
+ghost use Rattle.message.specs.Positions.{slotOf, nameAt, headOf, headAt, Gathered};
+ghost use Rattle.message.specs.Spans.{bytesField, codeOf, isFound, Holds, Reads, BothRead, restCode, tunnelCode, tunnelOf, policyCode, policyOf, Listed, HeardOf};
+
+// Which kind of code a call is answered with.
+pub enum Kind {
+    NoAnswer,
+    Plain,
+    Experimental,
+}
+
+// CALLS THAT GET NO ANSWER
+
+// The number, 5 to 8, of the first test of the message that fails, 0 where none does.
+pub fn number(m: &[u8]) -> u32
+    ensures { λ r. ⌜ r ≡ messageNumber (now (m .entry)) ⌝ }
+{
+    let n = m.len();
+    if n < 20 {
+        return 5;
+    }
+    if 4096 < n {
+        return 5;
+    }
+    if m[0] != 1 {
+        return 6;
+    }
+    if octets::read24(m, 1) != n {
+        return 7;
+    }
+    if n % 4 != 0 {
+        return 7;
+    }
+    if m[4] < 128 {
+        return 8;
+    }
+    0
+}
+
+// THE HEADER
+
+// The code of the first header test that fails, 0 where none does.
+pub fn header_code(m: &[u8]) -> u32
+    requires { ⌜ 20 ≤ length (now m) ⌝ }
+    ensures { λ r. ⌜ r ≡ headerCode (now (m .entry)) ⌝ }
+{
+    let flags = m[4];
+    if flags % 16 != 0 {
+        return 5013;
+    }
+    if flags / 32 % 2 != 0 {
+        return 3008;
+    }
+    let command = octets::read24(m, 5);
+    let application = octets::read32(m, 8);
+    if command == 265 {
+        if application == 1 {
+            return 0;
+        }
+        return 3007;
+    }
+    if command == 275 {
+        if application <= 1 {
+            return 0;
+        }
+        return 3007;
+    }
+    3001
+}
+
+// ONE AVP
+
+// An AVP that passes the four tests: the slot of its name, 14 where no list names it, and where the next one starts.
+pub struct Spot {
+    pub slot: usize,
+    pub next: usize,
+}
+
+pub enum Head {
+    One(Spot),
+    Bad(u32),
+}
+
+// The slot of an AVP without V.
+fn base_slot(code: u32) -> usize
+    ensures { λ r. ⌜ r ≡ slotOf (base code) ⌝ }
+{
+    match code {
+        263 => 0,
+        258 => 1,
+        264 => 2,
+        296 => 3,
+        283 => 4,
+        274 => 5,
+        293 => 6,
+        1 => 7,
+        295 => 8,
+        284 => 9,
+        _ => 14,
+    }
+}
+
+// The slot of an AVP with V: vendor and code together make its name.
+fn vendor_slot(id: u32, code: u32) -> usize
+    ensures { λ r. ⌜ r ≡ slotOf (vendor id code) ⌝ }
+{
+    if id != 10415 {
+        return 14;
+    }
+    match code {
+        600 => 10,
+        311 => 11,
+        100 => 12,
+        312 => 13,
+        _ => 14,
+    }
+}
+
+// The AVP at a place, by the four tests.
+pub fn head_at(m: &[u8], at: usize) -> Head
+    requires { ⌜ at ≤ length (now m) ⌝ }
+    ensures { λ r. ⌜ r ≡ headAt (now (m .entry)) at ⌝ }
+{
+    let left = m.len() - at;
+    if left < 8 {
+        return Head::Bad(5014);
+    }
+    let flags = m[at + 4];
+    if flags % 32 != 0 {
+        return Head::Bad(3009);
+    }
+    let n = octets::read24(m, at + 5);
+    let whole = (n + 3) / 4 * 4;
+    if 128 <= flags {
+        if n < 12 {
+            return Head::Bad(5014);
+        }
+        if left < whole {
+            return Head::Bad(5014);
+        }
+        let slot = vendor_slot(octets::read32(m, at + 8), octets::read32(m, at));
+        return Head::One(Spot {
+            slot,
+            next: at + whole,
+        });
+    }
+    if n < 8 {
+        return Head::Bad(5014);
+    }
+    if left < whole {
+        return Head::Bad(5014);
+    }
+    let slot = base_slot(octets::read32(m, at));
+    Head::One(Spot {
+        slot,
+        next: at + whole,
+    })
+}
+
+// THE WALK
+
+// One walk over all AVPs. It notes for each slot 0 where no AVP has its name, the place of the only one that has,
+// 1 where there are more; its result is the code of the first AVP that fails, 0 where none does.
+// The inner loop steps over the AVPs that no list names; the end and a failing AVP leave both loops.
+fn gather(m: &[u8], index: &mut [usize]) -> u32
+    requires { ⌜ (20 ≤ length (now m)) × (now index ≡ zeros 14) ⌝ }
+    ensures { λ r. ⌜ (r ≡ walkCode (now (m .entry))) × Gathered (now (m .entry)) (now (index .exit)) ⌝ }
+{
+    let mut at: usize = 20;
+    'walk: loop {
+        let named = loop {
+            if m.len() <= at {
+                break 'walk 0;
+            }
+            let h = head_at(m, at);
+            match h {
+                Head::Bad(code) => break 'walk code,
+                Head::One(a) => {
+                    if a.slot < 14 {
+                        break a;
+                    }
+                    at = a.next;
+                }
+            }
+        };
+        let slot = named.slot;
+        if index[slot] == 0 {
+            index[slot] = at;
+        } else {
+            index[slot] = 1;
+        }
+        at = named.next;
+    }
+}
+
+// ONE FIELD
+
+// A part of the message.
+pub struct Span {
+    pub at: usize,
+    pub len: usize,
+}
+
+// What a field's reader answers.
+pub enum Got {
+    Found(Span),
+    Absent,
+    Code(u32),
+}
+
+// How long the header of an AVP in a slot is: the last four have V.
+fn head_of(slot: usize) -> usize
+    ensures { λ r. ⌜ r ≡ headOf slot ⌝ }
+{
+    if slot < 10 {
+        return 8;
+    }
+    12
+}
+
+// The number in a value of four bytes.
+fn value32(value: &[u8]) -> u32
+    requires { ⌜ 4 ≤ length (now value) ⌝ }
+    ensures { λ r. ⌜ r ≡ net32 (now (value .entry)) 0 ⌝ }
+{
+    octets::read32(value, 0)
+}
+
+// The field of a slot, whose value has low to high bytes.
+fn text_field(m: &[u8], index: &[usize], slot: usize, low: usize, high: usize) -> Got
+    requires { ⌜ (slot < 14) × (1 ≤ low) × Gathered (now m) (now index) ⌝ }
+    ensures { λ r. ⌜ ((b : Bool) → Reads (now (m .entry)) (bytesField (nameAt slot) b low high) r) ⌝ }
+{
+    let at = index[slot];
+    if at == 0 {
+        return Got::Absent;
+    }
+    if at == 1 {
+        return Got::Code(5009);
+    }
+    let head = head_of(slot);
+    let len = octets::read24(m, at + 5) - head;
+    if len < low {
+        return Got::Code(5014);
+    }
+    if high < len {
+        return Got::Code(5014);
+    }
+    Got::Found(Span { at: at + head, len })
+}
+
+// The field of a slot whose value is a number from low to high.
+fn number_field(m: &[u8], index: &[usize], slot: usize, low: u32, high: u32) -> Got
+    requires { ⌜ (slot < 14) × Gathered (now m) (now index) ⌝ }
+    ensures { λ r. ⌜ Reads (now (m .entry)) (numberField (nameAt slot) low high) r ⌝ }
+{
+    let g = text_field(m, index, slot, 4, 4);
+    let Got::Found(s) = g else {
+        return g;
+    };
+    let a = s.at;
+    let e = a + s.len;
+    let n = value32(&m[a..e]);
+    if n < low {
+        return Got::Code(5004);
+    }
+    if high < n {
+        return Got::Code(5004);
+    }
+    g
+}
+
+// What a required field that was not found is refused with.
+fn refusal(g: Got) -> u32
+    ensures { λ r. ⌜ r ≡ codeOf true g ⌝ }
+{
+    match g {
+        Got::Found(_) => 0,
+        Got::Absent => 5005,
+        Got::Code(n) => n,
+    }
+}
+
+// THE LISTS
+
+// The first five fields, of both requests: Session-Id and Origin-Host, or the code of the first that fails.
+pub enum Both {
+    Held(Span, Span),
+    Failed(u32),
+}
+
+// What is asked, by parts of the message.
+pub enum Asked {
+    Tunnel {
+        session: Span,
+        host: Span,
+        label: Span,
+        visited: bool,
+    },
+    Policy {
+        session: Span,
+        route: Span,
+    },
+    Termination {
+        session: Span,
+        label: Span,
+    },
+}
+
+// A message as it is read: refused with a code, or the user and what is asked.
+pub enum Told {
+    Refused(u32),
+    Request(Span, Asked),
+}
+
+// Whether the first AVP is Session-Id, in a message whose walk passed.
+fn starts(m: &[u8]) -> bool
+    requires { ⌜ (20 ≤ length (now m)) × (walkCode (now m) ≡ 0) ⌝ }
+    ensures { λ r. ⌜ r ≡ startsWith sessionId (avps (now (m .entry))) ⌝ }
+{
+    if m.len() < 28 {
+        return false;
+    }
+    if 128 <= m[24] {
+        return false;
+    }
+    octets::read32(m, 20) == 263
+}
+
+fn first_five(m: &[u8], index: &[usize]) -> Both
+    requires { ⌜ (20 ≤ length (now m)) × (walkCode (now m) ≡ 0) × Gathered (now m) (now index) ⌝ }
+    ensures { λ r. ⌜ BothRead (now (m .entry)) r ⌝ }
+{
+    if !starts(m) {
+        return Both::Failed(5005);
+    }
+    let g1 = text_field(m, index, 0, 1, 128);
+    let Got::Found(session) = g1 else {
+        return Both::Failed(refusal(g1));
+    };
+    let g2 = number_field(m, index, 1, 1, 1);
+    let Got::Found(_) = g2 else {
+        return Both::Failed(refusal(g2));
+    };
+    let g3 = text_field(m, index, 2, 1, 128);
+    let Got::Found(host) = g3 else {
+        return Both::Failed(refusal(g3));
+    };
+    let g4 = text_field(m, index, 3, 1, 128);
+    let Got::Found(_) = g4 else {
+        return Both::Failed(refusal(g4));
+    };
+    let g5 = text_field(m, index, 4, 1, 128);
+    let Got::Found(_) = g5 else {
+        return Both::Failed(refusal(g5));
+    };
+    Both::Held(session, host)
+}
+
+// The end of a 265 of type 0: the W-APN, and a policy that is tested and not used.
+fn tunnel_end(
+    m: &[u8],
+    index: &[usize],
+    user: Span,
+    session: Span,
+    host: Span,
+    visited: bool,
+) -> Told
+    requires { ⌜ (Gathered (now m) (now index)) × (Holds (now m) userName user) × (Holds (now m) sessionId session) × (Holds (now m) originHost host) ⌝ }
+    ensures { λ r. ⌜ Listed (now (m .entry)) (tunnelCode (avps (now (m .entry)))) (tunnelOf visited (avps (now (m .entry)))) r ⌝ }
+{
+    let g1 = text_field(m, index, 12, 1, 100);
+    let Got::Found(label) = g1 else {
+        return Told::Refused(refusal(g1));
+    };
+    let g2 = text_field(m, index, 13, 1, 128);
+    if let Got::Code(n) = g2 {
+        return Told::Refused(n);
+    }
+    Told::Request(
+        user,
+        Asked::Tunnel {
+            session,
+            host,
+            label,
+            visited,
+        },
+    )
+}
+
+// The end of a 265 of type 1: a W-APN that is tested and not used, and the policy.
+fn policy_end(m: &[u8], index: &[usize], user: Span, session: Span) -> Told
+    requires { ⌜ (Gathered (now m) (now index)) × (Holds (now m) userName user) × (Holds (now m) sessionId session) ⌝ }
+    ensures { λ r. ⌜ Listed (now (m .entry)) (policyCode (avps (now (m .entry)))) (policyOf (avps (now (m .entry)))) r ⌝ }
+{
+    let g1 = text_field(m, index, 12, 1, 100);
+    if let Got::Code(n) = g1 {
+        return Told::Refused(n);
+    }
+    let g2 = text_field(m, index, 13, 1, 128);
+    let Got::Found(route) = g2 else {
+        return Told::Refused(refusal(g2));
+    };
+    Told::Request(user, Asked::Policy { session, route })
+}
+
+// Whether a field that may be absent is there.
+fn is_found(g: Got) -> bool
+    ensures { λ r. ⌜ r ≡ isFound g ⌝ }
+{
+    match g {
+        Got::Found(_) => true,
+        _ => false,
+    }
+}
+
+// The fields of a 265.
+fn list_265(m: &[u8], index: &[usize], session: Span, host: Span) -> Told
+    requires { ⌜ (Gathered (now m) (now index)) × (Holds (now m) sessionId session) × (Holds (now m) originHost host) ⌝ }
+    ensures { λ r. ⌜ Listed (now (m .entry)) (restCode 265 (avps (now (m .entry)))) (requestOf 265 (avps (now (m .entry)))) r ⌝ }
+{
+    let g1 = number_field(m, index, 5, 2, 2);
+    let Got::Found(_) = g1 else {
+        return Told::Refused(refusal(g1));
+    };
+    let g2 = text_field(m, index, 6, 1, 128);
+    let Got::Found(_) = g2 else {
+        return Told::Refused(refusal(g2));
+    };
+    let g3 = text_field(m, index, 7, 1, 128);
+    let Got::Found(user) = g3 else {
+        return Told::Refused(refusal(g3));
+    };
+    let g4 = number_field(m, index, 11, 0, 1);
+    let Got::Found(kind) = g4 else {
+        return Told::Refused(refusal(g4));
+    };
+    let g5 = text_field(m, index, 10, 1, 128);
+    if let Got::Code(n) = g5 {
+        return Told::Refused(n);
+    }
+    let a = kind.at;
+    let e = a + kind.len;
+    if value32(&m[a..e]) == 0 {
+        return tunnel_end(m, index, user, session, host, is_found(g5));
+    }
+    policy_end(m, index, user, session)
+}
+
+// The fields of a 275.
+fn list_275(m: &[u8], index: &[usize], session: Span) -> Told
+    requires { ⌜ (Gathered (now m) (now index)) × (Holds (now m) sessionId session) ⌝ }
+    ensures { λ r. ⌜ Listed (now (m .entry)) (restCode 275 (avps (now (m .entry)))) (requestOf 275 (avps (now (m .entry)))) r ⌝ }
+{
+    let g1 = number_field(m, index, 8, 1, 8);
+    let Got::Found(_) = g1 else {
+        return Told::Refused(refusal(g1));
+    };
+    let g2 = text_field(m, index, 6, 1, 128);
+    let Got::Found(_) = g2 else {
+        return Told::Refused(refusal(g2));
+    };
+    let g3 = text_field(m, index, 7, 1, 128);
+    let Got::Found(user) = g3 else {
+        return Told::Refused(refusal(g3));
+    };
+    let g4 = text_field(m, index, 12, 1, 100);
+    let Got::Found(label) = g4 else {
+        return Told::Refused(refusal(g4));
+    };
+    Told::Request(user, Asked::Termination { session, label })
+}
+
+// Both lists of a message whose header and walk passed.
+fn lists(m: &[u8], index: &[usize]) -> Told
+    requires { ⌜ (20 ≤ length (now m)) × (headerCode (now m) ≡ 0) × (walkCode (now m) ≡ 0) × Gathered (now m) (now index) ⌝ }
+    ensures { λ r. ⌜ Listed (now (m .entry)) (readingCode (now (m .entry))) (requestOf (command (now (m .entry))) (avps (now (m .entry)))) r ⌝ }
+{
+    let b = first_five(m, index);
+    match b {
+        Both::Failed(n) => Told::Refused(n),
+        Both::Held(session, host) => {
+            if octets::read24(m, 5) == 265 {
+                list_265(m, index, session, host)
+            } else {
+                list_275(m, index, session)
+            }
+        }
+    }
+}
+
+// A whole message.
+pub struct Heard {
+    pub told: Told,
+    pub proxies: bool,
+}
+
+// Header tests, the walk, the lists: the request with its fields, or the code of the first test that fails;
+// and whether the answer has a Proxy-Info to copy.
+pub fn read(m: &[u8]) -> Heard
+    requires { ⌜ 20 ≤ length (now m) ⌝ }
+    ensures { λ r. ⌜ HeardOf (now (m .entry)) r ⌝ }
+{
+    let h = header_code(m);
+    if h != 0 {
+        return Heard {
+            told: Told::Refused(h),
+            proxies: false,
+        };
+    }
+    let mut index = [0usize; 14];
+    let w = gather(m, &mut index);
+    if w != 0 {
+        return Heard {
+            told: Told::Refused(w),
+            proxies: false,
+        };
+    }
+    let proxies = index[9] != 0;
+    let told = lists(m, &index);
+    Heard { told, proxies }
+}

@@ -9,7 +9,7 @@ use native.Mathlib.Omega.{arith}
 use borrow.Author.Tests.{eqb-true, eq-eqb, ne-eqb}
 use lib.Dec.{eqb}
 use lib.ListN.{length, getD, take, drop, replicate, length-append, length-take, length-drop, length-replicate, drop-of-length-le, take-append-drop}
-use lib.Seq.{drop-cons, paste, take-length, drop-length, drop-drop, take-take, take-add, take-append-le, drop-append-add, drop-append-le, length-take-le, take-at}
+use lib.Seq.{drop-cons, paste, take-length, drop-length, drop-drop, take-take, take-add, take-append-le, drop-append-add, drop-append-le, length-take-le, take-at, drop-at}
 use Rattle.octets.specs.Texts.{part, zeros, filled, same, allZero, put}
 use Rattle.octets.proofs.Lists.{by-test, same-eq}
 
@@ -120,6 +120,26 @@ put-then room at a b k e h =
     let dr : drop (at + length a + length b) (p ++ q) ≡ drop (at + length a + length b) room =
     ap (λ (n : ℕ). drop (n + length b) (p ++ q)) (sym hp) ∙ drop-append-add p q (length b) ∙ drop-drop (length b) (at + length a) room in
     rw (e, ← append-assoc (take at room) a q, take-at p q (at + length a) hp, dr, length-append, ← add-assoc at (length a) (length b)) (simp append-assoc)
+
+-- a put over a put of the same length
+pub put-again : (room : List ℕ) (a : ℕ) (s t : List ℕ) → length s ≡ length t → a + length s ≤ length room → put (put room a s) a t ≡ put room a t
+unfolding put
+put-again room a s t e h =
+    let la : length (take a room) ≡ a = length-take-le a room (omega arith) in
+    let front : take a (take a room ++ (s ++ drop (a + length s) room)) ≡ take a room = take-at (take a room) _ a la in
+    let back : drop (a + length t) (take a room ++ (s ++ drop (a + length s) room)) ≡ drop (a + length t) room =
+    ap (λ (n : ℕ). drop (n + length t) (take a room ++ (s ++ drop (a + length s) room))) (sym la)
+    ∙ drop-append-add (take a room) (s ++ drop (a + length s) room) (length t)
+    ∙ drop-at s (drop (a + length s) room) (length t) e
+    ∙ ap (λ (n : ℕ). drop (a + n) room) e in
+    rw (front, back)
+
+-- what was put is there
+pub put-there : (room : List ℕ) (a : ℕ) (s : List ℕ) (n : ℕ) → length s ≡ n → a + n ≤ length room → part (put room a s) a n ≡ s
+unfolding put
+put-there room a s n e h =
+    let la : length (take a room) ≡ a = length-take-le a room (omega arith) in
+    ap (take n) (drop-at (take a room) (s ++ drop (a + length s) room) a la) ∙ take-at s (drop (a + length s) room) n e
 
 -- a put of no bytes changes nothing
 pub put-nothing : (room : List ℕ) (a : ℕ) → put room a [] ≡ room

@@ -172,7 +172,7 @@ same-row r s h = rw (same-past 512 (headBytes s) (placesBytes (s .accesses) (cou
 
 -- a place of the row
 
-place-read : (r : List ℕ) (l : List ℕ) (k : ℕ)
+pub place-read : (r : List ℕ) (l : List ℕ) (k : ℕ)
     → placeBytes (map (λ (j : ℕ). readAccess j (block r j)) l) k ≡ pick (isOn l k) (accessBytes (readAccess k (block r k))) (zeros 512)
 unfolding placeBytes isOn every pick readAccess
 place-read r [] k = refl

@@ -6,3 +6,8 @@ pub mod Fletcher
 pub mod Rows
 pub mod Tests
 pub mod Entries
+pub mod Bits
+pub mod Line
+pub mod Accesses
+pub mod Tested
+pub mod WorkedCases

@@ -23,7 +23,7 @@ use Rattle.table.specs.TheTable.{Access, Entry, Subscriber, block, fromB
 -- BITS
 
 -- bit i of a number made from bits
-bit-of : (bs : List Bool) (i : ℕ) → eqb (fromBits bs / 2 ^ i % 2) 1 ≡ getD bs i false
+pub bit-of : (bs : List Bool) (i : ℕ) → eqb (fromBits bs / 2 ^ i % 2) 1 ≡ getD bs i false
 unfolding fromBits pick
 bit-of [] i = rw (zero-div (2 ^ i))
 bit-of (true ∷ bs) zero = rw (pow-zero 2, div-one (1 + 2 * fromBits bs)) (eq-eqb ((1 + 2 * fromBits bs) % 2) 1 (omega arith))
@@ -35,14 +35,14 @@ bit-of (b ∷ bs) (suc i) =
     half true n = omega arith
     half false n = omega arith
 
-at-counted : (f : ℕ → Bool) (b n i : ℕ) → i < n → getD (map f (counted b n)) i false ≡ f (b + i)
+pub at-counted : (f : ℕ → Bool) (b n i : ℕ) → i < n → getD (map f (counted b n)) i false ≡ f (b + i)
 unfolding counted
 at-counted f b zero i h = absurd (omega arith)
 at-counted f b (suc n) zero h = let q : b + 0 ≡ b = omega arith in rw q
 at-counted f b (suc n) (suc i) h = let q : b + suc i ≡ suc b + i = omega arith in rw q (at-counted f (suc b) n i (omega arith))
 
 -- where byte 17 has the line's bits, a place is in use exactly if it is on the line
-in-use : (r : List ℕ) (k : ℕ) → getD (block r 0) 17 0 ≡ usedBits (orderLine r) → within 1 8 k ≡ true → inUse r k ≡ isOn (orderLine r) k
+pub in-use : (r : List ℕ) (k : ℕ) → getD (block r 0) 17 0 ≡ usedBits (orderLine r) → within 1 8 k ≡ true → inUse r k ≡ isOn (orderLine r) k
 unfolding inUse usedBits places
 in-use r k h w =
     let lo : 1 ≤ k = within-low 1 8 k w in
@@ -108,13 +108,13 @@ each-self [] = refl
 each-self (x ∷ l) = both (on-first x l x refl) (every-imp (isOn l) (isOn (x ∷ l)) (on-more x l) l (each-self l))
 
 -- what holds of each place on the line, and of each place
-each-on : (l : List ℕ) (f : ℕ → Bool) → ((k : ℕ) → isOn l k ≡ true → f k ≡ true) → every f l ≡ true
+pub each-on : (l : List ℕ) (f : ℕ → Bool) → ((k : ℕ) → isOn l k ≡ true → f k ≡ true) → every f l ≡ true
 each-on l f h = every-imp (isOn l) f h l (each-self l)
 
-each-place-of : (f : ℕ → Bool) → ((k : ℕ) → within 1 8 k ≡ true → f k ≡ true) → every f places ≡ true
+pub each-place-of : (f : ℕ → Bool) → ((k : ℕ) → within 1 8 k ≡ true → f k ≡ true) → every f places ≡ true
 each-place-of f h = every-imp (within 1 8) f h places (places-eight .1)
 
-at-place : (f : ℕ → Bool) (k : ℕ) → every f places ≡ true → within 1 8 k ≡ true → f k ≡ true
+pub at-place : (f : ℕ → Bool) (k : ℕ) → every f places ≡ true → within 1 8 k ≡ true → f k ≡ true
 unfolding places
 at-place f k h w = every-on f (counted 1 8) k h (in-counted 1 8 k (within-low 1 8 k w) (omega (arith, within-high 1 8 k w)))
 
@@ -138,7 +138,7 @@ mark-small m n h =
     (λ e. le-leb m 1 (omega (arith, eqb-true m 0 (rw e at h))))
     (λ e. le-leb m 1 (omega (arith, eqb-true m 1 (rw e at h))))
 
-sums-tail : (b : List ℕ) → length b ≡ 512 → same (part b 510 2) (sums (take 510 b)) ≡ sumOk b
+pub sums-tail : (b : List ℕ) → length b ≡ 512 → same (part b 510 2) (sums (take 510 b)) ≡ sumOk b
 unfolding sumOk
 sums-tail b h = rw (take-all 2 (drop 510 b) (rw length-drop (omega arith)))
 
@@ -146,7 +146,7 @@ sums-of-zeros : sumOk (zeros 512) ≡ true
 unfolding sumOk zeros sumsFrom same
 sums-of-zeros = refl
 
-sums-zero : (b : List ℕ) → length b ≡ 512 → allZero b ≡ true → sumOk b ≡ true
+pub sums-zero : (b : List ℕ) → length b ≡ 512 → allZero b ≡ true → sumOk b ≡ true
 unfolding allZero
 sums-zero b h z = rw (same-eq b (zeros (length b)) z, h) sums-of-zeros
 
@@ -294,7 +294,7 @@ clauses r s =
       marked = and-right (underLimits 1 (limits ((readRow r) .entries)) ((readRow r) .accesses)) _ s7;
     }
 
-clauses-sound : (r : List ℕ) → Clauses r → sound r ≡ true
+pub clauses-sound : (r : List ℕ) → Clauses r → sound r ≡ true
 unfolding sound hasForm lineExact every
 clauses-sound r c =
     rw (
@@ -395,7 +395,7 @@ module _ (r : List ℕ) (c : Clauses r) where
       sym (entries-form (getD (block r 0) 18 0) 4 (part (block r 0) 32 416) (length-part (block r 0) 32 416 (omega arith)) count-of) ∙ c .entries-form
 
   -- a place on the line has an access's form
-  formed-on : (k : ℕ) → within 1 8 k ≡ true → isOn (orderLine r) k ≡ true → Formed (block r k)
+  pub formed-on : (k : ℕ) → within 1 8 k ≡ true → isOn (orderLine r) k ≡ true → Formed (block r k)
   unfolding placeForm pick
   formed-on k w o =
       let u : inUse r k ≡ true = in-use r k (c .bits) w ∙ o in

@@ -1,21 +1,22 @@
 -- The small tests that the functions of a row share, as the code makes them.
 use mathlib.Core.Path.{_≡_, refl, sym, ap, _∙_}
-use mathlib.Core.Bool.{Bool, true, false, not, _&&_, and-true}
+use mathlib.Core.Bool.{Bool, true, false, not, _&&_, and-assoc, and-true}
 use mathlib.Core.List.{List, [], _∷_}
 use Prim.Native.Nat.{ℕ, zero, suc, _+_, _-_, _*_, _≤_, _<_}
 use native.Mathlib.Omega.{arith}
 use native.Mathlib.Numerals.{add-one}
-use borrow.Author.Tests.{le-leb, lt-leb, eq-eqb, ne-eqb, not-true, not-false}
+use borrow.Author.Tests.{le-leb, lt-leb, eq-eqb, leb-true, ne-eqb, not-true, not-false}
 use lib.Dec.{eqb, leb}
 use lib.ListN.{length, getD, take, drop, length-take, length-drop, drop-of-length-le}
 use lib.Seq.{drop-cons, take-all}
 use Rattle.octets.specs.Choice.{pick, within}
 use Rattle.octets.specs.Lists.{every, distinct, upTo0}
 use Rattle.octets.specs.Texts.{part, same, allZero}
-use Rattle.octets.proofs.Lists.{by-test, and-left, and-right, both}
+use Rattle.octets.proofs.Lists.{by-test, and-left, and-right, both, within-high}
 use Rattle.octets.proofs.Texts.{length-part}
 use Rattle.table.proofs.Sound.{Headed, head-of, text-within}
-use Rattle.table.specs.Soundness.{zeroBehind, isName, isDigit, headForm}
+use Rattle.table.specs.Soundness.{zeroBehind, accessForm, isName, isDigit, headForm}
+use Rattle.table.specs.TheTable.{block}
 
 pub too-low : (low high n : ℕ) → n < low → false ≡ within low high n
 unfolding within
@@ -129,3 +130,26 @@ behind-said room n m e w = w ∙ ap (λ (k : ℕ). zeroBehind k room) e
 
 pub rest-zero : (s : List ℕ) (a b : ℕ) → a ≤ length s → a ≡ b → allZero (take (length s - a) (drop a s)) ≡ allZero (drop b s)
 rest-zero s a b h e = rw (take-all (length s - a) (drop a s) (rw length-drop (omega arith)), e)
+
+-- A PLACE IN USE
+
+pub access-parts : (b : List ℕ) → accessForm b
+    ≡ (eqb (getD b 0 0) 2 && (within 1 128 (getD b 2 0) && (within 1 128 (getD b 3 0) && leb (getD b 5 0) 128)))
+    && (leb (getD b 4 0) 1 && (allZero (part b 6 2)
+    && (zeroBehind (getD b 2 0) (part b 8 128) && (zeroBehind (getD b 3 0) (part b 136 128) && (zeroBehind (getD b 5 0) (part b 264 128) && allZero (part b 392 118))))))
+unfolding accessForm
+access-parts b = simp and-assoc
+
+pub lengths-fit : (b : List ℕ) → eqb (getD b 0 0) 2 && (within 1 128 (getD b 2 0) && (within 1 128 (getD b 3 0) && leb (getD b 5 0) 128)) ≡ true
+    → (getD b 2 0 ≤ 128) × (getD b 3 0 ≤ 128) × (getD b 5 0 ≤ 128)
+lengths-fit b h =
+    let h1 = and-right (eqb (getD b 0 0) 2) _ h in
+    let h2 = and-right (within 1 128 (getD b 2 0)) _ h1 in (
+      within-high 1 128 _ (and-left (within 1 128 (getD b 2 0)) _ h1),
+      within-high 1 128 _ (and-left (within 1 128 (getD b 3 0)) _ h2),
+      leb-true (getD b 5 0) 128 (and-right (within 1 128 (getD b 3 0)) _ h2),
+    )
+
+-- the part that is lent for block k
+pub block-lent : (r : List ℕ) (k : ℕ) → take (512 * k + 512 - 512 * k) (drop (512 * k) r) ≡ block r k
+block-lent r k = lent-at r (512 * k) (512 * k) 512 refl

@@ -1,15 +1,16 @@
 // The rows of the table: their sums, when one is sound, and how a subscriber's is found.
 ghost use mathlib.Core.Path.{_≡_};
-ghost use mathlib.Core.Bool.{true, not, _&&_};
+ghost use mathlib.Core.Bool.{true, false, not, _&&_};
 ghost use mathlib.Core.List.{[], _∷_};
-ghost use Prim.Native.Nat.{ℕ, _+_, _-_, _*_, _<_, _≤_};
+ghost use Prim.Native.Nat.{ℕ, _+_, _-_, _*_, _/_, _%_, _^_, _<_, _≤_};
 ghost use lib.ListN.{length, getD, take, drop};
 ghost use lib.Dec.{eqb, leb};
 ghost use Rattle.octets.specs.Choice.{pick, within};
 ghost use Rattle.octets.specs.Texts.{part, same, allZero};
-ghost use Rattle.table.specs.TheTable.{readEntries, sums, tableNumber, isRowOf, firstRow, rows, lookup};
+ghost use Rattle.table.specs.TheTable.{orderLine, places, readEntries, readRow, sums, tableNumber, isRowOf, firstRow, rows, lookup};
 ghost use Rattle.octets.specs.Lists.{every, distinct, sumOf, upTo0};
-ghost use Rattle.table.specs.Soundness.{zeroBehind, isDigit, isName, headForm, entryForm, entriesForm, sameLabel, labels, limits};
+ghost use Rattle.table.specs.Soundness.{zeroBehind, isDigit, isName, headForm, entryForm, entriesForm, sameLabel, labels, limits, inUse, accessForm, lineExact, sessions, onEntry, underLimits, sound};
+ghost use Rattle.table.specs.RowTests.{accessSound, placeSound, headSound};
 ghost use Rattle.table.specs.Answers.{found, rowEnd};
 
 // The two sums of a block, each a remainder modulo 255.
@@ -18,7 +19,8 @@ pub struct Sums {
     pub second: u32,
 }
 
-// Fletcher-16 over the 510 bytes of a block that come before its sums.
+// Fletcher-16 over the 510 bytes of a block that come before its sums. Both plain sums fit, so that one remainder each,
+// at the end, is enough.
 pub fn sums_of(s: &[u8]) -> Sums
     requires { ⌜ length (now s) ≡ 510 ⌝ }
     ensures { λ r. ⌜ (r .second ∷ r .first ∷ [] ≡ sums (now (s .entry))) × (r .first < 255) × (r .second < 255) ⌝ }
@@ -27,13 +29,13 @@ pub fn sums_of(s: &[u8]) -> Sums
     let mut b: u32 = 0;
     let mut i: usize = 0;
     while i < s.len() {
-        a = (a + octets::wide(s[i])) % 255;
-        b = (b + a) % 255;
+        a += octets::wide(s[i]);
+        b += a;
         i += 1;
     }
     Sums {
-        first: a,
-        second: b,
+        first: a % 255,
+        second: b % 255,
     }
 }
 
@@ -89,14 +91,14 @@ pub fn lookup(t: &[u8], name: &[u8]) -> RowFound
     requires { ⌜ tableNumber (now t) ≡ 0 ⌝ }
     ensures { λ r. ⌜ (found r ≡ lookup (now (t .entry)) (now (name .entry))) × (rowEnd r ≤ length (now (t .entry))) ⌝ }
 {
-    let mut i: usize = 0;
+    let mut n: usize = 0;
     let mut at: usize = 0;
     while at < t.len() {
         let end = at + 4608;
         if is_row_of(&t[at..end], name) {
-            return RowFound::At(i);
+            return RowFound::At(n);
         }
-        i += 1;
+        n += 1;
         at = end;
     }
     RowFound::Nothing
@@ -166,7 +168,7 @@ fn block_sums_agree(b: &[u8]) -> bool
 
 // BLOCK 0
 
-fn digits(s: &[u8]) -> bool
+pub fn digits(s: &[u8]) -> bool
     ensures { λ r. ⌜ r ≡ every isDigit (now (s .entry)) ⌝ }
 {
     let mut i: usize = 0;
@@ -323,4 +325,267 @@ fn labels_differ(room: &[u8], n: usize) -> bool
         i += 1;
     }
     true
+}
+
+// THE ORDER LINE, AND BYTE 17
+
+// Bit k - 1 is set: place k is in use.
+fn in_use(bits: u8, k: usize) -> bool
+    requires { ⌜ (1 ≤ k) × (k ≤ 8) ⌝ }
+    ensures { λ r. ⌜ r ≡ eqb (bits / 2 ^ (k - 1) % 2) 1 ⌝ }
+{
+    bits >> (k - 1) & 1 == 1
+}
+
+// The bits with that of place k, which was not among them.
+fn with_place(bits: u8, k: usize) -> u8
+    requires { ⌜ (1 ≤ k) × (k ≤ 8) × (eqb (bits / 2 ^ (k - 1) % 2) 1 ≡ false) ⌝ }
+    ensures { λ r. ⌜ r ≡ bits + 2 ^ (k - 1) ⌝ }
+{
+    bits | 1 << (k - 1)
+}
+
+// The order line lists exactly the places in use, once each. Its bits are gathered, and none comes twice.
+fn line_exact(r: &[u8]) -> bool
+    requires { ⌜ length (now r) ≡ 4608 ⌝ }
+    ensures { λ x. ⌜ x ≡ lineExact (now (r .entry)) ⌝ }
+{
+    let n = line_length(&r[20..28]);
+    let mut used: u8 = 0;
+    let mut i: usize = 0;
+    while i < n {
+        let k = octets::long(r[20 + i]);
+        if 8 < k {
+            return false;
+        }
+        if in_use(used, k) {
+            return false;
+        }
+        used = with_place(used, k);
+        i += 1;
+    }
+    r[17] == used
+}
+
+// How many accesses there are: the ones of byte 17.
+pub fn accesses_in_use(r: &[u8]) -> usize
+    requires { ⌜ (length (now r) ≡ 4608) × (lineExact (now r) ≡ true) ⌝ }
+    ensures { λ x. ⌜ (x ≡ length (orderLine (now (r .entry)))) × (x ≤ 8) ⌝ }
+{
+    u8::count_ones(r[17]) as usize
+}
+
+// THE PLACES
+
+// Byte 4 is 1 exactly if byte 5, the policy's length, is 1 or more.
+fn policy_marked(mark: u8, size: u8) -> bool
+    ensures { λ r. ⌜ r ≡ eqb mark (pick (leb 1 size) 1 0) ⌝ }
+{
+    if size < 1 {
+        return mark == 0;
+    }
+    mark == 1
+}
+
+fn access_lengths(b: &[u8]) -> bool
+    requires { ⌜ length (now b) ≡ 512 ⌝ }
+    ensures { λ r. ⌜ r ≡ eqb (getD (now (b .entry)) 0 0) 2 && (within 1 128 (getD (now (b .entry)) 2 0) && (within 1 128 (getD (now (b .entry)) 3 0) && leb (getD (now (b .entry)) 5 0) 128)) ⌝ }
+{
+    if b[0] != 2 {
+        return false;
+    }
+    if !is_within(1, 128, b[2]) {
+        return false;
+    }
+    if !is_within(1, 128, b[3]) {
+        return false;
+    }
+    b[5] <= 128
+}
+
+// Zeros behind Session-Id, host and policy, and behind the three.
+fn access_rooms(b: &[u8]) -> bool
+    requires { ⌜ (length (now b) ≡ 512) × (getD (now b) 2 0 ≤ 128) × (getD (now b) 3 0 ≤ 128) × (getD (now b) 5 0 ≤ 128) ⌝ }
+    ensures { λ r. ⌜ r ≡ zeroBehind (getD (now (b .entry)) 2 0) (part (now (b .entry)) 8 128) && (zeroBehind (getD (now (b .entry)) 3 0) (part (now (b .entry)) 136 128) && (zeroBehind (getD (now (b .entry)) 5 0) (part (now (b .entry)) 264 128) && allZero (part (now (b .entry)) 392 118))) ⌝ }
+{
+    if !zero_behind(&b[8..136], octets::long(b[2])) {
+        return false;
+    }
+    if !zero_behind(&b[136..264], octets::long(b[3])) {
+        return false;
+    }
+    if !zero_behind(&b[264..392], octets::long(b[5])) {
+        return false;
+    }
+    octets::all_zero(&b[392..510])
+}
+
+fn access_form(b: &[u8]) -> bool
+    requires { ⌜ length (now b) ≡ 512 ⌝ }
+    ensures { λ r. ⌜ r ≡ accessForm (now (b .entry)) ⌝ }
+{
+    if !access_lengths(b) {
+        return false;
+    }
+    if 1 < b[4] {
+        return false;
+    }
+    if !octets::all_zero(&b[6..8]) {
+        return false;
+    }
+    access_rooms(b)
+}
+
+fn access_sound(b: &[u8], n: u8) -> bool
+    requires { ⌜ length (now b) ≡ 512 ⌝ }
+    ensures { λ r. ⌜ r ≡ accessSound n (now (b .entry)) ⌝ }
+{
+    if !access_form(b) {
+        return false;
+    }
+    if !policy_marked(b[4], b[5]) {
+        return false;
+    }
+    if !is_within(1, n, b[1]) {
+        return false;
+    }
+    block_sums_agree(b)
+}
+
+fn place_sound(r: &[u8], k: usize, n: u8) -> bool
+    requires { ⌜ (length (now r) ≡ 4608) × (1 ≤ k) × (k ≤ 8) ⌝ }
+    ensures { λ x. ⌜ x ≡ placeSound n (now (r .entry)) k ⌝ }
+{
+    let at = 512 * k;
+    let end = at + 512;
+    if in_use(r[17], k) {
+        return access_sound(&r[at..end], n);
+    }
+    octets::all_zero(&r[at..end])
+}
+
+fn places_sound(r: &[u8], n: u8) -> bool
+    requires { ⌜ length (now r) ≡ 4608 ⌝ }
+    ensures { λ x. ⌜ x ≡ every (placeSound n (now (r .entry))) places ⌝ }
+{
+    let mut k: usize = 1;
+    while k < 9 {
+        if !place_sound(r, k, n) {
+            return false;
+        }
+        k += 1;
+    }
+    true
+}
+
+// WHAT THE ACCESSES SAY, along an exact order line
+
+// No Session-Id behind that of the i-th access is the same.
+fn session_once(r: &[u8], n: usize, i: usize) -> bool
+    requires { ⌜ (length (now r) ≡ 4608) × (lineExact (now r) ≡ true) × (n ≡ length (orderLine (now r))) × (i < n) ⌝ }
+    ensures { λ x. ⌜ x ≡ every (λ y. not (same (getD (sessions ((readRow (now (r .entry))) .accesses)) i []) y)) (drop (i + 1) (sessions ((readRow (now (r .entry))) .accesses))) ⌝ }
+{
+    let a = octets::long(r[20 + i]);
+    let at = 512 * a + 8;
+    let end = at + octets::long(r[512 * a + 2]);
+    let mut j: usize = i + 1;
+    while j < n {
+        let b = octets::long(r[20 + j]);
+        let from = 512 * b + 8;
+        let to = from + octets::long(r[512 * b + 2]);
+        if octets::same_bytes(&r[at..end], &r[from..to]) {
+            return false;
+        }
+        j += 1;
+    }
+    true
+}
+
+fn sessions_differ(r: &[u8]) -> bool
+    requires { ⌜ (length (now r) ≡ 4608) × (lineExact (now r) ≡ true) ⌝ }
+    ensures { λ x. ⌜ x ≡ distinct same (sessions ((readRow (now (r .entry))) .accesses)) ⌝ }
+{
+    let n = accesses_in_use(r);
+    let mut i: usize = 0;
+    while i < n {
+        if !session_once(r, n, i) {
+            return false;
+        }
+        i += 1;
+    }
+    true
+}
+
+// How many accesses are on entry e.
+pub fn accesses_on(r: &[u8], e: usize) -> usize
+    requires { ⌜ (length (now r) ≡ 4608) × (lineExact (now r) ≡ true) ⌝ }
+    ensures { λ x. ⌜ (x ≡ length (onEntry e ((readRow (now (r .entry))) .accesses))) × (x ≤ 8) ⌝ }
+{
+    let n = accesses_in_use(r);
+    let mut count: usize = 0;
+    let mut i: usize = 0;
+    while i < n {
+        let k = octets::long(r[20 + i]);
+        if octets::long(r[512 * k + 1]) == e {
+            count += 1;
+        }
+        i += 1;
+    }
+    count
+}
+
+// No entry has more accesses than its limit.
+fn under_limits(r: &[u8], n: usize) -> bool
+    requires { ⌜ (length (now r) ≡ 4608) × (lineExact (now r) ≡ true) × (n ≡ getD (now r) 18 0) × (n ≤ 4) ⌝ }
+    ensures { λ x. ⌜ x ≡ underLimits 1 (limits ((readRow (now (r .entry))) .entries)) ((readRow (now (r .entry))) .accesses) ⌝ }
+{
+    let mut i: usize = 0;
+    while i < n {
+        if octets::long(r[104 * i + 134]) < accesses_on(r, i + 1) {
+            return false;
+        }
+        i += 1;
+    }
+    true
+}
+
+// Block 0 but for its sums and its order line's places: its form, the entries' form, their labels and limits.
+fn head_sound(r: &[u8]) -> bool
+    requires { ⌜ length (now r) ≡ 4608 ⌝ }
+    ensures { λ x. ⌜ x ≡ headSound (now (r .entry)) ⌝ }
+{
+    if !head_form(&r[0..512]) {
+        return false;
+    }
+    let n = octets::long(r[18]);
+    if !entries_form(&r[32..448], n) {
+        return false;
+    }
+    if !labels_differ(&r[32..448], n) {
+        return false;
+    }
+    limits_fit(&r[32..448], n)
+}
+
+// A row is sound. The cheap tests come first, the sums of block 0 last.
+pub fn row_sound(r: &[u8]) -> bool
+    requires { ⌜ length (now r) ≡ 4608 ⌝ }
+    ensures { λ x. ⌜ x ≡ sound (now (r .entry)) ⌝ }
+{
+    if !head_sound(r) {
+        return false;
+    }
+    if !line_exact(r) {
+        return false;
+    }
+    if !places_sound(r, r[18]) {
+        return false;
+    }
+    if !sessions_differ(r) {
+        return false;
+    }
+    if !under_limits(r, octets::long(r[18])) {
+        return false;
+    }
+    block_sums_agree(&r[0..512])
 }

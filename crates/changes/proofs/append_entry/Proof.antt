@@ -1,20 +1,19 @@
-use lib.Seq.{length-take-le}
-use Rattle.changes.proofs.Rows.{count-of, entry-law, row-size}
-use mathlib.Core.Path.{_≡_, refl, sym, ap, _∙_}
-use mathlib.Core.List.{List, [], _∷_, _++_}
-use Prim.Native.Nat.{ℕ, suc, _+_, _-_, _*_, _/_, _%_, _^_, _<_, _≤_}
+-- Block 0 is all that differs: `entry-law` of Rows.
+use mathlib.Core.Path.{ap, _∙_}
+use mathlib.Core.List.{List, _++_}
+use Prim.Native.Nat.{ℕ, _+_, _-_}
 use native.Mathlib.Omega.{arith}
-use native.Mathlib.Numerals.{add-one}
-use lib.ListN.{length, getD, take, drop, set, length-set, length-append, length-take, length-drop}
+use lib.Seq.{length-take-le}
+use lib.ListN.{drop}
 use borrow.Author.Needs.{needs}
+use Rattle.changes.proofs.Rows.{count-of, entry-law, row-size}
 use Rattle.changes.proofs.append_entry.Statement.{statement}
 use Rattle.changes.proofs.append_entry.Tie as tie
-use Rattle.changes.proofs.append_entry.Reads as reads
-use Rattle.changes.proofs.append_entry.Lts as lts
-use Rattle.changes.proofs.write_more.Reads as write-more-reads
 
 slice-read-n : tie.Need-slice-read-n
-slice-read-n c = omega (arith, row-size (c .before .before .before .args .row .now) (c .before .before .before .pre .0))
+slice-read-n c =
+    let start = c .before .before .before in
+    omega (arith, row-size (start .args .row .now) (start .pre .0))
 
 sub-write-more : tie.Need-sub-write-more
 sub-write-more c = search needs
@@ -23,7 +22,9 @@ part-write-more-start : tie.Need-part-write-more-start
 part-write-more-start c = search needs
 
 part-write-more-end : tie.Need-part-write-more-end
-part-write-more-end c = omega (arith, row-size (c .before .before .before .args .row .now) (c .before .before .before .pre .0))
+part-write-more-end c =
+    let start = c .before .before .before in
+    omega (arith, row-size (start .args .row .now) (start .pre .0))
 
 write-more-requires : tie.Need-write-more-requires
 write-more-requires c κs = let start = c .before .before .before .before in

@@ -1,15 +1,10 @@
-use Rattle.changes.proofs.Blocks.{bit-small}
-use mathlib.Core.Path.{_≡_, refl, sym, ap, _∙_}
-use mathlib.Core.List.{List, [], _∷_, _++_}
-use Prim.Native.Nat.{ℕ, suc, _+_, _-_, _*_, _/_, _%_, _^_, _<_, _≤_}
+-- A shift within the byte: `bit-small` of Blocks.
+use Prim.Native.Nat.{_-_}
 use native.Mathlib.Omega.{arith}
-use native.Mathlib.Numerals.{add-one}
-use lib.ListN.{length, getD, take, drop, set, length-set, length-append, length-take, length-drop}
 use borrow.Author.Needs.{needs}
+use Rattle.changes.proofs.Blocks.{bit-small}
 use Rattle.changes.proofs.bit_of.Statement.{statement}
 use Rattle.changes.proofs.bit_of.Tie as tie
-use Rattle.changes.proofs.bit_of.Reads as reads
-use Rattle.changes.proofs.bit_of.Lts as lts
 
 sub-result : tie.Need-sub-result
 sub-result c = search needs

@@ -1,16 +1,12 @@
-use Rattle.changes.proofs.Blocks.{line-set}
-use mathlib.Core.Path.{_≡_, refl, sym, ap, _∙_}
-use mathlib.Core.List.{List, [], _∷_, _++_}
-use Prim.Native.Nat.{ℕ, suc, _+_, _-_, _*_, _/_, _%_, _^_, _<_, _≤_}
+-- Two stores and the sums: `line-set` of Blocks.
+use mathlib.Core.Path.{_∙_}
+use Prim.Native.Nat.{_-_}
 use native.Mathlib.Omega.{arith}
-use native.Mathlib.Numerals.{add-one}
-use lib.ListN.{length, getD, take, drop, set, length-set, length-append, length-take, length-drop}
+use lib.ListN.{length-set}
 use borrow.Author.Needs.{needs}
+use Rattle.changes.proofs.Blocks.{line-set}
 use Rattle.changes.proofs.enlist.Statement.{statement}
 use Rattle.changes.proofs.enlist.Tie as tie
-use Rattle.changes.proofs.enlist.Reads as reads
-use Rattle.changes.proofs.enlist.Lts as lts
-use Rattle.changes.proofs.seal.Reads as seal-reads
 
 slice-write-block : tie.Need-slice-write-block
 slice-write-block c = search needs

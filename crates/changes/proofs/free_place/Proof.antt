@@ -1,31 +1,31 @@
-use Rattle.octets.specs.Texts.{part, put, zeros}
+-- The zeroed block and block 0 are the two blocks of the freed subscriber that differ: `free-law` of Rows.
+use mathlib.Core.Path.{ap, _∙_}
+use mathlib.Core.List.{List, _++_}
+use Prim.Native.Nat.{ℕ, _+_, _-_, _^_}
+use native.Mathlib.Omega.{arith}
+use lib.ListN.{getD, take, drop}
+use borrow.Author.Needs.{needs}
+use Rattle.octets.specs.Texts.{part}
 use Rattle.changes.specs.Writes.{closedUp, headWith}
 use Rattle.changes.proofs.Puts.{putBlock}
 use Rattle.changes.proofs.Rows.{bit-in, free-law, place-in, row-size}
-use mathlib.Core.Path.{_≡_, refl, sym, ap, _∙_}
-use mathlib.Core.List.{List, [], _∷_, _++_}
-use Prim.Native.Nat.{ℕ, suc, _+_, _-_, _*_, _/_, _%_, _^_, _<_, _≤_}
-use native.Mathlib.Omega.{arith}
-use native.Mathlib.Numerals.{add-one}
-use lib.ListN.{length, getD, take, drop, set, length-set, length-append, length-take, length-drop}
-use borrow.Author.Needs.{needs}
 use Rattle.changes.proofs.free_place.Statement.{statement}
 use Rattle.changes.proofs.free_place.Tie as tie
-use Rattle.changes.proofs.free_place.Reads as reads
-use Rattle.changes.proofs.free_place.Lts as lts
-use Rattle.changes.proofs.bit_of.Reads as bit-of-reads
-use Rattle.changes.proofs.line_without.Reads as line-without-reads
-use Rattle.changes.proofs.write_line.Reads as write-line-reads
-use Rattle.octets.proofs.put_zeros.Reads as put-zeros-reads
 
 slice-read-bits : tie.Need-slice-read-bits
-slice-read-bits c = omega (arith, row-size (c .before .before .args .row .now) (c .before .before .pre .0))
+slice-read-bits c =
+    let start = c .before .before in
+    omega (arith, row-size (start .args .row .now) (start .pre .0))
 
 bit-of-requires : tie.Need-bit-of-requires
-bit-of-requires c κs = place-in (c .before .before .args .row .now) (c .before .before .pre .0) (c .before .before .args .k) (c .before .before .pre .1)
+bit-of-requires c κs =
+    let start = c .before .before in
+    place-in (start .args .row .now) (start .pre .0) (start .args .k) (start .pre .1)
 
 sub-bits : tie.Need-sub-bits
-sub-bits c = omega (arith, bit-in (c .before .before .before .args .row .now) (c .before .before .before .args .k) (c .before .before .before .pre .0) (c .before .before .before .pre .1), c .bit-of .ensures)
+sub-bits c =
+    let start = c .before .before .before in
+    omega (arith, bit-in (start .args .row .now) (start .args .k) (start .pre .0) (start .pre .1), c .bit-of .ensures)
 
 sub-line-without : tie.Need-sub-line-without
 sub-line-without c = search needs
@@ -34,19 +34,27 @@ part-line-without-start : tie.Need-part-line-without-start
 part-line-without-start c = search needs
 
 part-line-without-end : tie.Need-part-line-without-end
-part-line-without-end c = omega (arith, row-size (c .before .before .before .before .args .row .now) (c .before .before .before .before .pre .0))
+part-line-without-end c =
+    let start = c .before .before .before .before in
+    omega (arith, row-size (start .args .row .now) (start .pre .0))
 
 cast-line-without : tie.Need-cast-line-without
-cast-line-without c = omega (arith, place-in (c .before .before .before .before .before .args .row .now) (c .before .before .before .before .before .pre .0) (c .before .before .before .before .before .args .k) (c .before .before .before .before .before .pre .1))
+cast-line-without c =
+    let start = c .before .before .before .before .before in
+    omega (arith, place-in (start .args .row .now) (start .pre .0) (start .args .k) (start .pre .1))
 
 line-without-requires : tie.Need-line-without-requires
 line-without-requires c κs = search needs
 
 mul-put-zeros : tie.Need-mul-put-zeros
-mul-put-zeros c = omega (arith, place-in (c .before .before .before .before .before .before .before .args .row .now) (c .before .before .before .before .before .before .before .pre .0) (c .before .before .before .before .before .before .before .args .k) (c .before .before .before .before .before .before .before .pre .1))
+mul-put-zeros c =
+    let start = c .before .before .before .before .before .before .before in
+    omega (arith, place-in (start .args .row .now) (start .pre .0) (start .args .k) (start .pre .1))
 
 put-zeros-requires : tie.Need-put-zeros-requires
-put-zeros-requires c κs = omega (arith, place-in (c .before .before .before .before .before .before .before .args .row .now) (c .before .before .before .before .before .before .before .pre .0) (c .before .before .before .before .before .before .before .args .k) (c .before .before .before .before .before .before .before .pre .1), row-size (c .before .before .before .before .before .before .before .args .row .now) (c .before .before .before .before .before .before .before .pre .0))
+put-zeros-requires c κs =
+    let start = c .before .before .before .before .before .before .before in
+    omega (arith, place-in (start .args .row .now) (start .pre .0) (start .args .k) (start .pre .1), row-size (start .args .row .now) (start .pre .0))
 
 sub-write-line : tie.Need-sub-write-line
 sub-write-line c = search needs
@@ -55,7 +63,9 @@ part-write-line-start : tie.Need-part-write-line-start
 part-write-line-start c = search needs
 
 part-write-line-end : tie.Need-part-write-line-end
-part-write-line-end c = omega (arith, row-size (c .before .before .before .before .before .before .before .before .before .before .args .row .now) (c .before .before .before .before .before .before .before .before .before .before .pre .0), c .before .before .put-zeros .kept .0)
+part-write-line-end c =
+    let start = c .before .before .before .before .before .before .before .before .before .before in
+    omega (arith, row-size (start .args .row .now) (start .pre .0), c .before .before .put-zeros .kept .0)
 
 write-line-requires : tie.Need-write-line-requires
 write-line-requires c κs = search needs

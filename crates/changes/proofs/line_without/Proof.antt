@@ -1,16 +1,11 @@
+-- Of the places passed those that are not k stand in front, zeros behind them: `Closing` of Blocks.
 use mathlib.Core.Logic.{⊎-elim}
-use Rattle.changes.proofs.Blocks.{Closing, closing-none, closing-kept, closing-left, closing-end}
-use mathlib.Core.Path.{_≡_, refl, sym, ap, _∙_}
-use mathlib.Core.List.{List, [], _∷_, _++_}
-use Prim.Native.Nat.{ℕ, suc, _+_, _-_, _*_, _/_, _%_, _^_, _<_, _≤_}
+use Prim.Native.Nat.{_-_, _≤_}
 use native.Mathlib.Omega.{arith}
-use native.Mathlib.Numerals.{add-one}
-use lib.ListN.{length, getD, take, drop, set, length-set, length-append, length-take, length-drop}
 use borrow.Author.Needs.{needs}
+use Rattle.changes.proofs.Blocks.{Closing, closing-none, closing-kept, closing-left, closing-end}
 use Rattle.changes.proofs.line_without.Statement.{statement}
 use Rattle.changes.proofs.line_without.Tie as tie
-use Rattle.changes.proofs.line_without.Reads as reads
-use Rattle.changes.proofs.line_without.Lts as lts
 
 abbrev Inv-loop : tie.InvT-loop
 Inv-loop line k out₀ n₀ i₀ out n i = (i ≤ 8) × (n ≤ i) × Closing line k out n i

@@ -1,19 +1,13 @@
+-- Two writes into a zero row and the sums of block 0: `new-law` of Rows.
+use mathlib.Core.Path.{_≡_, ap, _∙_}
+use mathlib.Core.List.{List, [], _∷_, _++_}
+use Prim.Native.Nat.{ℕ, _+_, _-_}
+use lib.ListN.{length, drop}
+use borrow.Author.Needs.{needs}
 use Rattle.octets.specs.Texts.{put, zeros}
 use Rattle.changes.proofs.Rows.{new-law}
-use mathlib.Core.Path.{_≡_, refl, sym, ap, _∙_}
-use mathlib.Core.List.{List, [], _∷_, _++_}
-use Prim.Native.Nat.{ℕ, suc, _+_, _-_, _*_, _/_, _%_, _^_, _<_, _≤_}
-use native.Mathlib.Omega.{arith}
-use native.Mathlib.Numerals.{add-one}
-use lib.ListN.{length, getD, take, drop, set, length-set, length-append, length-take, length-drop}
-use borrow.Author.Needs.{needs}
 use Rattle.changes.proofs.new_row.Statement.{statement}
 use Rattle.changes.proofs.new_row.Tie as tie
-use Rattle.changes.proofs.new_row.Reads as reads
-use Rattle.changes.proofs.new_row.Lts as lts
-use Rattle.changes.proofs.seal.Reads as seal-reads
-use Rattle.octets.proofs.clear.Reads as clear-reads
-use Rattle.octets.proofs.put_bytes.Reads as put-bytes-reads
 
 clear-requires : tie.Need-clear-requires
 clear-requires c κs = search needs

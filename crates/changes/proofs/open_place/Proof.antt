@@ -1,47 +1,53 @@
-use borrow.Rule.Slice.PartMut.{same-len-mid}
+-- Byte 17 of a sound row tells the place and the end of the line; the two blocks written: `open-law` of Rows.
+use mathlib.Core.Path.{_≡_, ap, _∙_}
+use mathlib.Core.List.{List, _++_}
+use Prim.Native.Nat.{ℕ, _+_, _-_, _*_, _^_}
+use native.Mathlib.Omega.{arith}
 use lib.Seq.{length-take-le}
+use lib.Count.{ones, trailingZeros}
+use lib.ListN.{length, getD, take, drop, set}
+use borrow.Rule.Slice.PartMut.{same-len-mid}
+use borrow.Author.Needs.{needs}
 use Rattle.octets.specs.Texts.{part, put}
-use Rattle.octets.proofs.Texts.{back-put, length-part}
+use Rattle.octets.proofs.Texts.{back-put}
 use Rattle.table.specs.TheTable.{readRow}
 use Rattle.changes.specs.Changes.{lowestFree}
 use Rattle.changes.specs.Writes.{headWith, openedBytes}
-use Rattle.changes.proofs.Blocks.{back-length}
 use Rattle.changes.proofs.Puts.{putBlock}
 use Rattle.changes.proofs.Rows.{bit-fits, length-opened, lowest-in, lowest-is, open-law, row-size}
 use Rattle.changes.proofs.Steps.{ones-byte}
-use lib.Count.{ones, trailingZeros}
-use mathlib.Core.Path.{_≡_, refl, sym, ap, _∙_}
-use mathlib.Core.List.{List, [], _∷_, _++_}
-use Prim.Native.Nat.{ℕ, suc, _+_, _-_, _*_, _/_, _%_, _^_, _<_, _≤_}
-use native.Mathlib.Omega.{arith}
-use native.Mathlib.Numerals.{add-one}
-use lib.ListN.{length, getD, take, drop, set, length-set, length-append, length-take, length-drop}
-use borrow.Author.Needs.{needs}
 use Rattle.changes.proofs.open_place.Statement.{statement}
 use Rattle.changes.proofs.open_place.Tie as tie
-use Rattle.changes.proofs.open_place.Reads as reads
-use Rattle.changes.proofs.open_place.Lts as lts
-use Rattle.changes.proofs.bit_of.Reads as bit-of-reads
-use Rattle.changes.proofs.enlist.Reads as enlist-reads
-use Rattle.changes.proofs.write_access.Reads as write-access-reads
 
 slice-read-bits : tie.Need-slice-read-bits
-slice-read-bits c = omega (arith, row-size (c .before .before .before .before .args .row .now) (c .before .before .before .before .pre .0))
+slice-read-bits c =
+    let start = c .before .before .before .before in
+    omega (arith, row-size (start .args .row .now) (start .pre .0))
 
 cast-count : tie.Need-cast-count
-cast-count c = omega (arith, ones-byte (c .before .before .before .before .args .row .now) (c .before .before .before .before .pre .0), c .before .before .before .before .pre .1)
+cast-count c =
+    let start = c .before .before .before .before in
+    omega (arith, ones-byte (start .args .row .now) (start .pre .0), start .pre .1)
 
 cast-place : tie.Need-cast-place
-cast-place c = omega (arith, lowest-is (c .before .before .before .before .args .row .now) (c .before .before .before .before .pre .0) (c .before .before .before .before .pre .1), lowest-in (c .before .before .before .before .args .row .now) (c .before .before .before .before .pre .0) (c .before .before .before .before .pre .1))
+cast-place c =
+    let start = c .before .before .before .before in
+    omega (arith, lowest-is (start .args .row .now) (start .pre .0) (start .pre .1), lowest-in (start .args .row .now) (start .pre .0) (start .pre .1))
 
 add-place : tie.Need-add-place
-add-place c = omega (arith, lowest-is (c .before .before .before .before .args .row .now) (c .before .before .before .before .pre .0) (c .before .before .before .before .pre .1), lowest-in (c .before .before .before .before .args .row .now) (c .before .before .before .before .pre .0) (c .before .before .before .before .pre .1))
+add-place c =
+    let start = c .before .before .before .before in
+    omega (arith, lowest-is (start .args .row .now) (start .pre .0) (start .pre .1), lowest-in (start .args .row .now) (start .pre .0) (start .pre .1))
 
 mul-a : tie.Need-mul-a
-mul-a c = omega (arith, lowest-is (c .before .before .before .before .args .row .now) (c .before .before .before .before .pre .0) (c .before .before .before .before .pre .1), lowest-in (c .before .before .before .before .args .row .now) (c .before .before .before .before .pre .0) (c .before .before .before .before .pre .1))
+mul-a c =
+    let start = c .before .before .before .before in
+    omega (arith, lowest-is (start .args .row .now) (start .pre .0) (start .pre .1), lowest-in (start .args .row .now) (start .pre .0) (start .pre .1))
 
 add-e : tie.Need-add-e
-add-e c = omega (arith, lowest-is (c .before .before .before .before .args .row .now) (c .before .before .before .before .pre .0) (c .before .before .before .before .pre .1), lowest-in (c .before .before .before .before .args .row .now) (c .before .before .before .before .pre .0) (c .before .before .before .before .pre .1))
+add-e c =
+    let start = c .before .before .before .before in
+    omega (arith, lowest-is (start .args .row .now) (start .pre .0) (start .pre .1), lowest-in (start .args .row .now) (start .pre .0) (start .pre .1))
 
 sub-write-access : tie.Need-sub-write-access
 sub-write-access c = search needs
@@ -69,7 +75,9 @@ part-enlist-end c = let start = c .before .before .before .before .before .befor
     omega (arith, same-len-mid a (a + 512 - a) (start .args .row .now) (c .before .before .write-access .last .0) (c .before .before .write-access .kept .0), row-size (start .args .row .now) (start .pre .0))
 
 bit-of-requires : tie.Need-bit-of-requires
-bit-of-requires c κs = omega (arith, lowest-is (c .before .before .before .before .before .before .before .before .before .args .row .now) (c .before .before .before .before .before .before .before .before .before .pre .0) (c .before .before .before .before .before .before .before .before .before .pre .1), lowest-in (c .before .before .before .before .before .before .before .before .before .args .row .now) (c .before .before .before .before .before .before .before .before .before .pre .0) (c .before .before .before .before .before .before .before .before .before .pre .1))
+bit-of-requires c κs =
+    let start = c .before .before .before .before .before .before .before .before .before in
+    omega (arith, lowest-is (start .args .row .now) (start .pre .0) (start .pre .1), lowest-in (start .args .row .now) (start .pre .0) (start .pre .1))
 
 add-enlist : tie.Need-add-enlist
 add-enlist c = let start = c .before .before .before .before .before .before .before .before .before .before in
@@ -78,7 +86,9 @@ add-enlist c = let start = c .before .before .before .before .before .before .be
     omega (arith, bit-fits r (start .pre .0) (start .pre .1))
 
 cast-enlist : tie.Need-cast-enlist
-cast-enlist c = omega (arith, lowest-is (c .before .before .before .before .before .before .before .before .before .before .args .row .now) (c .before .before .before .before .before .before .before .before .before .before .pre .0) (c .before .before .before .before .before .before .before .before .before .before .pre .1), lowest-in (c .before .before .before .before .before .before .before .before .before .before .args .row .now) (c .before .before .before .before .before .before .before .before .before .before .pre .0) (c .before .before .before .before .before .before .before .before .before .before .pre .1))
+cast-enlist c =
+    let start = c .before .before .before .before .before .before .before .before .before .before in
+    omega (arith, lowest-is (start .args .row .now) (start .pre .0) (start .pre .1), lowest-in (start .args .row .now) (start .pre .0) (start .pre .1))
 
 enlist-requires : tie.Need-enlist-requires
 enlist-requires c κs = let start = c .before .before .before .before .before .before .before .before .before .before in

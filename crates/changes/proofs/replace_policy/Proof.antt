@@ -1,25 +1,25 @@
+-- The block of the place is all that differs: `route-law` of Rows.
+use mathlib.Core.Path.{_≡_, sym, ap, _∙_}
+use Prim.Native.Nat.{ℕ, _+_, _-_, _*_}
+use native.Mathlib.Omega.{arith}
+use lib.ListN.{length, take, drop}
+use borrow.Author.Needs.{needs}
 use Rattle.octets.specs.Texts.{part}
 use Rattle.octets.proofs.Texts.{back-put, length-part}
 use Rattle.changes.specs.Writes.{policyWith}
 use Rattle.changes.proofs.Rows.{length-policy, place-in, route-law, row-size}
-use mathlib.Core.Path.{_≡_, refl, sym, ap, _∙_}
-use mathlib.Core.List.{List, [], _∷_, _++_}
-use Prim.Native.Nat.{ℕ, suc, _+_, _-_, _*_, _/_, _%_, _^_, _<_, _≤_}
-use native.Mathlib.Omega.{arith}
-use native.Mathlib.Numerals.{add-one}
-use lib.ListN.{length, getD, take, drop, set, length-set, length-append, length-take, length-drop}
-use borrow.Author.Needs.{needs}
 use Rattle.changes.proofs.replace_policy.Statement.{statement}
 use Rattle.changes.proofs.replace_policy.Tie as tie
-use Rattle.changes.proofs.replace_policy.Reads as reads
-use Rattle.changes.proofs.replace_policy.Lts as lts
-use Rattle.changes.proofs.write_policy.Reads as write-policy-reads
 
 mul-a : tie.Need-mul-a
-mul-a c = omega (arith, place-in (c .before .before .args .row .now) (c .before .before .pre .0) (c .before .before .args .k) (c .before .before .pre .1))
+mul-a c =
+    let start = c .before .before in
+    omega (arith, place-in (start .args .row .now) (start .pre .0) (start .args .k) (start .pre .1))
 
 add-e : tie.Need-add-e
-add-e c = omega (arith, place-in (c .before .before .args .row .now) (c .before .before .pre .0) (c .before .before .args .k) (c .before .before .pre .1))
+add-e c =
+    let start = c .before .before in
+    omega (arith, place-in (start .args .row .now) (start .pre .0) (start .args .k) (start .pre .1))
 
 sub-write-policy : tie.Need-sub-write-policy
 sub-write-policy c = search needs

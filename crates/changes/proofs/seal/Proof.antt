@@ -1,16 +1,9 @@
-use Rattle.changes.proofs.Blocks.{sealed-by}
-use mathlib.Core.Path.{_≡_, refl, sym, ap, _∙_}
-use mathlib.Core.List.{List, [], _∷_, _++_}
-use Prim.Native.Nat.{ℕ, suc, _+_, _-_, _*_, _/_, _%_, _^_, _<_, _≤_}
-use native.Mathlib.Omega.{arith}
-use native.Mathlib.Numerals.{add-one}
-use lib.ListN.{length, getD, take, drop, set, length-set, length-append, length-take, length-drop}
+-- The two stores are the sums of the bytes before them: `sealed-by` of Blocks.
+use Prim.Native.Nat.{_-_}
 use borrow.Author.Needs.{needs}
+use Rattle.changes.proofs.Blocks.{sealed-by}
 use Rattle.changes.proofs.seal.Statement.{statement}
 use Rattle.changes.proofs.seal.Tie as tie
-use Rattle.changes.proofs.seal.Reads as reads
-use Rattle.changes.proofs.seal.Lts as lts
-use Rattle.table.proofs.sums_of.Reads as sums-of-reads
 
 sub-sums-of : tie.Need-sub-sums-of
 sub-sums-of c = search needs

@@ -1,18 +1,14 @@
+-- A store and two writes into a zero room: `entry-put` of Blocks.
+use mathlib.Core.Path.{_≡_, ap, _∙_}
+use mathlib.Core.List.{List, [], _∷_}
+use Prim.Native.Nat.{ℕ, _-_}
+use native.Mathlib.Omega.{arith}
+use lib.ListN.{length, set, length-set}
+use borrow.Author.Needs.{needs}
 use Rattle.octets.specs.Texts.{put, zeros}
 use Rattle.changes.proofs.Blocks.{entry-put}
-use mathlib.Core.Path.{_≡_, refl, sym, ap, _∙_}
-use mathlib.Core.List.{List, [], _∷_, _++_}
-use Prim.Native.Nat.{ℕ, suc, _+_, _-_, _*_, _/_, _%_, _^_, _<_, _≤_}
-use native.Mathlib.Omega.{arith}
-use native.Mathlib.Numerals.{add-one}
-use lib.ListN.{length, getD, take, drop, set, length-set, length-append, length-take, length-drop}
-use borrow.Author.Needs.{needs}
 use Rattle.changes.proofs.write_entry.Statement.{statement}
 use Rattle.changes.proofs.write_entry.Tie as tie
-use Rattle.changes.proofs.write_entry.Reads as reads
-use Rattle.changes.proofs.write_entry.Lts as lts
-use Rattle.octets.proofs.clear.Reads as clear-reads
-use Rattle.octets.proofs.put_bytes.Reads as put-bytes-reads
 
 clear-requires : tie.Need-clear-requires
 clear-requires c κs = search needs

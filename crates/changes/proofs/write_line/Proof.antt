@@ -1,20 +1,14 @@
-use Rattle.octets.specs.Texts.{put}
-use Rattle.octets.proofs.Texts.{length-put}
-use Rattle.changes.proofs.Blocks.{line-put}
-use Rattle.table.specs.TheTable.{sealed}
-use mathlib.Core.Path.{_≡_, refl, sym, ap, _∙_}
-use mathlib.Core.List.{List, [], _∷_, _++_}
-use Prim.Native.Nat.{ℕ, suc, _+_, _-_, _*_, _/_, _%_, _^_, _<_, _≤_}
+-- A store, a write and the sums: `line-put` of Blocks.
+use mathlib.Core.Path.{ap, _∙_}
+use mathlib.Core.List.{List}
+use Prim.Native.Nat.{ℕ, _-_}
 use native.Mathlib.Omega.{arith}
-use native.Mathlib.Numerals.{add-one}
-use lib.ListN.{length, getD, take, drop, set, length-set, length-append, length-take, length-drop}
+use lib.ListN.{take, length-set}
 use borrow.Author.Needs.{needs}
+use Rattle.table.specs.TheTable.{sealed}
+use Rattle.changes.proofs.Blocks.{line-put}
 use Rattle.changes.proofs.write_line.Statement.{statement}
 use Rattle.changes.proofs.write_line.Tie as tie
-use Rattle.changes.proofs.write_line.Reads as reads
-use Rattle.changes.proofs.write_line.Lts as lts
-use Rattle.changes.proofs.seal.Reads as seal-reads
-use Rattle.octets.proofs.put_bytes.Reads as put-bytes-reads
 
 slice-write-block : tie.Need-slice-write-block
 slice-write-block c = search needs

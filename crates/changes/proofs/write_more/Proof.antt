@@ -1,22 +1,18 @@
+-- A store, the entry's room come back, and the sums: `more-put` of Blocks.
+use mathlib.Core.Path.{_≡_, ap, _∙_}
+use mathlib.Core.List.{List}
+use Prim.Native.Nat.{ℕ, _+_, _-_, _*_}
+use native.Mathlib.Omega.{arith}
+use lib.ListN.{length, take, set, length-set}
+use borrow.Author.Needs.{needs}
+use borrow.Rule.Slice.PartMut.{same-len-mid}
 use Rattle.octets.specs.Texts.{put}
-use Rattle.octets.proofs.Texts.{back-put, length-part}
+use Rattle.octets.proofs.Texts.{back-put}
 use Rattle.table.specs.TheTable.{Entry, entryBytes, sealed}
 use Rattle.table.proofs.Bytes.{length-entry}
-use Rattle.changes.proofs.Blocks.{back-length, more-put}
-use mathlib.Core.Path.{_≡_, refl, sym, ap, _∙_}
-use mathlib.Core.List.{List, [], _∷_, _++_}
-use Prim.Native.Nat.{ℕ, suc, _+_, _-_, _*_, _/_, _%_, _^_, _<_, _≤_}
-use native.Mathlib.Omega.{arith}
-use native.Mathlib.Numerals.{add-one}
-use lib.ListN.{length, getD, take, drop, set, length-set, length-append, length-take, length-drop}
-use borrow.Author.Needs.{needs}
+use Rattle.changes.proofs.Blocks.{more-put}
 use Rattle.changes.proofs.write_more.Statement.{statement}
 use Rattle.changes.proofs.write_more.Tie as tie
-use Rattle.changes.proofs.write_more.Reads as reads
-use Rattle.changes.proofs.write_more.Lts as lts
-use Rattle.changes.proofs.seal.Reads as seal-reads
-use Rattle.changes.proofs.write_entry.Reads as write-entry-reads
-use Rattle.octets.proofs.long.Reads as long-reads
 
 add-block : tie.Need-add-block
 add-block c = search needs
@@ -55,7 +51,7 @@ seal-requires c κs = let w = c .before .before .before in
     let at : ℕ = 32 + 104 * n in
     let room : List ℕ = set (start .args .block .now) 18 (start .args .n + 1) in
     let size : length room ≡ 512 = length-set (start .args .block .now) 18 (start .args .n + 1) ∙ start .pre .0 in
-    back-length room at (at + 104) (w .write-entry .last .0) (omega arith) (omega (arith, w .before .before .long .ensures .0)) (w .write-entry .kept .0) ∙ size
+    same-len-mid at (at + 104 - at) room (w .write-entry .last .0) (w .write-entry .kept .0) ∙ size
 
 same-length : tie.Need-same-length
 same-length c = let d = c .before .before in
@@ -65,7 +61,7 @@ same-length c = let d = c .before .before in
     let at : ℕ = 32 + 104 * n in
     let room : List ℕ = set (start .args .block .now) 18 (start .args .n + 1) in
     let size : length room ≡ length (start .args .block .now) = length-set (start .args .block .now) 18 (start .args .n + 1) in
-    d .seal .kept .0 ∙ back-length room at (at + 104) (w .write-entry .last .0) (omega arith) (omega (arith, w .before .before .long .ensures .0, start .pre .0)) (w .write-entry .kept .0) ∙ size
+    d .seal .kept .0 ∙ same-len-mid at (at + 104 - at) room (w .write-entry .last .0) (w .write-entry .kept .0) ∙ size
 
 returns : tie.Need-returns
 returns c = let d = c .before .before in

@@ -1,20 +1,15 @@
-use Rattle.octets.specs.Texts.{put, zeros}
+-- Two stores, two writes and the sums: `policy-put` of Blocks.
+use mathlib.Core.Path.{ap, _∙_}
+use mathlib.Core.List.{List}
+use Prim.Native.Nat.{ℕ, _-_}
+use native.Mathlib.Omega.{arith}
+use lib.ListN.{take, length-set}
+use borrow.Author.Needs.{needs}
+use Rattle.octets.specs.Texts.{put}
 use Rattle.table.specs.TheTable.{sealed}
 use Rattle.changes.proofs.Blocks.{policy-put}
-use mathlib.Core.Path.{_≡_, refl, sym, ap, _∙_}
-use mathlib.Core.List.{List, [], _∷_, _++_}
-use Prim.Native.Nat.{ℕ, suc, _+_, _-_, _*_, _/_, _%_, _^_, _<_, _≤_}
-use native.Mathlib.Omega.{arith}
-use native.Mathlib.Numerals.{add-one}
-use lib.ListN.{length, getD, take, drop, set, length-set, length-append, length-take, length-drop}
-use borrow.Author.Needs.{needs}
 use Rattle.changes.proofs.write_policy.Statement.{statement}
 use Rattle.changes.proofs.write_policy.Tie as tie
-use Rattle.changes.proofs.write_policy.Reads as reads
-use Rattle.changes.proofs.write_policy.Lts as lts
-use Rattle.changes.proofs.seal.Reads as seal-reads
-use Rattle.octets.proofs.put_bytes.Reads as put-bytes-reads
-use Rattle.octets.proofs.put_zeros.Reads as put-zeros-reads
 
 slice-write-block : tie.Need-slice-write-block
 slice-write-block c = search needs

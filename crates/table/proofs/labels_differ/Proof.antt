@@ -1,11 +1,12 @@
 -- What is left to test is the same test.
 use mathlib.Core.Path.{_∙_, _≡_, sym}
+use mathlib.Core.Bool.{false, not, true}
 use mathlib.Core.List.{List, []}
-use Prim.Native.Nat.{_-_, _≤_, ℕ}
+use Prim.Native.Nat.{_+_, _-_, _≤_, ℕ}
 use native.Mathlib.Omega.{arith}
-use lib.ListN.{drop}
+use lib.ListN.{drop, getD}
 use borrow.Author.Needs.{needs}
-use Rattle.octets.specs.Lists.{distinct}
+use Rattle.octets.specs.Lists.{distinct, every}
 use Rattle.table.specs.Soundness.{labels, sameLabel}
 use Rattle.table.specs.TheTable.{readEntries}
 use Rattle.table.proofs.Tests.{distinct-end, distinct-turn, fails, passes-on}
@@ -32,7 +33,8 @@ returns c =
     let label-once-was = c .before .label-once in
     let test1 = c .if1 in
     let all : List (List ℕ) = labels (readEntries (given .n) (given .room .now)) in
-    sym (distinct-turn [] sameLabel all (loop-was .i) (omega (arith, length-labels (given .n) (given .room .now))) ∙ rw (fails (label-once-was .ensures) (test1 .taken))) ∙ loop-was .inv .1
+    let said : every (λ y. not (sameLabel (getD all (loop-was .i) []) y)) (drop (loop-was .i + 1) all) ≡ false = fails (label-once-was .ensures) (test1 .taken) in
+    sym (distinct-turn [] sameLabel all (loop-was .i) (omega (arith, length-labels (given .n) (given .room .now))) ∙ rw said) ∙ loop-was .inv .1
 
 add-i : tie.Need-add-i Inv-loop μ-loop
 add-i c = search needs
@@ -47,7 +49,8 @@ loop-again c =
     let label-once-was = c .before .label-once in
     let test1 = c .if1 in
     let all : List (List ℕ) = labels (readEntries (given .n) (given .room .now)) in
-    (omega arith, sym (distinct-turn [] sameLabel all (loop-was .i) (omega (arith, length-labels (given .n) (given .room .now))) ∙ rw (passes-on (label-once-was .ensures) (test1 .left))) ∙ loop-was .inv .1)
+    let said : every (λ y. not (sameLabel (getD all (loop-was .i) []) y)) (drop (loop-was .i + 1) all) ≡ true = passes-on (label-once-was .ensures) (test1 .left) in
+    (omega arith, sym (distinct-turn [] sameLabel all (loop-was .i) (omega (arith, length-labels (given .n) (given .room .now))) ∙ rw said) ∙ loop-was .inv .1)
 
 returns-2 : tie.Need-returns-2 Inv-loop μ-loop
 returns-2 c =

@@ -12,10 +12,10 @@ use Rattle.table.proofs.lookup.Statement.{statement}
 use Rattle.table.proofs.lookup.Tie as tie
 
 abbrev Inv-loop : tie.InvT-loop
-Inv-loop t name i₀ at₀ i at = (at ≡ 4608 * i) × (i ≤ length t / 4608) × (searched (isRowOf name) t i ≡ lookup t name)
+Inv-loop t name n₀ at₀ n at = (at ≡ 4608 * n) × (n ≤ length t / 4608) × (searched (isRowOf name) t n ≡ lookup t name)
 
 abbrev μ-loop : tie.MeasureT-loop
-μ-loop t name i₀ at₀ i at = length t - at
+μ-loop t name n₀ at₀ n at = length t - at
 
 loop-holds : tie.Need-loop-holds Inv-loop μ-loop
 unfolding lookup
@@ -58,11 +58,11 @@ returns c =
     let is-row-of-was = c .before .is-row-of in
     let test1 = c .if1 in
     let pre-was = c .before .before .before .before .before .before .before .pre in
-    let here : isRowOf (given .name .now) (rowAt (given .t .now) (loop-was .i)) ≡ true = lent-test (isRowOf (given .name .now)) (given .t .now) (loop-was .at) (loop-was .i) _ true (loop-was .inv .0) (is-row-of-was .ensures) (test1 .taken) in
-    (sym (search-here (isRowOf (given .name .now)) (given .t .now) (loop-was .i) (omega (arith, whole-rows (given .t .now) pre-was)) here) ∙ loop-was .inv .2, omega (arith, whole-rows (given .t .now) pre-was))
+    let here : isRowOf (given .name .now) (rowAt (given .t .now) (loop-was .n)) ≡ true = lent-test (isRowOf (given .name .now)) (given .t .now) (loop-was .at) (loop-was .n) _ true (loop-was .inv .0) (is-row-of-was .ensures) (test1 .taken) in
+    (sym (search-here (isRowOf (given .name .now)) (given .t .now) (loop-was .n) (omega (arith, whole-rows (given .t .now) pre-was)) here) ∙ loop-was .inv .2, omega (arith, whole-rows (given .t .now) pre-was))
 
-add-i : tie.Need-add-i Inv-loop μ-loop
-add-i c =
+add-n : tie.Need-add-n Inv-loop μ-loop
+add-n c =
     let given = c .before .before .before .before .before .before .before .args in
     let pre-was = c .before .before .before .before .before .before .before .pre in
     omega (arith, rows-most (given .t .now) pre-was)
@@ -80,16 +80,16 @@ loop-again c =
     let is-row-of-was = c .before .is-row-of in
     let test1 = c .if1 in
     let pre-was = c .before .before .before .before .before .before .before .pre in
-    let other : isRowOf (given .name .now) (rowAt (given .t .now) (loop-was .i)) ≡ false = lent-test (isRowOf (given .name .now)) (given .t .now) (loop-was .at) (loop-was .i) _ false (loop-was .inv .0) (is-row-of-was .ensures) (test1 .left) in
-    let inside : loop-was .i < length (given .t .now) / 4608 = omega (arith, whole-rows (given .t .now) pre-was) in
-    (omega arith, omega arith, search-on (isRowOf (given .name .now)) (given .t .now) (loop-was .i) inside other ∙ loop-was .inv .2)
+    let other : isRowOf (given .name .now) (rowAt (given .t .now) (loop-was .n)) ≡ false = lent-test (isRowOf (given .name .now)) (given .t .now) (loop-was .at) (loop-was .n) _ false (loop-was .inv .0) (is-row-of-was .ensures) (test1 .left) in
+    let inside : loop-was .n < length (given .t .now) / 4608 = omega (arith, whole-rows (given .t .now) pre-was) in
+    (omega arith, omega arith, search-on (isRowOf (given .name .now)) (given .t .now) (loop-was .n) inside other ∙ loop-was .inv .2)
 
 returns-2 : tie.Need-returns-2 Inv-loop μ-loop
 returns-2 c =
     let given = c .before .before .before .before .args in
     let loop-was = c .before .loop in
     let pre-was = c .before .before .before .before .pre in
-    (sym (search-end (isRowOf (given .name .now)) (given .t .now) (loop-was .i) (omega (arith, whole-rows (given .t .now) pre-was))) ∙ loop-was .inv .2, omega arith)
+    (sym (search-end (isRowOf (given .name .now)) (given .t .now) (loop-was .n) (omega (arith, whole-rows (given .t .now) pre-was))) ∙ loop-was .inv .2, omega arith)
 
 pub lookup-spec : {M : Type 1} → statement M
 lookup-spec =
@@ -104,7 +104,7 @@ lookup-spec =
     part-is-row-of-end
     is-row-of-requires
     returns
-    add-i
+    add-n
     loop-less
     loop-again
     returns-2)

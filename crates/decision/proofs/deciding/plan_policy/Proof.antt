@@ -1,3 +1,4 @@
+use Rattle.octets.proofs.Lists.{both}
 use Rattle.decision.specs.Plans.{fitPlan}
 use mathlib.Core.Bool.{true, false}
 use lib.Dec.{eqb}
@@ -35,7 +36,7 @@ returns c =
     let at : c .before .place-of .result ≡ placeOf (withSession session (s .accesses)) = c .before .place-of .ensures .0 in
     let there : none (withSession session (s .accesses)) ≡ eqb (c .before .place-of .result) 0 = none-with (a .row .now) session (start .pre) ∙ ap (λ (k : ℕ). eqb k 0) (sym at) in (
       λ host route. sym (no-access session route s (a .wag) (there ∙ eq-eqb _ 0 (c .if1 .taken))),
-      refl,
+      λ route w. refl,
     )
 
 -- src/deciding.rt:88:9
@@ -49,7 +50,7 @@ returns-2 c =
     let at : c .before .before .place-of .result ≡ placeOf (withSession session (s .accesses)) = c .before .before .place-of .ensures .0 in
     let there : none (withSession session (s .accesses)) ≡ eqb (c .before .before .place-of .result) 0 = none-with (a .row .now) session (start .pre) ∙ ap (λ (k : ℕ). eqb k 0) (sym at) in (
       λ host route. rw (c .if2 .taken, at) (sym (gateway-yes session route s (there ∙ ne-eqb _ 0 (c .before .if1 .left)))),
-      rw at (fit-place (a .row .now) (start .pre) session (λ z. c .before .if1 .left (at ∙ z))),
+      λ route w. rw (at, fit-place (a .row .now) (start .pre) session (λ z. c .before .if1 .left (at ∙ z)), w),
     )
 
 -- src/deciding.rt:72:1
@@ -63,7 +64,7 @@ returns-3 c =
     let at : c .before .before .place-of .result ≡ placeOf (withSession session (s .accesses)) = c .before .before .place-of .ensures .0 in
     let there : none (withSession session (s .accesses)) ≡ eqb (c .before .before .place-of .result) 0 = none-with (a .row .now) session (start .pre) ∙ ap (λ (k : ℕ). eqb k 0) (sym at) in (
       λ host route. rw (c .if2 .left) (sym (gateway-no session route s (there ∙ ne-eqb _ 0 (c .before .if1 .left)))),
-      refl,
+      λ route w. refl,
     )
 
 pub plan-policy-spec : {M : Type 1} → statement M

@@ -44,7 +44,7 @@ returns c =
     let there : none (withSession session (onEntry (entryNamed label s) (s .accesses))) ≡ eqb (c .before .place-on .result) 0 =
     none-ended (a .row .now) (entryNamed label s) session (start .pre) ∙ ap (λ (k : ℕ). eqb k 0) (sym at) in (
       λ host route. sym (not-used session [] s label (there ∙ eq-eqb _ 0 (c .if1 .taken))),
-      refl,
+      λ route. refl,
     )
 
 -- src/deciding.rt:94:1
@@ -61,7 +61,7 @@ returns-2 c =
     let there : none (withSession session (onEntry (entryNamed label s) (s .accesses))) ≡ eqb (c .before .place-on .result) 0 =
     none-ended (a .row .now) (entryNamed label s) session (start .pre) ∙ ap (λ (k : ℕ). eqb k 0) (sym at) in (
       λ host route. rw at (sym (is-ended session [] s label (there ∙ ne-eqb _ 0 (c .if1 .left)))),
-      rw at (fit-ended (a .row .now) (start .pre) (entryNamed label s) session (λ z. c .if1 .left (at ∙ z))),
+      λ route. rw at (fit-ended (a .row .now) (start .pre) (entryNamed label s) session (λ z. c .if1 .left (at ∙ z))),
     )
 
 pub plan-termination-spec : {M : Type 1} → statement M

@@ -39,7 +39,7 @@ returns c =
     let label = a .label .now in
     let named : c .before .entry-named .result ≡ entryNamed label s = c .before .entry-named .ensures .0 in (
       λ host route. sym (not-subscribed session host label (a .visited) s (sym named ∙ c .if1 .taken)),
-      refl,
+      λ route. refl,
     )
 
 -- src/deciding.rt:58:9
@@ -59,7 +59,7 @@ returns-2 c =
     let entered : entryNamed label s ≡ 0 → ⊥ = λ z. c .before .before .if1 .left (named ∙ z) in
     let flags : c .before .flags-of .result ≡ (entryAt (entryNamed label s) s) .flags = c .before .flags-of .ensures ∙ ap (λ (n : ℕ). (entryAt n s) .flags) named in (
       λ host route. sym (is-barred session host label (a .visited) s entered (ap (λ (n : ℕ). n % 2) (sym flags) ∙ c .if2 .taken)),
-      refl,
+      λ route. refl,
     )
 
 -- src/deciding.rt:62:8
@@ -82,7 +82,7 @@ returns-3 c =
     let roams : c .before .roams-unasked .result ≡ a .visited && not (mayRoam (entryAt (entryNamed label s) s)) =
     c .before .roams-unasked .ensures ∙ ap (λ (n : ℕ). a .visited && not (eqb (n / 2 % 2) 1)) flags in (
       λ host route. sym (no-roaming session host label (a .visited) s entered unbarred (sym roams ∙ c .if3 .taken)),
-      refl,
+      λ route. refl,
     )
 
 -- src/deciding.rt:65:8
@@ -108,7 +108,7 @@ returns-4 c =
     let there : none (withSession session (s .accesses)) ≡ eqb (c .before .place-of .result) 0 =
     none-with (a .row .now) session (start .pre) ∙ ap (λ (k : ℕ). eqb k 0) (sym (c .before .place-of .ensures .0)) in (
       λ host route. sym (is-held session host label (a .visited) s entered unbarred home (there ∙ ne-eqb _ 0 (c .if4 .taken))),
-      refl,
+      λ route. refl,
     )
 
 -- src/deciding.rt:68:5

@@ -1,0 +1,486 @@
+-- The answer's parts, each a write behind the one before, and what they come to.
+use mathlib.Core.Path.{_≡_, refl, sym, ap, _∙_}
+use mathlib.Core.Bool.{Bool, true, false, _&&_, not}
+use mathlib.Core.List.{List, [], _∷_, _++_, append-assoc, append-nil}
+use Prim.Native.Nat.{ℕ, zero, suc, _+_, _-_, _*_, _/_, _%_, _≤_, _<_}
+use native.Mathlib.Omega.{arith}
+use borrow.Author.Tests.{leb-true, eqb-true, eqb-false, eq-eqb, ne-eqb, le-leb, lt-leb}
+use lib.Dec.{eqb, leb}
+use lib.ListN.{length, getD, take, drop, length-append, length-take, length-drop}
+use lib.Seq.{drop-drop, drop-at, length-take-le}
+use Rattle.octets.specs.Choice.{pick, within}
+use Rattle.octets.specs.Lists.{keep}
+use Rattle.octets.specs.Texts.{part, zeros, put}
+use Rattle.octets.specs.Numbers.{net24, net32, in24, in32, up4}
+use Rattle.octets.proofs.Lists.{by-test, and-left, and-right, both, in-within, within-low, within-high}
+use Rattle.octets.proofs.Texts.{length-zeros, length-part, length-put, put-then, put-nothing}
+use Rattle.message.specs.Codes.{Code, none, plain, experimental, numberOf}
+use Rattle.message.specs.ReadingAMessage.{command, flags, headerCode, Name, sameName, Avp, Walk, behind, walkOne, walkUpTo, walk, headLength, avpLength, avpCode, avpOf, avps, walkCode, having, present, valueOf, sessionId, userName, proxyInfo}
+use Rattle.message.specs.WritingTheAnswer.{avpBytes, sessionAvp, is3xxx, authAvps, resultAvp, subscriptionAvp, allBytes, proxyAvps, answerBody, answerFlags, answer, answerRoom}
+use Rattle.message.specs.declared.Spot.{Spot}
+use Rattle.message.specs.declared.Span.{Span}
+use Rattle.message.specs.declared.Kind.{Kind}
+use Rattle.message.specs.declared.Kind.the-variants.{NoAnswer, Plain, Experimental}
+use Rattle.message.specs.declared.Head.the-variants.{One, Bad}
+use Rattle.message.specs.Positions.{names, nameAt, headOf, slotOf, spotAt, headAt}
+use Rattle.message.specs.Spans.{Holds, hasProxies}
+use Rattle.message.specs.Kinds.{codeFrom}
+use Rattle.answers.specs.Answers.{headBytes, answerHead, Written, Answerable, Answered}
+use Rattle.message.proofs.Walks.{Passed, passes, up4-least, head-least}
+use Rattle.message.proofs.Heads.{net24-drop}
+use Rattle.message.proofs.Gathering.{walk-end, walk-bad, walk-one, head-is-one, head-is-bad, next-place, slot-named, slot-other, having-is, having-not, ahead}
+use Rattle.message.proofs.Readers.{slot-head}
+
+-- LENGTHS
+
+pub length-avp : (code : ℕ) (v : List ℕ) → length (avpBytes code v) ≡ 8 + up4 (length v)
+unfolding avpBytes in32 in24
+length-avp code v = simp (length-append, length-zeros) (omega (arith, up4-least (length v)))
+
+pub up4-most : (n : ℕ) → up4 n ≤ n + 3
+unfolding up4
+up4-most n = omega arith
+
+pub length-number : (code n : ℕ) → length (avpBytes code (in32 n)) ≡ 12
+unfolding avpBytes in32 in24 up4 zeros
+length-number code n = refl
+
+-- WRITES
+
+pub written-nothing : (d : List ℕ) (at : ℕ) → Written d d at at []
+written-nothing d at = record { place = omega arith; bytes-put = sym (put-nothing d at) }
+
+pub written-none : (d : List ℕ) (at : ℕ) (s : List ℕ) → s ≡ [] → Written d d at at s
+written-none d at s e = rw e (written-nothing d at)
+
+-- one write behind another
+pub written-then : (d e f : List ℕ) (at k n : ℕ) (a b : List ℕ) → Written d e at k a → Written e f k n b → at + length a ≤ length d → Written d f at n (a ++ b)
+written-then d e f at k n a b p q h =
+    record {
+      place = q .place ∙ rw (p .place, length-append) (omega arith);
+      bytes-put = q .bytes-put ∙ rw (p .bytes-put) (put-then d at a b k (p .place) h);
+    }
+
+-- the head of an AVP, and its value and padding behind it
+pub avp-put : (d : List ℕ) (at code : ℕ) (v : List ℕ) → at + length v + 12 ≤ length d
+    → put (put (put d at (headBytes code (8 + length v))) (at + 8) v) (at + 8 + length v) (zeros (up4 (length v) - length v)) ≡ put d at (avpBytes code v)
+unfolding avpBytes headBytes in32 in24
+avp-put d at code v h =
+    let a : List ℕ = headBytes code (8 + length v) in
+    let l : length (a ++ v) ≡ 8 + length v = length-append a v in
+    ap (λ (x : List ℕ). put x (at + 8 + length v) (zeros (up4 (length v) - length v))) (put-then d at a v (at + 8) refl (omega arith))
+    ∙ put-then d at (a ++ v) (zeros (up4 (length v) - length v)) (at + 8 + length v) (omega arith) (omega arith)
+    ∙ ap (put d at) (append-assoc a v (zeros (up4 (length v) - length v)))
+
+-- a group: a value that ends on a multiple of 4 has no padding
+pub group-put : (d e f : List ℕ) (at n code size : ℕ) (v : List ℕ) → e ≡ put d at (headBytes code size) → size ≡ 8 + length v → up4 (length v) ≡ length v
+    → at + 8 ≤ length d → Written e f (at + 8) n v → Written d f at n (avpBytes code v)
+unfolding avpBytes headBytes in32 in24 zeros
+group-put d e f at n code size v p s u h w =
+    let z : up4 (length v) - length v ≡ 0 = omega (arith, u) in
+    let q : Written d f at n (headBytes code size ++ v) =
+    written-then d e f at (at + 8) n (headBytes code size) v (record { place = refl; bytes-put = p }) w h in
+    rw (z, append-nil v, ← s) q
+
+-- THE CODE BY ITS NUMBER
+
+pub number-from : (k : Kind) (n : ℕ) → numberOf (codeFrom k n) ≡ n
+unfolding codeFrom numberOf
+number-from NoAnswer n = refl
+number-from Plain n = refl
+number-from Experimental n = refl
+
+pub auth-from : (m : List ℕ) (k : Kind) (n : ℕ) → authAvps m (plain n) ≡ authAvps m (codeFrom k n)
+unfolding authAvps is3xxx numberOf codeFrom
+auth-from m NoAnswer n = refl
+auth-from m Plain n = refl
+auth-from m Experimental n = refl
+
+pub subscription-from : (m : List ℕ) (k : Kind) (n : ℕ) → subscriptionAvp m (plain n) ≡ subscriptionAvp m (codeFrom k n)
+unfolding subscriptionAvp numberOf codeFrom
+subscription-from m NoAnswer n = refl
+subscription-from m Plain n = refl
+subscription-from m Experimental n = refl
+
+pub head-from : (m : List ℕ) (k : Kind) (n size : ℕ) → answerHead m (plain n) size ≡ answerHead m (codeFrom k n) size
+unfolding answerHead answerFlags is3xxx numberOf codeFrom
+head-from m NoAnswer n size = refl
+head-from m Plain n size = refl
+head-from m Experimental n size = refl
+
+-- SESSION-ID
+
+module _ (m : List ℕ) where
+  pub session-bad : (c : ℕ) → headAt m 20 ≡ Bad c → sessionAvp m ≡ []
+  unfolding sessionAvp pick
+  session-bad c e =
+      let b = head-is-bad m 20 c e in
+      rw (ne-eqb (avpCode (drop 20 m)) 0 (λ z. omega (arith, b .0, b .1)))
+
+  module _ (a : Spot) (o : headAt m 20 ≡ One a) where
+    slot-is : a .slot ≡ slotOf ((avpOf (drop 20 m)) .name)
+    unfolding spotAt
+    slot-is = ap (λ (x : Spot). x .slot) ((head-is-one m 20 a o) .1)
+
+    pub session-other : (a .slot ≡ 0 → ⊥) → sessionAvp m ≡ []
+    unfolding sessionAvp pick nameAt names
+    session-other h =
+        let n : sameName (nameAt 0) ((avpOf (drop 20 m)) .name) ≡ false = slot-other ((avpOf (drop 20 m)) .name) 0 (omega arith) (λ z. h (slot-is ∙ sym z)) in
+        rw (eq-eqb (avpCode (drop 20 m)) 0 ((head-is-one m 20 a o) .0), n)
+
+    pub past-first : 20 ≤ length m → 28 ≤ length m
+    past-first l =
+        let p : Passed (drop 20 m) = passes (drop 20 m) ((head-is-one m 20 a o) .0) in
+        let w : 8 ≤ length m - 20 = rw length-drop at (p .eight) in
+        omega arith
+
+    module _ (z : a .slot ≡ 0) (l : 20 ≤ length m) where
+      named : sameName (nameAt 0) ((avpOf (drop 20 m)) .name) ≡ true
+      named = let q : slotOf ((avpOf (drop 20 m)) .name) ≡ 0 = sym slot-is ∙ z in rw q at (slot-named ((avpOf (drop 20 m)) .name) (omega (arith, q)))
+
+      eight : headLength (drop 20 m) ≡ 8
+      unfolding headOf pick
+      eight = slot-head 0 (drop 20 m) (omega arith) named
+
+      pub session-end : 20 + net24 m 25 ≤ length m
+      session-end =
+          let p : Passed (drop 20 m) = passes (drop 20 m) ((head-is-one m 20 a o) .0) in
+          let w : up4 (avpLength (drop 20 m)) ≤ length m - 20 = rw length-drop at (p .whole) in
+          omega (arith, net24-drop 20 5 m, up4-least (avpLength (drop 20 m)))
+
+      least : 8 ≤ net24 m 25
+      least =
+          let p : Passed (drop 20 m) = passes (drop 20 m) ((head-is-one m 20 a o) .0) in
+          omega (arith, eight, p .head, net24-drop 20 5 m)
+
+      value-is : (avpOf (drop 20 m)) .value ≡ part m 28 (net24 m 25 - 8)
+      unfolding avpOf
+      value-is = rw (eight, net24-drop 20 5 m, drop-drop 8 20 m)
+
+      value-length : length ((avpOf (drop 20 m)) .value) ≡ net24 m 25 - 8
+      value-length = ap length value-is ∙ length-part m 28 (net24 m 25 - 8) (omega (arith, session-end, least))
+
+      pub session-short : net24 m 25 < 9 → sessionAvp m ≡ []
+      unfolding sessionAvp pick within nameAt names
+      session-short h =
+          rw (eq-eqb (avpCode (drop 20 m)) 0 ((head-is-one m 20 a o) .0), named, value-length, lt-leb 1 (net24 m 25 - 8) (omega arith))
+
+      pub session-long : 136 < net24 m 25 → sessionAvp m ≡ []
+      unfolding sessionAvp pick within nameAt names
+      session-long h =
+          rw (eq-eqb (avpCode (drop 20 m)) 0 ((head-is-one m 20 a o) .0), named, value-length, le-leb 1 (net24 m 25 - 8) (omega arith), lt-leb (net24 m 25 - 8) 128 (omega arith))
+
+      pub session-is : 9 ≤ net24 m 25 → net24 m 25 ≤ 136 → sessionAvp m ≡ avpBytes 263 (part m 28 (net24 m 25 - 8))
+      unfolding sessionAvp pick nameAt names
+      session-is h k =
+          rw (eq-eqb (avpCode (drop 20 m)) 0 ((head-is-one m 20 a o) .0), named, value-length, in-within 1 128 (net24 m 25 - 8) (omega arith) (omega arith), value-is)
+
+-- AUTH AND SUBSCRIPTION
+
+module _ (m : List ℕ) (n : ℕ) where
+  pub auth-other : (command m ≡ 265 → ⊥) → authAvps m (plain n) ≡ []
+  unfolding authAvps pick
+  auth-other h = rw (ne-eqb (command m) 265 h)
+
+  pub auth-3xxx : command m ≡ 265 → is3xxx (plain n) ≡ true → authAvps m (plain n) ≡ []
+  unfolding authAvps pick
+  auth-3xxx h e = rw (eq-eqb (command m) 265 h, e)
+
+  pub auth-is : command m ≡ 265 → is3xxx (plain n) ≡ false → authAvps m (plain n) ≡ avpBytes 258 (in32 1) ++ avpBytes 274 (in32 2)
+  unfolding authAvps pick
+  auth-is h e = rw (eq-eqb (command m) 265 h, e)
+
+  pub subscription-other : (command m ≡ 265 → ⊥) → subscriptionAvp m (plain n) ≡ []
+  unfolding subscriptionAvp pick
+  subscription-other h = rw (ne-eqb (command m) 265 h)
+
+  pub subscription-fail : (n ≡ 2001 → ⊥) → subscriptionAvp m (plain n) ≡ []
+  unfolding subscriptionAvp pick numberOf
+  subscription-fail h = rw (ne-eqb n 2001 h) (by-test (eqb (command m) 265) (λ e. rw e) (λ e. rw e))
+
+  pub subscription-is : command m ≡ 265 → n ≡ 2001 → subscriptionAvp m (plain n) ≡ avpBytes 443 (avpBytes 450 (in32 1) ++ avpBytes 444 (valueOf userName (avps m)))
+  unfolding subscriptionAvp pick numberOf
+  subscription-is h k = rw (eq-eqb (command m) 265 h, eq-eqb n 2001 k)
+
+pub subscription-length : (v : List ℕ) → length (avpBytes 450 (in32 1) ++ avpBytes 444 v) ≡ 20 + up4 (length v)
+subscription-length v = length-append (avpBytes 450 (in32 1)) (avpBytes 444 v) ∙ rw (length-number 450 1, length-avp 444 v) (omega arith)
+
+pub up4-twice : (n : ℕ) → up4 (20 + up4 n) ≡ 20 + up4 n
+unfolding up4
+up4-twice n = omega arith
+
+-- PROXY-INFO
+
+-- the Proxy-Infos ahead
+unfoldable pub proxiesFrom : List ℕ → ℕ → List ℕ
+proxiesFrom m from = allBytes (having proxyInfo ((ahead m from) .avps))
+
+bytes-none : (xs : List Avp) → false ≡ not (eqb (length xs) 0) → allBytes xs ≡ []
+unfolding allBytes
+bytes-none [] f = refl
+bytes-none (x ∷ xs) f =
+    let g = rw (ne-eqb (suc (length xs)) 0 (λ z. omega arith)) at f in
+    let z : _≡_ {A = ℕ} 0 1 = cc in
+    absurd (omega arith)
+
+pub proxies-none : (m : List ℕ) → false ≡ hasProxies m → proxyAvps m ≡ []
+unfolding hasProxies proxyAvps pick present
+proxies-none m e =
+    by-test (eqb (headerCode m) 0 && eqb (walkCode m) 0)
+    (λ t.
+    let h = and-left (eqb (headerCode m) 0) (eqb (walkCode m) 0) t in
+    let w = and-right (eqb (headerCode m) 0) (eqb (walkCode m) 0) t in
+    let f = rw (h, w) at e in
+    rw t (bytes-none (having proxyInfo (avps m)) f))
+    (λ t. rw t)
+
+pub proxies-start : (m : List ℕ) → true ≡ hasProxies m → proxyAvps m ≡ proxiesFrom m 20
+unfolding hasProxies proxyAvps pick proxiesFrom avps
+proxies-start m e =
+    let h = and-left (eqb (headerCode m) 0) (eqb (walkCode m) 0 && present proxyInfo (avps m)) (sym e) in
+    let r = and-right (eqb (headerCode m) 0) (eqb (walkCode m) 0 && present proxyInfo (avps m)) (sym e) in
+    rw (h, and-left (eqb (walkCode m) 0) (present proxyInfo (avps m)) r)
+
+pub proxies-end : (m : List ℕ) (from : ℕ) → length m ≤ from → proxiesFrom m from ≡ []
+unfolding proxiesFrom having keep allBytes
+proxies-end m from h = rw (walk-end (drop from m) (rw length-drop (omega arith)))
+
+proxies-stop : (m : List ℕ) (from c : ℕ) → from < length m → headAt m from ≡ Bad c → proxiesFrom m from ≡ []
+unfolding proxiesFrom having keep allBytes
+proxies-stop m from c h b =
+    let f = head-is-bad m from c b in
+    rw (walk-bad (drop from m) (rw length-drop (omega arith)) (omega (arith, f .0, f .1)))
+
+module _ (m : List ℕ) (from : ℕ) (a : Spot) (o : headAt m from ≡ One a) where
+  ahead-avps : (ahead m from) .avps ≡ avpOf (drop from m) ∷ (ahead m (a .next)) .avps
+  unfolding spotAt behind
+  ahead-avps =
+      let p = head-is-one m from a o in
+      rw (walk-one (drop from m) (p .0), p .1, drop-drop (up4 (avpLength (drop from m))) from m)
+
+  slot-from : a .slot ≡ slotOf ((avpOf (drop from m)) .name)
+  unfolding spotAt
+  slot-from = ap (λ (x : Spot). x .slot) ((head-is-one m from a o) .1)
+
+  next-from : a .next ≡ from + up4 (avpLength (drop from m))
+  unfolding spotAt
+  next-from = ap (λ (x : Spot). x .next) ((head-is-one m from a o) .1)
+
+  pub proxies-other : (a .slot ≡ 9 → ⊥) → proxiesFrom m from ≡ proxiesFrom m (a .next)
+  unfolding proxiesFrom nameAt names
+  proxies-other h =
+      let n : sameName (nameAt 9) ((avpOf (drop from m)) .name) ≡ false = slot-other ((avpOf (drop from m)) .name) 9 (omega arith) (λ z. h (slot-from ∙ sym z)) in
+      ap allBytes (ap (having proxyInfo) ahead-avps ∙ having-not proxyInfo (avpOf (drop from m)) ((ahead m (a .next)) .avps) n)
+
+  pub proxies-one : a .slot ≡ 9 → proxiesFrom m from ≡ part m from (a .next - from) ++ proxiesFrom m (a .next)
+  unfolding proxiesFrom nameAt names allBytes avpOf
+  proxies-one h =
+      let q : slotOf ((avpOf (drop from m)) .name) ≡ 9 = sym slot-from ∙ h in
+      let n : sameName (nameAt 9) ((avpOf (drop from m)) .name) ≡ true = rw q at (slot-named ((avpOf (drop from m)) .name) (omega (arith, q))) in
+      let k : a .next - from ≡ up4 (avpLength (drop from m)) = omega (arith, next-from) in
+      ap allBytes (ap (having proxyInfo) ahead-avps ∙ having-is proxyInfo (avpOf (drop from m)) ((ahead m (a .next)) .avps) n)
+      ∙ rw k
+
+-- what is in the room with the Proxy-Infos ahead is what all of them make of it
+pub record Copied (m before : List ℕ) (start : ℕ) (room : List ℕ) (to from : ℕ) : Type 0 where
+  pub inside : from ≤ length m
+  pub same : length room ≡ length before
+  pub fits : to + (length m - from) ≤ length before
+  pub end : to + length (proxiesFrom m from) ≡ start + length (proxyAvps m)
+  pub all : put room to (proxiesFrom m from) ≡ put before start (proxyAvps m)
+
+pub copied-none : (m room : List ℕ) (at : ℕ) → true ≡ hasProxies m → 20 ≤ length m → at + length m ≤ length room → Copied m room at room at 20
+copied-none m room at e h f =
+    let p = proxies-start m e in
+    record { inside = h; same = refl; fits = omega arith; end = rw p; all = rw p }
+
+-- nothing is ahead
+copied-empty : (m before room : List ℕ) (start to from : ℕ) → Copied m before start room to from → proxiesFrom m from ≡ [] → Written before room start to (proxyAvps m)
+copied-empty m before room start to from w e =
+    let n : length (proxiesFrom m from) ≡ 0 = rw e in
+    record { place = omega (arith, w .end, n); bytes-put = sym (put-nothing room to) ∙ rw e at (w .all) }
+
+pub copied-stop : (m before room : List ℕ) (start to from c : ℕ) → Copied m before start room to from → from < length m → headAt m from ≡ Bad c
+    → Written before room start to (proxyAvps m)
+copied-stop m before room start to from c w h b = copied-empty m before room start to from w (proxies-stop m from c h b)
+
+pub copied-all : (m before room : List ℕ) (start to from : ℕ) → Copied m before start room to from → length m ≤ from → Written before room start to (proxyAvps m)
+copied-all m before room start to from w h = copied-empty m before room start to from w (proxies-end m from h)
+
+module _ (m before room : List ℕ) (start to from : ℕ) (a : Spot) (w : Copied m before start room to from) (o : headAt m from ≡ One a) where
+  pub copied-over : (a .slot ≡ 9 → ⊥) → Copied m before start room to (a .next)
+  copied-over h =
+      let n = next-place m from a (w .inside) o in
+      let e = proxies-other m from a o h in
+      record {
+        inside = n .1;
+        same = w .same;
+        fits = omega (arith, w .fits, n .0, n .1);
+        end = rw e at (w .end);
+        all = rw e at (w .all);
+      }
+
+  pub copied-one : (after : List ℕ) → a .slot ≡ 9 → after ≡ put room to (part m from (a .next - from)) → Copied m before start after (to + (a .next - from)) (a .next)
+  copied-one after h p =
+      let n = next-place m from a (w .inside) o in
+      let e = proxies-one m from a o h in
+      let s : List ℕ = part m from (a .next - from) in
+      let k : length s ≡ a .next - from = length-part m from (a .next - from) (omega (arith, n .0, n .1)) in
+      let f : to + length s ≤ length room = omega (arith, w .fits, w .same, n .0, n .1, k) in
+      record {
+        inside = n .1;
+        same = ap length p ∙ length-put room to s f ∙ w .same;
+        fits = omega (arith, w .fits, n .0, n .1);
+        end = omega (arith, w .end, ap length e, length-append s (proxiesFrom m (a .next)), k);
+        all = rw p (put-then room to s (proxiesFrom m (a .next)) (to + (a .next - from)) (rw k) f) ∙ rw e at (w .all);
+      }
+
+-- A walk's AVPs are no longer than its bytes.
+bytes-length : (s : List ℕ) → Passed s → length ((avpOf s) .bytes) ≡ up4 (avpLength s)
+unfolding avpOf
+bytes-length s p = length-take-le (up4 (avpLength s)) s (p .whole)
+
+bytes-walk : (k : ℕ) (n : Name) (s : List ℕ) → length (allBytes (having n ((walkUpTo k s) .avps))) ≤ length s
+unfolding walkUpTo walkOne pick having keep allBytes behind
+bytes-walk zero n s = omega arith
+bytes-walk (suc k) n s =
+    by-test (eqb (length s) 0)
+    (λ z. rw z (omega arith))
+    (λ z.
+    by-test (eqb (avpCode s) 0)
+    (λ t.
+    let p : Passed s = passes s (eqb-true (avpCode s) 0 t) in
+    let r = bytes-walk k n (drop (up4 (avpLength s)) s) in
+    let r2 : length (allBytes (having n ((walkUpTo k (drop (up4 (avpLength s)) s)) .avps))) ≤ length s - up4 (avpLength s) = rw length-drop at r in
+    by-test (sameName n ((avpOf s) .name))
+    (λ u. rw (z, t, u) (rw (length-append, bytes-length s p) (omega (arith, p .whole))))
+    (λ u. rw (z, t, u) (omega (arith, p .whole))))
+    (λ t. rw (z, t) (omega arith)))
+
+pub proxies-most : (m : List ℕ) → 20 ≤ length m → length (proxyAvps m) ≤ length m - 20
+unfolding proxyAvps pick avps walk
+proxies-most m h =
+    by-test (eqb (headerCode m) 0 && eqb (walkCode m) 0)
+    (λ t. rw t (let b = bytes-walk (suc (length (drop 20 m))) proxyInfo (drop 20 m) in omega (arith, b, length-drop 20 m)))
+    (λ t. rw t (omega arith))
+
+-- HOW LONG AN ANSWER IS
+
+pub up4-128 : (n : ℕ) → n ≤ 128 → up4 n ≤ 128
+unfolding up4
+up4-128 n h = omega arith
+
+pub avp-most : (code : ℕ) (v : List ℕ) → length v ≤ 128 → length (avpBytes code v) ≤ 136
+avp-most code v h = omega (arith, length-avp code v, up4-128 (length v) h)
+
+pub session-most : (m : List ℕ) → length (sessionAvp m) ≤ 136
+unfolding sessionAvp pick
+session-most m =
+    let v : List ℕ = (avpOf (drop 20 m)) .value in
+    by-test (eqb (avpCode (drop 20 m)) 0 && (sameName sessionId ((avpOf (drop 20 m)) .name) && within 1 128 (length v)))
+    (λ t.
+    let r = and-right (eqb (avpCode (drop 20 m)) 0) (sameName sessionId ((avpOf (drop 20 m)) .name) && within 1 128 (length v)) t in
+    rw t (avp-most 263 v (within-high 1 128 (length v) (and-right (sameName sessionId ((avpOf (drop 20 m)) .name)) (within 1 128 (length v)) r))))
+    (λ t. rw t (omega arith))
+
+pub auth-most : (m : List ℕ) (c : Code) → length (authAvps m c) ≤ 24
+unfolding authAvps pick avpBytes in32 in24 up4 zeros
+auth-most m c = by-test (eqb (command m) 265 && not (is3xxx c)) (λ t. rw t (omega arith)) (λ t. rw t (omega arith))
+
+pub result-most : (c : Code) → length (resultAvp c) ≤ 32
+unfolding resultAvp avpBytes in32 in24 up4 zeros
+result-most (none n) = omega arith
+result-most (plain n) = omega arith
+result-most (experimental n) = omega arith
+
+pub subscription-most : (m : List ℕ) (c : Code) → (command m ≡ 265 → numberOf c ≡ 2001 → length (valueOf userName (avps m)) ≤ 128) → length (subscriptionAvp m c) ≤ 156
+unfolding subscriptionAvp pick
+subscription-most m c h =
+    let v : List ℕ = valueOf userName (avps m) in
+    by-test (eqb (command m) 265 && eqb (numberOf c) 2001)
+    (λ t.
+    let p = eqb-true (command m) 265 (and-left (eqb (command m) 265) (eqb (numberOf c) 2001) t) in
+    let q = eqb-true (numberOf c) 2001 (and-right (eqb (command m) 265) (eqb (numberOf c) 2001) t) in
+    let k = subscription-length v in
+    let l : length (avpBytes 443 (avpBytes 450 (in32 1) ++ avpBytes 444 v)) ≡ 28 + up4 (length v) =
+    length-avp 443 (avpBytes 450 (in32 1) ++ avpBytes 444 v) ∙ rw (k, up4-twice (length v)) (omega arith) in
+    rw t (omega (arith, l, up4-128 (length v) (h p q))))
+    (λ t. rw t (omega arith))
+
+pub length-body : (m host realm : List ℕ) (c : Code)
+    → length (answerBody m host realm c)
+    ≡ length (sessionAvp m) + (length (authAvps m c) + (length (resultAvp c) + (length (avpBytes 264 host) + (length (avpBytes 296 realm) + (length (subscriptionAvp m c) + length (proxyAvps m))))))
+unfolding answerBody
+length-body m host realm c = simp length-append
+
+pub body-fits : (m host realm : List ℕ) (c : Code) → 20 ≤ length m → length m ≤ 4096 → length host ≤ 128 → length realm ≤ 128
+    → (command m ≡ 265 → numberOf c ≡ 2001 → length (valueOf userName (avps m)) ≤ 128) → 20 + length (answerBody m host realm c) ≤ 5120
+body-fits m host realm c h k p q u =
+    omega
+    (arith, length-body m host realm c, session-most m, auth-most m c, result-most c, avp-most 264 host p, avp-most 296 realm q, subscription-most m c u, proxies-most m h)
+
+pub length-answer : (m host realm : List ℕ) (c : Code) → 20 ≤ length m → length (answer m host realm c) ≡ 20 + length (answerBody m host realm c)
+unfolding answer in24
+length-answer m host realm c h =
+    let l : length (part m 5 15) ≡ 15 = length-part m 5 15 (omega arith) in
+    rw (length-append (part m 5 15) (answerBody m host realm c), l) (omega arith)
+
+-- every answer fits the room that a call must bring
+pub answer-fits : (m host realm : List ℕ) (c : Code) → 20 ≤ length m → length m ≤ 4096 → length host ≤ 128 → length realm ≤ 128
+    → (command m ≡ 265 → numberOf c ≡ 2001 → length (valueOf userName (avps m)) ≤ 128) → length (answer m host realm c) ≤ 5120
+answer-fits m host realm c h k p q u = omega (arith, length-answer m host realm c h, body-fits m host realm c h k p q u)
+
+-- THE WHOLE ANSWER
+
+-- seven writes, one behind the other
+pub written-seven : (d0 d1 d2 d3 d4 d5 d6 d7 : List ℕ) (p0 p1 p2 p3 p4 p5 p6 p7 : ℕ) (a b c d e f g : List ℕ)
+    → Written d0 d1 p0 p1 a → Written d1 d2 p1 p2 b → Written d2 d3 p2 p3 c → Written d3 d4 p3 p4 d → Written d4 d5 p4 p5 e → Written d5 d6 p5 p6 f → Written d6 d7 p6 p7 g
+    → p0 + (length a + (length b + (length c + (length d + (length e + (length f + length g)))))) ≤ length d0
+    → Written d0 d7 p0 p7 (a ++ (b ++ (c ++ (d ++ (e ++ (f ++ g))))))
+written-seven d0 d1 d2 d3 d4 d5 d6 d7 p0 p1 p2 p3 p4 p5 p6 p7 a b c d e f g w1 w2 w3 w4 w5 w6 w7 h =
+    let v2 = written-then d0 d1 d2 p0 p1 p2 a b w1 w2 (omega arith) in
+    let v3 = written-then d0 d2 d3 p0 p2 p3 (a ++ b) c v2 w3 (rw length-append (omega arith)) in
+    let v4 = written-then d0 d3 d4 p0 p3 p4 (a ++ b ++ c) d v3 w4 (simp length-append (omega arith)) in
+    let v5 = written-then d0 d4 d5 p0 p4 p5 (a ++ b ++ c ++ d) e v4 w5 (simp length-append (omega arith)) in
+    let v6 = written-then d0 d5 d6 p0 p5 p6 (a ++ b ++ c ++ d ++ e) f v5 w6 (simp length-append (omega arith)) in
+    let v7 = written-then d0 d6 d7 p0 p6 p7 (a ++ b ++ c ++ d ++ e ++ f) g v6 w7 (simp length-append (omega arith)) in
+    let r : a ++ b ++ c ++ d ++ e ++ f ++ g ≡ a ++ (b ++ (c ++ (d ++ (e ++ (f ++ g))))) = simp append-assoc in
+    rw r at v7
+
+-- the header in front of what was written behind it
+head-put : (d h b : List ℕ) → length h ≡ 20 → 20 + length b ≤ length d → put (put d 20 b) 0 h ≡ h ++ b ++ drop (length (h ++ b)) d
+unfolding put
+head-put d h b l k =
+    let t : length (take 20 d) ≡ 20 = length-take-le 20 d (omega arith) in
+    let z : 0 + length h ≡ 20 = omega (arith, l) in
+    let s : length (h ++ b) ≡ 20 + length b = length-append h b ∙ rw l in
+    rw (z, drop-at (take 20 d) (b ++ drop (20 + length b) d) 20 t, s, append-assoc h b (drop (20 + length b) d))
+
+pub answer-put : (m host realm : List ℕ) (c : Code) (before after last : List ℕ) (size : ℕ) → 20 ≤ length m → 20 + length (answerBody m host realm c) ≤ length before
+    → Written before after 20 size (answerBody m host realm c) → last ≡ put after 0 (answerHead m c size) → Answered m host realm c size before last
+unfolding answerRoom answer answerHead in24
+answer-put m host realm c before after last size h k w e =
+    let b : List ℕ = answerBody m host realm c in
+    let n : size ≡ 20 + length b = w .place in
+    let l : length (part m 5 15) ≡ 15 = length-part m 5 15 (omega arith) in
+    let hl : length (answerHead m c size) ≡ 20 = rw l in
+    let r1 : put after 0 (answerHead m c size) ≡ answerHead m c size ++ b ++ drop (length (answerHead m c size ++ b)) before =
+    rw (w .bytes-put) (head-put before (answerHead m c size) b hl k) in
+    record {
+      length-is = n ∙ sym (length-answer m host realm c h);
+      room-is = e ∙ r1 ∙ ap (λ (x : ℕ). answerHead m c x ++ b ++ drop (length (answerHead m c x ++ b)) before) n;
+    }
+
+-- the name that an answer repeats is short enough
+pub user-short : (m host realm : List ℕ) (code : ℕ) (user : Span) (proxies : Bool) (room : List ℕ) → Answerable m host realm code user proxies room
+    → command m ≡ 265 → code ≡ 2001 → length (valueOf userName (avps m)) ≤ 128
+user-short m host realm code user proxies room a p q =
+    let h : Holds m userName user = a .named p q in
+    rw (← h .value) (omega (arith, length-part m (user .at) (user .len) (h .inside), a .short p q))
+
+pub answerable-fits : (m host realm : List ℕ) (k : Kind) (code : ℕ) (user : Span) (proxies : Bool) (room : List ℕ) → Answerable m host realm code user proxies room
+    → 20 + length (answerBody m host realm (codeFrom k code)) ≤ length room
+answerable-fits m host realm k code user proxies room a =
+    let f = body-fits m host realm (codeFrom k code) (a .least) (a .most) (a .host-fits) (a .realm-fits)
+    (λ p q. user-short m host realm code user proxies room a p (sym (number-from k code) ∙ q)) in
+    omega (arith, f, a .room-fits)

@@ -1,0 +1,73 @@
+-- Five bytes of ours and fifteen of the message, one behind the other.
+use mathlib.Core.Path.{refl, _∙_}
+use mathlib.Core.List.{List, [], _∷_, _++_}
+use Prim.Native.Nat.{ℕ}
+use native.Mathlib.Omega.{arith}
+use borrow.Author.Needs.{needs}
+use Rattle.octets.specs.Texts.{part}
+use Rattle.octets.specs.Numbers.{in24}
+use Rattle.octets.proofs.Texts.{put-then}
+use Rattle.message.specs.Codes.{plain}
+use Rattle.message.specs.WritingTheAnswer.{answerFlags}
+use Rattle.answers.specs.Answers.{answerHead}
+use Rattle.answers.proofs.put_header.Statement.{statement}
+use Rattle.answers.proofs.put_header.Tie as tie
+
+cast-t8 : tie.Need-cast-t8
+cast-t8 c = search needs
+
+cast-t11 : tie.Need-cast-t11
+cast-t11 c = search needs
+
+cast-t13 : tie.Need-cast-t13
+cast-t13 c = search needs
+
+answer-flags-requires : tie.Need-answer-flags-requires
+answer-flags-requires c κs = search needs
+
+slice-aggregate-put-bytes : tie.Need-slice-aggregate-put-bytes
+slice-aggregate-put-bytes c = search needs
+
+put-bytes-requires : tie.Need-put-bytes-requires
+put-bytes-requires c κs = search needs
+
+sub-put-bytes : tie.Need-sub-put-bytes
+sub-put-bytes c = search needs
+
+part-put-bytes-start : tie.Need-part-put-bytes-start
+part-put-bytes-start c = search needs
+
+part-put-bytes-end : tie.Need-part-put-bytes-end
+part-put-bytes-end c = search needs
+
+put-bytes-requires-2 : tie.Need-put-bytes-requires-2
+put-bytes-requires-2 c κs = search needs
+
+same-length : tie.Need-same-length
+same-length c = search needs
+
+returns : tie.Need-returns
+unfolding answerHead in24
+returns c =
+    let a = c .before .before .before .before .before .before .before .before .before .before .before .before .before .args in
+    let m = a .m .now in
+    let five : List ℕ = 1 ∷ in24 (a .n) ++ (answerFlags m (plain (a .code)) ∷ []) in
+    c .before .before .put-bytes2 .ensures
+    ∙ rw (c .before .before .before .before .before .before .before .put-bytes .ensures, c .before .before .before .before .before .before .before .before .before .before .answer-flags .ensures) (put-then (a .room .now) 0 five (part m 5 15) 5 refl (omega (arith, c .before .before .before .before .before .before .before .before .before .before .before .before .before .pre .1)))
+
+pub put-header-spec : {M : Type 1} → statement M
+put-header-spec =
+    tie.close
+    (tie.spec
+    cast-t8
+    cast-t11
+    cast-t13
+    answer-flags-requires
+    slice-aggregate-put-bytes
+    put-bytes-requires
+    sub-put-bytes
+    part-put-bytes-start
+    part-put-bytes-end
+    put-bytes-requires-2
+    same-length
+    returns)

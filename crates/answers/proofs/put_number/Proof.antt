@@ -1,0 +1,66 @@
+-- The twelve bytes are those of the definition: four of the value, and no padding.
+use mathlib.Core.Path.{refl}
+use borrow.Author.Needs.{needs}
+use Rattle.octets.specs.Texts.{zeros}
+use Rattle.octets.specs.Numbers.{in24, in32, up4}
+use Rattle.message.specs.WritingTheAnswer.{avpBytes}
+use Rattle.answers.proofs.put_number.Statement.{statement}
+use Rattle.answers.proofs.put_number.Tie as tie
+
+cast-t8 : tie.Need-cast-t8
+cast-t8 c = search needs
+
+cast-t11 : tie.Need-cast-t11
+cast-t11 c = search needs
+
+cast-t14 : tie.Need-cast-t14
+cast-t14 c = search needs
+
+cast-t16 : tie.Need-cast-t16
+cast-t16 c = search needs
+
+cast-t19 : tie.Need-cast-t19
+cast-t19 c = search needs
+
+cast-t22 : tie.Need-cast-t22
+cast-t22 c = search needs
+
+cast-t25 : tie.Need-cast-t25
+cast-t25 c = search needs
+
+cast-t27 : tie.Need-cast-t27
+cast-t27 c = search needs
+
+slice-aggregate-put-bytes : tie.Need-slice-aggregate-put-bytes
+slice-aggregate-put-bytes c = search needs
+
+put-bytes-requires : tie.Need-put-bytes-requires
+put-bytes-requires c κs = search needs
+
+add-result : tie.Need-add-result
+add-result c = search needs
+
+same-length : tie.Need-same-length
+same-length c = search needs
+
+returns : tie.Need-returns
+unfolding avpBytes in24 in32 up4 zeros
+returns c = record { place = refl; bytes-put = c .before .before .put-bytes .ensures }
+
+pub put-number-spec : {M : Type 1} → statement M
+put-number-spec =
+    tie.close
+    (tie.spec
+    cast-t8
+    cast-t11
+    cast-t14
+    cast-t16
+    cast-t19
+    cast-t22
+    cast-t25
+    cast-t27
+    slice-aggregate-put-bytes
+    put-bytes-requires
+    add-result
+    same-length
+    returns)

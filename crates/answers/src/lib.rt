@@ -1,0 +1,230 @@
+// Writing the answer to a request straight into the caller's room.
+use message::Head;
+use message::Kind;
+use message::Span;
+ghost use mathlib.Core.Path.{_≡_};
+ghost use Prim.Native.Nat.{ℕ, _+_, _*_, _≤_, _<_};
+ghost use lib.ListN.{length};
+ghost use Rattle.octets.specs.Texts.{put};
+ghost use Rattle.octets.specs.Numbers.{in32};
+ghost use Rattle.message.specs.Codes.{plain};
+ghost use Rattle.message.specs.Kinds.{codeFrom};
+ghost use Rattle.message.specs.ReadingAMessage.{command, userName};
+ghost use Rattle.message.specs.Spans.{Holds, hasProxies};
+ghost use Rattle.message.specs.WritingTheAnswer.{avpBytes, sessionAvp, authAvps, is3xxx, resultAvp, subscriptionAvp, proxyAvps, answerFlags};
+ghost use Rattle.answers.specs.Answers.{headBytes, answerHead, Written, Answerable, Answered};
+
+// The first eight bytes of an AVP of ours, whose length is n.
+fn put_head(room: &mut [u8], at: usize, code: u32, n: usize)
+    requires { ⌜ at + 8 ≤ length (now room) ⌝ }
+    ensures { λ _. ⌜ now (room .exit) ≡ put (now (room .entry)) at (headBytes code n) ⌝ }
+{
+    let head = [
+        (code / 16777216 % 256) as u8,
+        (code / 65536 % 256) as u8,
+        (code / 256 % 256) as u8,
+        (code % 256) as u8,
+        64,
+        (n / 65536 % 256) as u8,
+        (n / 256 % 256) as u8,
+        (n % 256) as u8,
+    ];
+    octets::put_bytes(room, at, &head);
+}
+
+// An AVP of ours with a text, and the place behind it.
+fn put_avp(room: &mut [u8], at: usize, code: u32, value: &[u8]) -> usize
+    requires { ⌜ (length (now value) ≤ 4096) × (at + length (now value) + 12 ≤ length (now room)) ⌝ }
+    ensures { λ r. ⌜ Written (now (room .entry)) (now (room .exit)) at r (avpBytes code (now (value .entry))) ⌝ }
+{
+    let n = value.len();
+    let whole = (n + 3) / 4 * 4;
+    put_head(room, at, code, 8 + n);
+    octets::put_bytes(room, at + 8, value);
+    octets::put_zeros(room, at + 8 + n, whole - n);
+    at + 8 + whole
+}
+
+// An AVP of ours with a number, and the place behind it.
+fn put_number(room: &mut [u8], at: usize, code: u32, n: u32) -> usize
+    requires { ⌜ at + 12 ≤ length (now room) ⌝ }
+    ensures { λ r. ⌜ Written (now (room .entry)) (now (room .exit)) at r (avpBytes code (in32 n)) ⌝ }
+{
+    let bytes = [
+        (code / 16777216 % 256) as u8,
+        (code / 65536 % 256) as u8,
+        (code / 256 % 256) as u8,
+        (code % 256) as u8,
+        64,
+        0,
+        0,
+        12,
+        (n / 16777216 % 256) as u8,
+        (n / 65536 % 256) as u8,
+        (n / 256 % 256) as u8,
+        (n % 256) as u8,
+    ];
+    octets::put_bytes(room, at, &bytes);
+    at + 12
+}
+
+// Session-Id, from the first AVP alone, behind the header.
+fn put_session(m: &[u8], room: &mut [u8]) -> usize
+    requires { ⌜ (20 ≤ length (now m)) × (512 ≤ length (now room)) ⌝ }
+    ensures { λ r. ⌜ Written (now (room .entry)) (now (room .exit)) 20 r (sessionAvp (now (m .entry))) ⌝ }
+{
+    let h = message::head_at(m, 20);
+    let Head::One(a) = h else {
+        return 20;
+    };
+    if a.slot != 0 {
+        return 20;
+    }
+    let n = octets::read24(m, 25);
+    if n < 9 {
+        return 20;
+    }
+    if 136 < n {
+        return 20;
+    }
+    let e = 20 + n;
+    put_avp(room, 20, 263, &m[28..e])
+}
+
+// Auth-Application-Id and Auth-Request-Type of a 265, unless the code is 3xxx.
+fn put_auth(m: &[u8], code: u32, room: &mut [u8], at: usize) -> usize
+    requires { ⌜ (20 ≤ length (now m)) × (at + 24 ≤ length (now room)) ⌝ }
+    ensures { λ r. ⌜ Written (now (room .entry)) (now (room .exit)) at r (authAvps (now (m .entry)) (plain code)) ⌝ }
+{
+    if octets::read24(m, 5) != 265 {
+        return at;
+    }
+    if is_3xxx(code) {
+        return at;
+    }
+    let next = put_number(room, at, 258, 1);
+    put_number(room, next, 274, 2)
+}
+
+fn is_3xxx(code: u32) -> bool
+    ensures { λ r. ⌜ r ≡ is3xxx (plain code) ⌝ }
+{
+    if code < 3000 {
+        return false;
+    }
+    code <= 3999
+}
+
+// Result-Code, or Experimental-Result with its vendor and its number.
+fn put_result(kind: Kind, code: u32, room: &mut [u8], at: usize) -> usize
+    requires { ⌜ at + 32 ≤ length (now room) ⌝ }
+    ensures { λ r. ⌜ Written (now (room .entry)) (now (room .exit)) at r (resultAvp (codeFrom kind code)) ⌝ }
+{
+    match kind {
+        Kind::NoAnswer => at,
+        Kind::Plain => put_number(room, at, 268, code),
+        Kind::Experimental => {
+            put_head(room, at, 297, 32);
+            let next = put_number(room, at + 8, 266, 10415);
+            put_number(room, next, 298, code)
+        }
+    }
+}
+
+// Subscription-Id of a 265 that succeeds: type 1 and the name.
+fn put_subscription(m: &[u8], code: u32, user: Span, room: &mut [u8], at: usize) -> usize
+    requires { ⌜ (20 ≤ length (now m)) × (at + 168 ≤ length (now room)) × (command (now m) ≡ 265 → code ≡ 2001 → Holds (now m) userName user) × (command (now m) ≡ 265 → code ≡ 2001 → user .len ≤ 128) ⌝ }
+    ensures { λ r. ⌜ Written (now (room .entry)) (now (room .exit)) at r (subscriptionAvp (now (m .entry)) (plain code)) ⌝ }
+{
+    if octets::read24(m, 5) != 265 {
+        return at;
+    }
+    if code != 2001 {
+        return at;
+    }
+    let a = user.at;
+    let n = user.len;
+    let e = a + n;
+    let whole = (n + 3) / 4 * 4;
+    put_head(room, at, 443, 28 + whole);
+    let next = put_number(room, at + 8, 450, 1);
+    put_avp(room, next, 444, &m[a..e])
+}
+
+// Each Proxy-Info with its padding: a second walk, made only where there is one to copy.
+fn put_proxies(m: &[u8], proxies: bool, room: &mut [u8], at: usize) -> usize
+    requires { ⌜ (20 ≤ length (now m)) × (at + length (now m) ≤ length (now room)) × (proxies ≡ hasProxies (now m)) ⌝ }
+    ensures { λ r. ⌜ Written (now (room .entry)) (now (room .exit)) at r (proxyAvps (now (m .entry))) ⌝ }
+{
+    if !proxies {
+        return at;
+    }
+    let mut to = at;
+    let mut from: usize = 20;
+    while from < m.len() {
+        let h = message::head_at(m, from);
+        let Head::One(a) = h else {
+            return to;
+        };
+        let next = a.next;
+        if a.slot == 9 {
+            octets::put_bytes(room, to, &m[from..next]);
+            to = to + (next - from);
+        }
+        from = next;
+    }
+    to
+}
+
+// The flags: P as received, E for a 3xxx.
+fn answer_flags(m: &[u8], code: u32) -> u8
+    requires { ⌜ 20 ≤ length (now m) ⌝ }
+    ensures { λ r. ⌜ r ≡ answerFlags (now (m .entry)) (plain code) ⌝ }
+{
+    let p = m[4] / 64 % 2 * 64;
+    if is_3xxx(code) {
+        return p + 32;
+    }
+    p
+}
+
+// The header of an answer of n bytes.
+fn put_header(m: &[u8], code: u32, n: usize, room: &mut [u8])
+    requires { ⌜ (20 ≤ length (now m)) × (20 ≤ length (now room)) ⌝ }
+    ensures { λ _. ⌜ now (room .exit) ≡ put (now (room .entry)) 0 (answerHead (now (m .entry)) (plain code) n) ⌝ }
+{
+    let head = [
+        1,
+        (n / 65536 % 256) as u8,
+        (n / 256 % 256) as u8,
+        (n % 256) as u8,
+        answer_flags(m, code),
+    ];
+    octets::put_bytes(room, 0, &head);
+    octets::put_bytes(room, 5, &m[5..20]);
+}
+
+// The answer of a kind and a code at the start of the room: its length. What stands behind it stays.
+pub fn answer(
+    m: &[u8],
+    host: &[u8],
+    realm: &[u8],
+    kind: Kind,
+    code: u32,
+    user: Span,
+    proxies: bool,
+    room: &mut [u8],
+) -> usize
+    requires { ⌜ Answerable (now m) (now host) (now realm) code user proxies (now room) ⌝ }
+    ensures { λ r. ⌜ Answered (now (m .entry)) (now (host .entry)) (now (realm .entry)) (codeFrom kind code) r (now (room .entry)) (now (room .exit)) ⌝ }
+{
+    let a = put_session(m, room);
+    let b = put_auth(m, code, room, a);
+    let c = put_result(kind, code, room, b);
+    let d = put_avp(room, c, 264, host);
+    let e = put_avp(room, d, 296, realm);
+    let f = put_subscription(m, code, user, room, e);
+    let size = put_proxies(m, proxies, room, f);
+    put_header(m, code, size, room);
+    size
+}

@@ -1,0 +1,322 @@
+-- The walk that gathers: what the slots say so far, with the AVPs that are still ahead, is what the whole message says.
+use mathlib.Core.Path.{_≡_, refl, sym, ap, _∙_}
+use mathlib.Core.Bool.{Bool, true, false, _&&_}
+use mathlib.Core.List.{List, [], _∷_}
+use Prim.Native.Nat.{ℕ, zero, suc, _+_, _-_, _*_, _/_, _%_, _≤_, _<_}
+use native.Mathlib.Omega.{arith}
+use borrow.Author.Tests.{leb-true, eqb-true, eqb-false, eq-eqb, ne-eqb, le-leb, lt-leb}
+use lib.Dec.{eqb, leb, T}
+use lib.ListN.{length, getD, drop, set, length-drop, length-set, replicate, getD-replicate}
+use lib.Seq.{drop-drop, getD-set-same, getD-set-other}
+use Rattle.octets.specs.Choice.{pick, require, firstOf}
+use Rattle.octets.specs.Lists.{keep, every, counted}
+use Rattle.octets.specs.Texts.{zeros}
+use Rattle.octets.specs.Numbers.{net24, net32, up4}
+use Rattle.octets.proofs.Lists.{by-test, and-left, and-right, both}
+use Rattle.octets.proofs.Texts.{length-zeros}
+use Rattle.message.specs.ReadingAMessage.{Name, base, vendor, sameName, Avp, Walk, behind, walkOne, walk, avpLength, avpCode, avpOf, avps, walkCode, having}
+use Rattle.message.specs.declared.Spot.{Spot}
+use Rattle.message.specs.declared.Head.{Head}
+use Rattle.message.specs.declared.Head.the-variants.{One, Bad}
+use Rattle.message.specs.Positions.{names, slotIn, slotOf, nameAt, spotAt, headAt, Often, absent, once, twice, howOften, slotSays, Stands, Gathered}
+use Rattle.message.proofs.Walks.{Passed, passes, head-least, up4-least, walk-is}
+use Rattle.message.proofs.Heads.{head-one, head-bad}
+
+-- THE WALK, ONE AVP AT A TIME
+
+pub walk-end : (s : List ℕ) → length s ≡ 0 → walk s ≡ record { avps = []; code = 0 }
+unfolding walkOne pick
+walk-end s h = walk-is s ∙ rw (eq-eqb (length s) 0 h)
+
+pub walk-bad : (s : List ℕ) → 0 < length s → 0 < avpCode s → walk s ≡ record { avps = []; code = avpCode s }
+unfolding walkOne pick
+walk-bad s h k = walk-is s ∙ rw (ne-eqb (length s) 0 (λ z. omega arith), ne-eqb (avpCode s) 0 (λ z. omega arith))
+
+pub walk-one : (s : List ℕ) → avpCode s ≡ 0 → walk s ≡ behind (avpOf s) (walk (drop (up4 (avpLength s)) s))
+unfolding walkOne pick
+walk-one s h =
+    let e : 8 ≤ length s = (passes s h) .eight in
+    walk-is s ∙ rw (ne-eqb (length s) 0 (λ z. omega arith), eq-eqb (avpCode s) 0 h)
+
+-- HEADS
+
+-- what a head says, as facts about the bytes
+pub head-is-one : (m : List ℕ) (at : ℕ) (a : Spot) → headAt m at ≡ One a → (avpCode (drop at m) ≡ 0) × (a ≡ spotAt m at)
+unfolding headAt pick
+head-is-one m at a e =
+    by-test (eqb (avpCode (drop at m)) 0)
+    (λ t. (eqb-true (avpCode (drop at m)) 0 t, let f = rw t at e in cc))
+    (λ t. let f = rw t at e in let z : _≡_ {A = ℕ} 0 1 = cc in absurd (omega arith))
+
+pub head-is-bad : (m : List ℕ) (at c : ℕ) → headAt m at ≡ Bad c → (avpCode (drop at m) ≡ c) × (0 < c)
+unfolding headAt pick
+head-is-bad m at c e =
+    by-test (eqb (avpCode (drop at m)) 0)
+    (λ t. let f = rw t at e in let z : _≡_ {A = ℕ} 0 1 = cc in absurd (omega arith))
+    (λ t. let f = rw t at e in let g : avpCode (drop at m) ≡ c = cc in (g, pos c (λ z. eqb-false (avpCode (drop at m)) 0 t (g ∙ z))))
+  where
+    pos : (n : ℕ) → (n ≡ 0 → ⊥) → 0 < n
+    pos zero h = absurd (h refl)
+    pos (suc n) h = omega arith
+
+-- the next place is further on, and inside
+pub next-on : (m : List ℕ) (at : ℕ) → at ≤ length m → avpCode (drop at m) ≡ 0 → (at + 8 ≤ at + up4 (avpLength (drop at m))) × (at + up4 (avpLength (drop at m)) ≤ length m)
+next-on m at h e =
+    let p : Passed (drop at m) = passes (drop at m) e in
+    let w : up4 (avpLength (drop at m)) ≤ length m - at = rw length-drop at (p .whole) in
+    (omega (arith, p .head, head-least (drop at m), up4-least (avpLength (drop at m))), omega arith)
+
+pub next-place : (m : List ℕ) (at : ℕ) (a : Spot) → at ≤ length m → headAt m at ≡ One a → (at + 8 ≤ a .next) × (a .next ≤ length m)
+unfolding spotAt
+next-place m at a h e =
+    let o = head-is-one m at a e in
+    rw (o .1) (next-on m at h (o .0))
+
+-- NAMES AND SLOTS
+
+pub same-name-refl : (n : Name) → sameName n n ≡ true
+unfolding sameName
+same-name-refl (base c) = eq-eqb c c refl
+same-name-refl (vendor v c) = both (eq-eqb v v refl) (eq-eqb c c refl)
+
+pub same-name-eq : (n p : Name) → sameName n p ≡ true → n ≡ p
+unfolding sameName
+same-name-eq (base c) (base d) e = ap base (eqb-true c d e)
+same-name-eq (base c) (vendor w d) e = cc
+same-name-eq (vendor v c) (base d) e = cc
+same-name-eq (vendor v c) (vendor w d) e =
+    let p : v ≡ w = eqb-true v w (and-left (eqb v w) (eqb c d) e) in
+    let q : c ≡ d = eqb-true c d (and-right (eqb v w) (eqb c d) e) in
+    cc
+
+slot-same : (xs : List Name) (n d : Name) → slotIn xs n < length xs → sameName (getD xs (slotIn xs n) d) n ≡ true
+unfolding slotIn pick
+slot-same [] n d h = absurd (omega arith)
+slot-same (x ∷ xs) n d h =
+    by-test (sameName x n)
+    (λ t. rw t t)
+    (λ t. let g = rw t at h in rw t (slot-same xs n d (omega arith)))
+
+slot-most : (xs : List Name) (n : Name) → slotIn xs n ≤ length xs
+unfolding slotIn pick
+slot-most [] n = omega arith
+slot-most (x ∷ xs) n = let r = slot-most xs n in by-test (sameName x n) (λ t. rw t (omega arith)) (λ t. rw t (omega arith))
+
+-- the slot of each name is its place
+ownSlot : ℕ → Bool
+ownSlot k = eqb (slotOf (nameAt k)) k
+
+pub counted-every : (f : ℕ → Bool) (a n : ℕ) → every f (counted a n) ≡ true → (k : ℕ) → k < n → f (a + k) ≡ true
+unfolding every counted
+counted-every f a zero h k l = absurd (omega arith)
+counted-every f a (suc n) h zero l = let z : a + zero ≡ a = omega arith in rw z (and-left (f a) (every f (counted (suc a) n)) h)
+counted-every f a (suc n) h (suc k) l =
+    let z : a + suc k ≡ suc a + k = omega arith in
+    rw z (counted-every f (suc a) n (and-right (f a) (every f (counted (suc a) n)) h) k (omega arith))
+
+own-slots : every ownSlot (counted 0 14) ≡ true
+unfolding every counted ownSlot slotOf nameAt names slotIn sameName pick
+own-slots = refl
+
+pub own-slot : (k : ℕ) → k < 14 → slotOf (nameAt k) ≡ k
+unfolding ownSlot
+own-slot k h = let z : 0 + k ≡ k = omega arith in eqb-true (slotOf (nameAt k)) k (rw z at (counted-every ownSlot 0 14 own-slots k h))
+
+pub slot-named : (n : Name) → slotOf n < 14 → sameName (nameAt (slotOf n)) n ≡ true
+unfolding slotOf nameAt names
+slot-named n h = slot-same names n (base 263) h
+
+pub slot-other : (n : Name) (k : ℕ) → k < 14 → (k ≡ slotOf n → ⊥) → sameName (nameAt k) n ≡ false
+slot-other n k h d =
+    by-test (sameName (nameAt k) n)
+    (λ t. absurd (d (sym (own-slot k h) ∙ ap slotOf (same-name-eq (nameAt k) n t))))
+    (λ t. t)
+
+-- HOW OFTEN
+
+-- what was seen, and what is ahead
+unfoldable pub andThen : Often → List Avp → Often
+andThen absent xs = howOften xs
+andThen (once a) [] = once a
+andThen (once a) (x ∷ xs) = twice
+andThen twice xs = twice
+
+then-nothing : (o : Often) → andThen o [] ≡ o
+unfolding andThen howOften
+then-nothing absent = refl
+then-nothing (once a) = refl
+then-nothing twice = refl
+
+then-one : (a : Avp) (xs : List Avp) → andThen absent (a ∷ xs) ≡ andThen (once a) xs
+unfolding andThen howOften
+then-one a [] = refl
+then-one a (x ∷ xs) = refl
+
+then-more : (o : Often) (a : Avp) (xs : List Avp) → (o ≡ absent → ⊥) → andThen o (a ∷ xs) ≡ andThen twice xs
+unfolding andThen
+then-more absent a xs h = absurd (h refl)
+then-more (once b) a xs h = refl
+then-more twice a xs h = refl
+
+pub says-absent : (m : List ℕ) → slotSays m 0 ≡ absent
+unfolding slotSays pick
+says-absent m = refl
+
+pub says-twice : (m : List ℕ) → slotSays m 1 ≡ twice
+unfolding slotSays pick
+says-twice m = refl
+
+pub says-once : (m : List ℕ) (v : ℕ) → 2 ≤ v → slotSays m v ≡ once (avpOf (drop v m))
+unfolding slotSays pick
+says-once m v h = rw (ne-eqb v 0 (λ z. omega arith), ne-eqb v 1 (λ z. omega arith))
+
+says-there : (m : List ℕ) (v : ℕ) → (v ≡ 0 → ⊥) → slotSays m v ≡ absent → ⊥
+unfolding slotSays pick
+says-there m v h e =
+    let f = rw (ne-eqb v 0 h) at e in
+    by-test (eqb v 1)
+    (λ t. let g = rw t at f in let z : _≡_ {A = ℕ} 0 1 = cc in omega arith)
+    (λ t. let g = rw t at f in let z : _≡_ {A = ℕ} 0 1 = cc in omega arith)
+
+pub having-is : (n : Name) (a : Avp) (xs : List Avp) → sameName n (a .name) ≡ true → having n (a ∷ xs) ≡ a ∷ having n xs
+unfolding having keep pick
+having-is n a xs e = rw e
+
+pub having-not : (n : Name) (a : Avp) (xs : List Avp) → sameName n (a .name) ≡ false → having n (a ∷ xs) ≡ having n xs
+unfolding having keep pick
+having-not n a xs e = rw e
+
+having-none : (n : Name) → having n [] ≡ []
+unfolding having keep
+having-none n = refl
+
+-- THE INVARIANT
+
+-- the AVPs from a place on
+abbrev pub ahead : List ℕ → ℕ → Walk
+ahead m at = walk (drop at m)
+
+pub record Walked (m index : List ℕ) (at : ℕ) : Type 0 where
+  pub from : 20 ≤ at
+  pub inside : at ≤ length m
+  pub size : length index ≡ 14
+  pub code : (ahead m at) .code ≡ walkCode m
+  pub says : (k : ℕ) → k < 14 → andThen (slotSays m (getD index k 0)) (having (nameAt k) ((ahead m at) .avps)) ≡ howOften (having (nameAt k) (avps m))
+  pub there : (k : ℕ) → k < 14 → 2 ≤ getD index k 0 → Stands m (getD index k 0)
+
+pub started : (m index : List ℕ) → 20 ≤ length m → index ≡ zeros 14 → Walked m index 20
+unfolding zeros avps walkCode andThen
+started m index h e =
+    let at : (k : ℕ) → k < 14 → getD index k 0 ≡ 0 = λ k l. rw e (getD-replicate 14 k 0 0 l) in
+    record {
+      from = omega arith;
+      inside = h;
+      size = rw e (length-zeros 14);
+      code = refl;
+      says = λ k l. rw (at k l, says-absent m);
+      there = λ k l t. absurd (omega (arith, at k l));
+    }
+
+ended : (m index : List ℕ) (at : ℕ) → Walked m index at → (ahead m at) .avps ≡ [] → Gathered m index
+ended m index at w e =
+    record {
+      size = w .size;
+      says = λ k l. sym (then-nothing (slotSays m (getD index k 0))) ∙ sym (ap (andThen (slotSays m (getD index k 0))) (ap (having (nameAt k)) e ∙ having-none (nameAt k))) ∙ w .says k l;
+      there = w .there;
+    }
+
+pub at-end : (m index : List ℕ) (at : ℕ) → Walked m index at → length m ≤ at → (0 ≡ walkCode m) × Gathered m index
+at-end m index at w h =
+    let e : ahead m at ≡ record { avps = []; code = 0 } = walk-end (drop at m) (rw length-drop (omega arith)) in
+    (sym (ap (λ (x : Walk). x .code) e) ∙ w .code, ended m index at w (ap (λ (x : Walk). x .avps) e))
+
+pub at-bad : (m index : List ℕ) (at c : ℕ) → Walked m index at → at < length m → headAt m at ≡ Bad c → (c ≡ walkCode m) × Gathered m index
+at-bad m index at c w h b =
+    let f = head-is-bad m at c b in
+    let e : ahead m at ≡ record { avps = []; code = avpCode (drop at m) } = walk-bad (drop at m) (rw length-drop (omega arith)) (omega (arith, f .0, f .1)) in
+    (sym (f .0) ∙ sym (ap (λ (x : Walk). x .code) e) ∙ w .code, ended m index at w (ap (λ (x : Walk). x .avps) e))
+
+-- one AVP is behind: what is ahead of it
+module _ (m index : List ℕ) (at : ℕ) (a : Spot) (w : Walked m index at) (o : headAt m at ≡ One a) where
+  ahead-is : ahead m at ≡ behind (avpOf (drop at m)) (ahead m (a .next))
+  unfolding spotAt
+  ahead-is =
+      let p = head-is-one m at a o in
+      walk-one (drop at m) (p .0) ∙ rw (p .1, drop-drop (up4 (avpLength (drop at m))) at m)
+
+  ahead-avps : (ahead m at) .avps ≡ avpOf (drop at m) ∷ (ahead m (a .next)) .avps
+  unfolding behind
+  ahead-avps = rw ahead-is
+
+  ahead-code : (ahead m at) .code ≡ (ahead m (a .next)) .code
+  unfolding behind
+  ahead-code = rw ahead-is
+
+  slot-is : a .slot ≡ slotOf ((avpOf (drop at m)) .name)
+  unfolding spotAt
+  slot-is = ap (λ (x : Spot). x .slot) ((head-is-one m at a o) .1)
+
+  here : Stands m at
+  here = record { behind = w .from; inside = w .inside; passes = (head-is-one m at a o) .0 }
+
+  -- a slot whose name is another's
+  passed-by : (k : ℕ) → k < 14 → (k ≡ a .slot → ⊥) → having (nameAt k) ((ahead m at) .avps) ≡ having (nameAt k) ((ahead m (a .next)) .avps)
+  passed-by k l d =
+      ap (having (nameAt k)) ahead-avps
+      ∙ having-not (nameAt k) (avpOf (drop at m)) ((ahead m (a .next)) .avps) (slot-other ((avpOf (drop at m)) .name) k l (λ z. d (z ∙ sym slot-is)))
+
+  pub stepped-over : 14 ≤ a .slot → Walked m index (a .next)
+  stepped-over s =
+      let n = next-place m at a (w .inside) o in
+      record {
+        from = omega (arith, n .0, w .from);
+        inside = n .1;
+        size = w .size;
+        code = sym ahead-code ∙ w .code;
+        says = λ k l. ap (andThen (slotSays m (getD index k 0))) (sym (passed-by k l (λ z. omega arith))) ∙ w .says k l;
+        there = w .there;
+      }
+
+  module _ (s : a .slot < 14) where
+    named : having (nameAt (a .slot)) ((ahead m at) .avps) ≡ avpOf (drop at m) ∷ having (nameAt (a .slot)) ((ahead m (a .next)) .avps)
+    named =
+        let t : sameName (nameAt (a .slot)) ((avpOf (drop at m)) .name) ≡ true =
+        rw slot-is (slot-named ((avpOf (drop at m)) .name) (omega (arith, slot-is))) in
+        ap (having (nameAt (a .slot))) ahead-avps ∙ having-is (nameAt (a .slot)) (avpOf (drop at m)) ((ahead m (a .next)) .avps) t
+
+    -- any number in the slot that says what the AVP adds
+    noted : (v : ℕ)
+        → andThen (slotSays m v) (having (nameAt (a .slot)) ((ahead m (a .next)) .avps))
+        ≡ andThen (slotSays m (getD index (a .slot) 0)) (having (nameAt (a .slot)) ((ahead m at) .avps))
+        → (2 ≤ v → Stands m v) → Walked m (set index (a .slot) v) (a .next)
+    noted v e st =
+        let n = next-place m at a (w .inside) o in
+        let own : getD (set index (a .slot) v) (a .slot) 0 ≡ v = getD-set-same index (a .slot) v 0 (omega (arith, w .size)) in
+        record {
+          from = omega (arith, n .0, w .from);
+          inside = n .1;
+          size = length-set index (a .slot) v ∙ w .size;
+          code = sym ahead-code ∙ w .code;
+          says = λ k l.
+              by-test (eqb k (a .slot))
+              (λ t. let q : k ≡ a .slot = eqb-true k (a .slot) t in rw (q, own) (e ∙ w .says (a .slot) s))
+              (λ t.
+              let d = eqb-false k (a .slot) t in
+              rw (getD-set-other index (a .slot) k v 0 d) (ap (andThen (slotSays m (getD index k 0))) (sym (passed-by k l d)) ∙ w .says k l));
+          there = λ k l.
+              by-test (eqb k (a .slot))
+              (λ t. let q : k ≡ a .slot = eqb-true k (a .slot) t in rw (q, own) st)
+              (λ t. rw (getD-set-other index (a .slot) k v 0 (eqb-false k (a .slot) t)) (w .there k l));
+        }
+
+    pub noted-first : getD index (a .slot) 0 ≡ 0 → Walked m (set index (a .slot) at) (a .next)
+    noted-first z =
+        noted at
+        (rw (z, says-absent m, says-once m at (omega (arith, w .from)), named) (sym (then-one (avpOf (drop at m)) (having (nameAt (a .slot)) ((ahead m (a .next)) .avps)))))
+        (λ t. here)
+
+    pub noted-again : (getD index (a .slot) 0 ≡ 0 → ⊥) → Walked m (set index (a .slot) 1) (a .next)
+    noted-again z =
+        noted 1
+        (rw (says-twice m, named) (sym (then-more (slotSays m (getD index (a .slot) 0)) (avpOf (drop at m)) (having (nameAt (a .slot)) ((ahead m (a .next)) .avps)) (says-there m (getD index (a .slot) 0) z))))
+        (λ t. absurd (omega arith))

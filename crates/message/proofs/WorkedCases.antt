@@ -1,0 +1,98 @@
+-- Messages and answers worked by hand, each held by computing it.
+use mathlib.Core.Path.{_≡_, refl}
+use mathlib.Core.Bool.{Bool, true, false, _&&_, _||_, not}
+use mathlib.Core.List.{List, [], _∷_, _++_, map}
+use Prim.Native.Nat.{ℕ, zero, suc, _+_, _-_, _*_, _/_, _%_}
+use Rattle.octets.specs.Choice.{pick, require, firstOf, within}
+use Rattle.octets.specs.Lists.{keep}
+use Rattle.octets.specs.Numbers.{net24, net32, in24, in32, up4}
+use Rattle.octets.specs.Texts.{zeros, same}
+use Rattle.message.specs.Codes.{plain, experimental, numberOf}
+use Rattle.message.specs.CallsThatGetNoAnswer.{messageNumber}
+use Rattle.message.specs.ReadingAMessage.{headerCode, sameName, headLength, avpCode, avpOf, behind, walkOne, walkUpTo, walk, avps, walkCode, having, firstValue, valueOf, present, anything, numberIn, textField, labelField, numberField, testedAs, fieldCode, startsWith, forBoth, for265, for275, fields, listCode, readingCode, tunnel, policy, termination, askOf, requestOf, refused, request, read}
+use Rattle.message.specs.WritingTheAnswer.{avpBytes, sessionAvp, is3xxx, authAvps, resultAvp, subscriptionAvp, allBytes, proxyAvps, answerBody, answerFlags, answer, answerRoom}
+use Rattle.message.specs.WorkedCases.{case9, case10, name, board, session, gateway, ownHost, ownRealm, vendorBytes, requestBytes, bothAvps, aaRequest, openAt, openVisited, routeBy, endAt}
+
+-- the paper's cases 9 and 10
+pub case9-holds : case9 ≡ true
+unfolding pick require firstOf within keep net24 net32 in24 in32 up4 zeros same numberOf headerCode sameName headLength avpCode avpOf behind walkOne walkUpTo walk avps walkCode having firstValue valueOf present anything numberIn textField labelField numberField testedAs fieldCode startsWith forBoth for265 for275 fields listCode readingCode askOf requestOf read messageNumber case9 case10 name board session gateway ownHost ownRealm vendorBytes requestBytes bothAvps aaRequest openAt openVisited routeBy endAt avpBytes sessionAvp is3xxx authAvps resultAvp subscriptionAvp allBytes proxyAvps answerBody answerFlags answer answerRoom
+case9-holds = refl
+
+pub case10-holds : case10 ≡ true
+unfolding pick require firstOf within keep net24 net32 in24 in32 up4 zeros same numberOf headerCode sameName headLength avpCode avpOf behind walkOne walkUpTo walk avps walkCode having firstValue valueOf present anything numberIn textField labelField numberField testedAs fieldCode startsWith forBoth for265 for275 fields listCode readingCode askOf requestOf read messageNumber case9 case10 name board session gateway ownHost ownRealm vendorBytes requestBytes bothAvps aaRequest openAt openVisited routeBy endAt avpBytes sessionAvp is3xxx authAvps resultAvp subscriptionAvp allBytes proxyAvps answerBody answerFlags answer answerRoom
+case10-holds = refl
+
+-- REQUESTS
+
+pub tunnel-read : read (openAt (session 97) board) ≡ request (record { user = name; ask = tunnel (session 97) gateway board false })
+unfolding pick require firstOf within keep net24 net32 in24 in32 up4 zeros same numberOf headerCode sameName headLength avpCode avpOf behind walkOne walkUpTo walk avps walkCode having firstValue valueOf present anything numberIn textField labelField numberField testedAs fieldCode startsWith forBoth for265 for275 fields listCode readingCode askOf requestOf read messageNumber case9 case10 name board session gateway ownHost ownRealm vendorBytes requestBytes bothAvps aaRequest openAt openVisited routeBy endAt avpBytes sessionAvp is3xxx authAvps resultAvp subscriptionAvp allBytes proxyAvps answerBody answerFlags answer answerRoom
+tunnel-read = refl
+
+pub visited-read : read (openVisited (session 97) board) ≡ request (record { user = name; ask = tunnel (session 97) gateway board true })
+unfolding pick require firstOf within keep net24 net32 in24 in32 up4 zeros same numberOf headerCode sameName headLength avpCode avpOf behind walkOne walkUpTo walk avps walkCode having firstValue valueOf present anything numberIn textField labelField numberField testedAs fieldCode startsWith forBoth for265 for275 fields listCode readingCode askOf requestOf read messageNumber case9 case10 name board session gateway ownHost ownRealm vendorBytes requestBytes bothAvps aaRequest openAt openVisited routeBy endAt avpBytes sessionAvp is3xxx authAvps resultAvp subscriptionAvp allBytes proxyAvps answerBody answerFlags answer answerRoom
+visited-read = refl
+
+pub policy-read : read (routeBy (session 97) board) ≡ request (record { user = name; ask = policy (session 97) board })
+unfolding pick require firstOf within keep net24 net32 in24 in32 up4 zeros same numberOf headerCode sameName headLength avpCode avpOf behind walkOne walkUpTo walk avps walkCode having firstValue valueOf present anything numberIn textField labelField numberField testedAs fieldCode startsWith forBoth for265 for275 fields listCode readingCode askOf requestOf read messageNumber case9 case10 name board session gateway ownHost ownRealm vendorBytes requestBytes bothAvps aaRequest openAt openVisited routeBy endAt avpBytes sessionAvp is3xxx authAvps resultAvp subscriptionAvp allBytes proxyAvps answerBody answerFlags answer answerRoom
+policy-read = refl
+
+pub termination-read : read (endAt (session 97) board) ≡ request (record { user = name; ask = termination (session 97) board })
+unfolding pick require firstOf within keep net24 net32 in24 in32 up4 zeros same numberOf headerCode sameName headLength avpCode avpOf behind walkOne walkUpTo walk avps walkCode having firstValue valueOf present anything numberIn textField labelField numberField testedAs fieldCode startsWith forBoth for265 for275 fields listCode readingCode askOf requestOf read messageNumber case9 case10 name board session gateway ownHost ownRealm vendorBytes requestBytes bothAvps aaRequest openAt openVisited routeBy endAt avpBytes sessionAvp is3xxx authAvps resultAvp subscriptionAvp allBytes proxyAvps answerBody answerFlags answer answerRoom
+termination-read = refl
+
+-- AVPs that no list names: 600 without V, 100 of another vendor, 263 with V at vendor 0, and one of an odd length whose padding is not zero
+unfoldable pub strangers : List ℕ
+strangers =
+    avpBytes 600 ownRealm
+    ++ (vendorBytes 9 100 gateway ++ (vendorBytes 0 263 gateway ++ (0x00 ∷ 0x00 ∷ 0x03 ∷ 0xE7 ∷ 0x00 ∷ 0x00 ∷ 0x00 ∷ 0x09 ∷ 0x41 ∷ 0x01 ∷ 0x02 ∷ 0x03 ∷ [])))
+
+unfoldable pub amongStrangers : List ℕ
+amongStrangers = aaRequest name (session 97) 0 (strangers ++ vendorBytes 10415 100 board)
+
+pub strangers-read : read amongStrangers ≡ request (record { user = name; ask = tunnel (session 97) gateway board false })
+unfolding pick require firstOf within keep net24 net32 in24 in32 up4 zeros same numberOf headerCode sameName headLength avpCode avpOf behind walkOne walkUpTo walk avps walkCode having firstValue valueOf present anything numberIn textField labelField numberField testedAs fieldCode startsWith forBoth for265 for275 fields listCode readingCode askOf requestOf read messageNumber case9 case10 name board session gateway ownHost ownRealm vendorBytes requestBytes bothAvps aaRequest openAt openVisited routeBy endAt avpBytes sessionAvp is3xxx authAvps resultAvp subscriptionAvp allBytes proxyAvps answerBody answerFlags answer answerRoom strangers amongStrangers
+strangers-read = refl
+
+-- a W-APN without its vendor is none; one that stands twice; a bare header; a message that is an answer
+pub vendor-missed : read (aaRequest name (session 97) 0 (avpBytes 100 board)) ≡ refused 5005
+unfolding pick require firstOf within keep net24 net32 in24 in32 up4 zeros same numberOf headerCode sameName headLength avpCode avpOf behind walkOne walkUpTo walk avps walkCode having firstValue valueOf present anything numberIn textField labelField numberField testedAs fieldCode startsWith forBoth for265 for275 fields listCode readingCode askOf requestOf read messageNumber case9 case10 name board session gateway ownHost ownRealm vendorBytes requestBytes bothAvps aaRequest openAt openVisited routeBy endAt avpBytes sessionAvp is3xxx authAvps resultAvp subscriptionAvp allBytes proxyAvps answerBody answerFlags answer answerRoom
+vendor-missed = refl
+
+pub twice-seen : read (aaRequest name (session 97) 0 (vendorBytes 10415 100 board ++ vendorBytes 10415 100 board)) ≡ refused 5009
+unfolding pick require firstOf within keep net24 net32 in24 in32 up4 zeros same numberOf headerCode sameName headLength avpCode avpOf behind walkOne walkUpTo walk avps walkCode having firstValue valueOf present anything numberIn textField labelField numberField testedAs fieldCode startsWith forBoth for265 for275 fields listCode readingCode askOf requestOf read messageNumber case9 case10 name board session gateway ownHost ownRealm vendorBytes requestBytes bothAvps aaRequest openAt openVisited routeBy endAt avpBytes sessionAvp is3xxx authAvps resultAvp subscriptionAvp allBytes proxyAvps answerBody answerFlags answer answerRoom
+twice-seen = refl
+
+pub bare-read : read (requestBytes 265 []) ≡ refused 5005
+unfolding pick require firstOf within keep net24 net32 in24 in32 up4 zeros same numberOf headerCode sameName headLength avpCode avpOf behind walkOne walkUpTo walk avps walkCode having firstValue valueOf present anything numberIn textField labelField numberField testedAs fieldCode startsWith forBoth for265 for275 fields listCode readingCode askOf requestOf read messageNumber case9 case10 name board session gateway ownHost ownRealm vendorBytes requestBytes bothAvps aaRequest openAt openVisited routeBy endAt avpBytes sessionAvp is3xxx authAvps resultAvp subscriptionAvp allBytes proxyAvps answerBody answerFlags answer answerRoom
+bare-read = refl
+
+-- ANSWERS
+
+-- success, with a Session-Id of three bytes and its padding, byte by byte
+unfoldable pub granted : List ℕ
+granted =
+    0x01 ∷ 0x00 ∷ 0x00 ∷ 0x88 ∷ 0x40 ∷ 0x00 ∷ 0x01 ∷ 0x09 ∷ 0x00 ∷ 0x00 ∷ 0x00 ∷ 0x01
+    ∷ 0x00 ∷ 0x00 ∷ 0x00 ∷ 0x07 ∷ 0x00 ∷ 0x00 ∷ 0x00 ∷ 0x09 ∷ 0x00 ∷ 0x00 ∷ 0x01 ∷ 0x07
+    ∷ 0x40 ∷ 0x00 ∷ 0x00 ∷ 0x0B ∷ 0x73 ∷ 0x3B ∷ 0x61 ∷ 0x00 ∷ 0x00 ∷ 0x00 ∷ 0x01 ∷ 0x02
+    ∷ 0x40 ∷ 0x00 ∷ 0x00 ∷ 0x0C ∷ 0x00 ∷ 0x00 ∷ 0x00 ∷ 0x01 ∷ 0x00 ∷ 0x00 ∷ 0x01 ∷ 0x12
+    ∷ 0x40 ∷ 0x00 ∷ 0x00 ∷ 0x0C ∷ 0x00 ∷ 0x00 ∷ 0x00 ∷ 0x02 ∷ 0x00 ∷ 0x00 ∷ 0x01 ∷ 0x0C
+    ∷ 0x40 ∷ 0x00 ∷ 0x00 ∷ 0x0C ∷ 0x00 ∷ 0x00 ∷ 0x07 ∷ 0xD1 ∷ 0x00 ∷ 0x00 ∷ 0x01 ∷ 0x08
+    ∷ 0x40 ∷ 0x00 ∷ 0x00 ∷ 0x0B ∷ 0x61 ∷ 0x61 ∷ 0x61 ∷ 0x00 ∷ 0x00 ∷ 0x00 ∷ 0x01 ∷ 0x28
+    ∷ 0x40 ∷ 0x00 ∷ 0x00 ∷ 0x09 ∷ 0x72 ∷ 0x00 ∷ 0x00 ∷ 0x00 ∷ 0x00 ∷ 0x00 ∷ 0x01 ∷ 0xBB
+    ∷ 0x40 ∷ 0x00 ∷ 0x00 ∷ 0x2C ∷ 0x00 ∷ 0x00 ∷ 0x01 ∷ 0xC2 ∷ 0x40 ∷ 0x00 ∷ 0x00 ∷ 0x0C
+    ∷ 0x00 ∷ 0x00 ∷ 0x00 ∷ 0x01 ∷ 0x00 ∷ 0x00 ∷ 0x01 ∷ 0xBC ∷ 0x40 ∷ 0x00 ∷ 0x00 ∷ 0x17
+    ∷ 0x30 ∷ 0x30 ∷ 0x31 ∷ 0x30 ∷ 0x31 ∷ 0x30 ∷ 0x31 ∷ 0x32 ∷ 0x33 ∷ 0x34 ∷ 0x35 ∷ 0x36
+    ∷ 0x37 ∷ 0x38 ∷ 0x39 ∷ 0x00
+    ∷ []
+
+pub granted-written : answer (openAt (session 97) board) ownHost ownRealm (plain 2001) ≡ granted
+unfolding pick require firstOf within keep net24 net32 in24 in32 up4 zeros same numberOf headerCode sameName headLength avpCode avpOf behind walkOne walkUpTo walk avps walkCode having firstValue valueOf present anything numberIn textField labelField numberField testedAs fieldCode startsWith forBoth for265 for275 fields listCode readingCode askOf requestOf read messageNumber case9 case10 name board session gateway ownHost ownRealm vendorBytes requestBytes bothAvps aaRequest openAt openVisited routeBy endAt avpBytes sessionAvp is3xxx authAvps resultAvp subscriptionAvp allBytes proxyAvps answerBody answerFlags answer answerRoom granted
+granted-written = refl
+
+-- a Proxy-Info is copied with its own flags and padding
+unfoldable pub proxied : List ℕ
+proxied = 0x00 ∷ 0x00 ∷ 0x01 ∷ 0x1C ∷ 0x00 ∷ 0x00 ∷ 0x00 ∷ 0x09 ∷ 0x41 ∷ 0x01 ∷ 0x02 ∷ 0x03 ∷ []
+
+pub proxies-copied : proxyAvps (aaRequest name (session 97) 0 (proxied ++ (strangers ++ proxied))) ≡ proxied ++ proxied
+unfolding pick require firstOf within keep net24 net32 in24 in32 up4 zeros same numberOf headerCode sameName headLength avpCode avpOf behind walkOne walkUpTo walk avps walkCode having firstValue valueOf present anything numberIn textField labelField numberField testedAs fieldCode startsWith forBoth for265 for275 fields listCode readingCode askOf requestOf read messageNumber case9 case10 name board session gateway ownHost ownRealm vendorBytes requestBytes bothAvps aaRequest openAt openVisited routeBy endAt avpBytes sessionAvp is3xxx authAvps resultAvp subscriptionAvp allBytes proxyAvps answerBody answerFlags answer answerRoom strangers proxied
+proxies-copied = refl

@@ -1,0 +1,154 @@
+-- Both loops keep `Walked`: the slots so far with the AVPs ahead say what the whole message says. Each step is a law of Gathering.
+use mathlib.Core.Path.{_≡_, sym, ap, _∙_}
+use Prim.Native.Nat.{_-_, _≤_}
+use native.Mathlib.Omega.{arith}
+use lib.ListN.{length}
+use borrow.Author.Needs.{needs}
+use Rattle.message.specs.Positions.{headAt}
+use Rattle.octets.proofs.Texts.{length-zeros}
+use Rattle.message.specs.declared.Head.the-variants.{One}
+use Rattle.message.proofs.Gathering.{Walked, started, at-end, at-bad, stepped-over, noted-first, noted-again, next-place}
+use Rattle.message.proofs.gather.Statement.{statement}
+use Rattle.message.proofs.gather.Tie as tie
+
+abbrev Inv-loop : tie.InvT-loop
+Inv-loop m index at₀ at = (at₀ ≤ at) × Walked m index at
+
+abbrev μ-loop : tie.MeasureT-loop
+μ-loop m index at₀ at = length m - at
+
+abbrev Inv-walk : tie.InvT-walk
+Inv-walk m index₀ at₀ index at = Walked m index at
+
+abbrev μ-walk : tie.MeasureT-walk
+μ-walk m index₀ at₀ index at = length m - at
+
+walk-holds : tie.Need-walk-holds Inv-loop μ-loop Inv-walk μ-walk
+walk-holds c =
+    let s = c .before .before in
+    started (s .args .m .now) (s .args .index .now) (s .pre .0) (s .pre .1)
+
+loop-holds : tie.Need-loop-holds Inv-loop μ-loop Inv-walk μ-walk
+loop-holds c = (omega arith, c .walk .inv)
+
+head-at-requires : tie.Need-head-at-requires Inv-loop μ-loop Inv-walk μ-walk
+head-at-requires c κs = c .before .loop .inv .1 .inside
+
+enum-known-h : tie.Need-enum-known-h Inv-loop μ-loop Inv-walk μ-walk
+enum-known-h c = search needs
+
+enum-known-h-2 : tie.Need-enum-known-h-2 Inv-loop μ-loop Inv-walk μ-walk
+enum-known-h-2 c = search needs
+
+loop-less : tie.Need-loop-less Inv-loop μ-loop Inv-walk μ-walk
+loop-less c =
+    let l = c .before .before .before .before .before .before .before in
+    let m = l .before .before .before .before .args .m .now in
+    let n = next-place m (l .loop .at) (c .before .before .before .h2 .given .0 .0) (l .loop .inv .1 .inside) (sym (c .before .before .before .before .before .head-at .ensures) ∙ c .before .before .before .h2 .given .1) in
+    omega (arith, n .0, n .1)
+
+loop-again : tie.Need-loop-again Inv-loop μ-loop Inv-walk μ-walk
+loop-again c =
+    let l = c .before .before .before .before .before .before .before in
+    let m = l .before .before .before .before .args .m .now in
+    let a = c .before .before .before .h2 .given .0 .0 in
+    let o : headAt m (l .loop .at) ≡ One a = sym (c .before .before .before .before .before .head-at .ensures) ∙ c .before .before .before .h2 .given .1 in
+    let n = next-place m (l .loop .at) a (l .loop .inv .1 .inside) o in
+    (omega (arith, n .0, l .loop .inv .0), stepped-over m (l .before .walk .index) (l .loop .at) a (l .loop .inv .1) o (c .if2 .left))
+
+mul-if3 : tie.Need-mul-if3 Inv-loop μ-loop Inv-walk μ-walk
+mul-if3 c = omega (arith, c .before .before .before .before .before .before .before .loop .inv .1 .size, c .if2 .taken)
+
+slice-read-if3 : tie.Need-slice-read-if3 Inv-loop μ-loop Inv-walk μ-walk
+slice-read-if3 c =
+    omega (arith, c .before .before .before .before .before .before .before .before .loop .inv .1 .size, c .before .if2 .taken)
+
+mul-index : tie.Need-mul-index Inv-loop μ-loop Inv-walk μ-walk
+mul-index c =
+    omega (arith, c .before .before .before .before .before .before .before .before .before .loop .inv .1 .size, c .before .before .if2 .taken)
+
+slice-write-index : tie.Need-slice-write-index Inv-loop μ-loop Inv-walk μ-walk
+slice-write-index c =
+    omega (arith, c .before .before .before .before .before .before .before .before .before .loop .inv .1 .size, c .before .before .if2 .taken)
+
+mul-index-2 : tie.Need-mul-index-2 Inv-loop μ-loop Inv-walk μ-walk
+mul-index-2 c =
+    omega (arith, c .before .before .before .before .before .before .before .before .before .loop .inv .1 .size, c .before .before .if2 .taken)
+
+slice-write-index-2 : tie.Need-slice-write-index-2 Inv-loop μ-loop Inv-walk μ-walk
+slice-write-index-2 c =
+    omega (arith, c .before .before .before .before .before .before .before .before .before .loop .inv .1 .size, c .before .before .if2 .taken)
+
+walk-less : tie.Need-walk-less Inv-loop μ-loop Inv-walk μ-walk
+walk-less c =
+    let l = c .before .before .before .before .before .before .before .before .before in
+    let m = l .before .before .before .before .args .m .now in
+    let n = next-place m (l .loop .at) (c .before .before .before .before .before .h2 .given .0 .0) (l .loop .inv .1 .inside) (sym (c .before .before .before .before .before .before .before .head-at .ensures) ∙ c .before .before .before .before .before .h2 .given .1) in
+    omega (arith, n .0, n .1, l .loop .inv .0)
+
+walk-again : tie.Need-walk-again Inv-loop μ-loop Inv-walk μ-walk
+walk-again c =
+    let l = c .before .before .before .before .before .before .before .before .before in
+    let m = l .before .before .before .before .args .m .now in
+    let a = c .before .before .before .before .before .h2 .given .0 .0 in
+    noted-first m (l .before .walk .index) (l .loop .at) a (l .loop .inv .1) (sym (c .before .before .before .before .before .before .before .head-at .ensures) ∙ c .before .before .before .before .before .h2 .given .1) (c .before .before .if2 .taken) (c .if3 .taken)
+
+walk-less-2 : tie.Need-walk-less-2 Inv-loop μ-loop Inv-walk μ-walk
+walk-less-2 c =
+    let l = c .before .before .before .before .before .before .before .before .before in
+    let m = l .before .before .before .before .args .m .now in
+    let n = next-place m (l .loop .at) (c .before .before .before .before .before .h2 .given .0 .0) (l .loop .inv .1 .inside) (sym (c .before .before .before .before .before .before .before .head-at .ensures) ∙ c .before .before .before .before .before .h2 .given .1) in
+    omega (arith, n .0, n .1, l .loop .inv .0)
+
+walk-again-2 : tie.Need-walk-again-2 Inv-loop μ-loop Inv-walk μ-walk
+walk-again-2 c =
+    let l = c .before .before .before .before .before .before .before .before .before in
+    let m = l .before .before .before .before .args .m .now in
+    let a = c .before .before .before .before .before .h2 .given .0 .0 in
+    noted-again m (l .before .walk .index) (l .loop .at) a (l .loop .inv .1) (sym (c .before .before .before .before .before .before .before .head-at .ensures) ∙ c .before .before .before .before .before .h2 .given .1) (c .before .before .if2 .taken) (c .if3 .left)
+
+same-length : tie.Need-same-length Inv-loop μ-loop Inv-walk μ-walk
+same-length c =
+    omega (arith, c .before .loop .inv .1 .size, ap length (c .before .before .before .before .before .pre .1), length-zeros 14)
+
+returns : tie.Need-returns Inv-loop μ-loop Inv-walk μ-walk
+returns c =
+    at-end (c .before .before .before .before .before .args .m .now) (c .before .before .walk .index) (c .before .loop .at) (c .before .loop .inv .1) (c .if1 .taken)
+
+same-length-2 : tie.Need-same-length-2 Inv-loop μ-loop Inv-walk μ-walk
+same-length-2 c =
+    omega (arith, c .before .before .before .before .before .loop .inv .1 .size, ap length (c .before .before .before .before .before .before .before .before .before .pre .1), length-zeros 14)
+
+returns-2 : tie.Need-returns-2 Inv-loop μ-loop Inv-walk μ-walk
+returns-2 c =
+    at-bad (c .before .before .before .before .before .before .before .before .before .args .m .now) (c .before .before .before .before .before .before .walk .index) (c .before .before .before .before .before .loop .at) (c .before .h .given .0 .0) (c .before .before .before .before .before .loop .inv .1) (c .before .before .before .before .if1 .left) (sym (c .before .before .before .head-at .ensures) ∙ c .before .h .given .1)
+
+pub gather-spec : {M : Type 1} → statement M
+gather-spec =
+    tie.close
+    (tie.spec
+    Inv-loop
+    μ-loop
+    Inv-walk
+    μ-walk
+    walk-holds
+    loop-holds
+    head-at-requires
+    enum-known-h
+    enum-known-h-2
+    loop-less
+    loop-again
+    mul-if3
+    slice-read-if3
+    mul-index
+    slice-write-index
+    mul-index-2
+    slice-write-index-2
+    walk-less
+    walk-again
+    walk-less-2
+    walk-again-2
+    same-length
+    returns
+    same-length-2
+    returns-2)

@@ -1,0 +1,76 @@
+-- Whose a row is: its first 17 bytes say so, and no row is found by two names.
+use mathlib.Core.Path.{_≡_, refl, sym, ap, _∙_}
+use mathlib.Core.Bool.{Bool, true, false, _&&_, not}
+use mathlib.Core.List.{List, [], _∷_, _++_}
+use Prim.Native.Nat.{ℕ, zero, suc, _+_, _-_, _≤_, _<_}
+use native.Mathlib.Omega.{arith}
+use borrow.Author.Tests.{eqb-true, leb-true, leb-false, ltb-true}
+use lib.Dec.{eqb, leb}
+use lib.ListN.{length, getD, take, drop}
+use lib.Seq.{getD-take}
+use Rattle.octets.specs.Choice.{pick, within}
+use Rattle.octets.specs.Texts.{part, same}
+use Rattle.octets.proofs.Lists.{and-left, and-right, by-test, same-eq, same-refl, within-high}
+use Rattle.table.specs.TheTable.{isRowOf}
+use Rattle.table.proofs.Form.{part-take}
+use Rattle.order.specs.Demand3.{Subject, nobody, subscriber, sameSubject}
+
+-- SUBJECTS
+
+pub subject-eq : (a b : Subject) → sameSubject a b ≡ true → a ≡ b
+unfolding sameSubject
+subject-eq nobody nobody e = refl
+subject-eq nobody (subscriber n) e = cc
+subject-eq (subscriber m) nobody e = cc
+subject-eq (subscriber m) (subscriber n) e = ap subscriber (same-eq m n e)
+
+pub subject-refl : (a : Subject) → sameSubject a a ≡ true
+unfolding sameSubject
+subject-refl nobody = refl
+subject-refl (subscriber n) = same-refl n
+
+-- ROWS
+
+-- the row is found by the subject's name
+unfoldable pub finds : Subject → List ℕ → Bool
+finds nobody r = false
+finds (subscriber n) r = isRowOf n r
+
+-- the one name by which a row may be found
+unfoldable pub ownerOf : List ℕ → Subject
+ownerOf r = subscriber (part r 2 (getD r 1 0))
+
+pub finds-owner : (k : Subject) (r : List ℕ) → finds k r ≡ true → k ≡ ownerOf r
+unfolding finds ownerOf isRowOf
+finds-owner nobody r e = cc
+finds-owner (subscriber n) r e =
+    let e1 = and-right (eqb (getD r 0 0) 1) _ e in
+    let e2 = and-right (within 1 15 (getD r 1 0)) _ e1 in
+    let l : getD r 1 0 ≡ length n = eqb-true (getD r 1 0) (length n) (and-left (eqb (getD r 1 0) (length n)) _ e2) in
+    let s : part r 2 (length n) ≡ n = same-eq (part r 2 (length n)) n (and-right (eqb (getD r 1 0) (length n)) _ e2) in
+    ap subscriber (sym s ∙ ap (λ (i : ℕ). part r 2 i) (sym l))
+
+-- a name of over 15 bytes finds no row
+long-name : (n r : List ℕ) → leb (length n) 15 ≡ false → isRowOf n r ≡ false
+unfolding isRowOf
+long-name n r h =
+    by-test (isRowOf n r)
+    (λ e. let e1 = and-right (eqb (getD r 0 0) 1) _ e in
+    let e2 = and-right (within 1 15 (getD r 1 0)) _ e1 in
+    let l : getD r 1 0 ≡ length n = eqb-true (getD r 1 0) (length n) (and-left (eqb (getD r 1 0) (length n)) _ e2) in
+    let w : getD r 1 0 ≤ 15 = within-high 1 15 (getD r 1 0) (and-left (within 1 15 (getD r 1 0)) _ e1) in
+    absurd (omega (arith, leb-false (length n) 15 h)))
+    (λ e. e)
+
+front : (n r : List ℕ) → isRowOf n (take 17 r) ≡ isRowOf n r
+unfolding isRowOf
+front n r =
+    by-test (leb (length n) 15)
+    (λ h. let le : length n ≤ 15 = leb-true (length n) 15 h in
+    rw (getD-take 17 r 0 0 (omega arith), getD-take 17 r 1 0 (omega arith), part-take 17 2 (length n) r (omega arith)))
+    (λ h. long-name n (take 17 r) h ∙ sym (long-name n r h))
+
+pub finds-front : (k : Subject) (q r : List ℕ) → take 17 q ≡ take 17 r → finds k q ≡ finds k r
+unfolding finds
+finds-front nobody q r e = refl
+finds-front (subscriber n) q r e = sym (front n q) ∙ ap (isRowOf n) e ∙ front n r

@@ -1,0 +1,12 @@
+pub mod Finding
+pub mod Alone
+pub mod Tables
+pub mod Handling
+pub mod Lists
+pub mod Decided
+pub mod Read
+pub mod Answered
+pub mod Cuts
+pub mod Checks
+pub mod Rest
+pub mod Setting

@@ -1,0 +1,162 @@
+-- Set-up: what is written is sound, since the numbers test what a sound row needs.
+use mathlib.Core.Path.{_≡_, refl, sym, ap, _∙_}
+use mathlib.Core.Bool.{Bool, true, false, _&&_, not}
+use mathlib.Core.List.{List, [], _∷_, _++_}
+use Prim.Native.Nat.{ℕ, zero, suc, _+_, _/_, _*_, _≤_, _<_}
+use native.Mathlib.Omega.{arith}
+use borrow.Author.Tests.{eqb-true, eqb-false, leb-true, ltb-true}
+use lib.Dec.{eqb, leb, ltb}
+use lib.ListN.{length}
+use Rattle.octets.specs.Choice.{pick, firstOf, within}
+use Rattle.octets.specs.Lists.{every, sumOf}
+use Rattle.octets.specs.Texts.{allZero, zeros}
+use Rattle.octets.proofs.Choice.{by-pick, first-passes, others-pass, passed}
+use Rattle.octets.proofs.Lists.{by-test}
+use Rattle.table.specs.TheTable.{Entry, Subscriber, Found, row, nothing, firstRow, rows, lookup, isRowOf, rowAt, withRow, rowLength, tableNumber, readRow, rowBytes}
+use Rattle.table.specs.Soundness.{isName, labels, limits, sameLabel, sound}
+use Rattle.table.proofs.Bytes.{length-row, read-row}
+use Rattle.table.proofs.Good.{Good, goodEntry}
+use Rattle.table.proofs.Rows.{whole-rows}
+use Rattle.table.proofs.Sound.{says-good, sound-row}
+use Rattle.changes.specs.SetUp.{SetUp, leaving, clear, enter, enterNumber, add, addAt, entryNumber, named, withEntry, withRowAt}
+use Rattle.changes.proofs.Stays.{MayEnter}
+use Rattle.changes.proofs.Keep.{good-named, good-entered}
+use Rattle.order.specs.SettingUp.{Wrote, ClearRefused, EnterRefused, AddRefused, ClearedZero, EnterWrites, AddWrites}
+use Rattle.order.specs.NoSecondAnswer.{OneClearing, OneEntering, OneAdding, OneAnswer}
+use Rattle.order.proofs.Tables.{at-with, at-other}
+use Rattle.order.proofs.Rest.{in-table}
+
+-- NO SECOND ANSWER
+
+pub one-clearing : OneClearing
+one-clearing t a b p q = p ∙ sym q
+
+pub one-entering : OneEntering
+one-entering t name a b p q = p ∙ sym q
+
+pub one-adding : OneAdding
+one-adding t name e a b p q = p ∙ sym q
+
+pub one-answer : OneAnswer
+one-answer t c a b p q = p ∙ sym q
+
+-- REFUSALS
+
+leaving-refused : (n : ℕ) (t u : List ℕ) → eqb ((leaving n t u) .number) 0 ≡ false → (leaving n t u) .table ≡ t
+unfolding leaving pick
+leaving-refused n t u h = rw h
+
+leaving-done : (n : ℕ) (t u : List ℕ) → n ≡ 0 → (leaving n t u) .table ≡ u
+unfolding leaving pick
+leaving-done n t u h = rw h
+
+leaving-number : (n : ℕ) (t u : List ℕ) → (leaving n t u) .number ≡ n
+unfolding leaving
+leaving-number n t u = refl
+
+pub clear-refused : ClearRefused
+unfolding clear
+clear-refused t h = leaving-refused _ t _ h
+
+pub cleared-zero : ClearedZero
+unfolding clear
+cleared-zero t h = leaving-done _ t _ (sym (leaving-number (tableNumber t) t (zeros (length t))) ∙ h)
+
+pub enter-refused : EnterRefused
+unfolding enter
+enter-refused t name h = leaving-refused _ t _ h
+
+at-refused : (F : Found) (t : List ℕ) (e : Entry) → eqb ((addAt F t e) .number) 0 ≡ false → (addAt F t e) .table ≡ t
+unfolding addAt
+at-refused nothing t e h = leaving-refused 12 t t h
+at-refused (row i) t e h = leaving-refused _ t _ h
+
+pub add-refused : AddRefused
+unfolding add pick
+add-refused t name e h =
+    by-test (eqb (tableNumber t) 0)
+    (λ a. rw a (at-refused (lookup t name) t e (rw a at h)))
+    (λ a. rw a (leaving-refused 1 t t (rw a at h)))
+
+-- A GOOD SUBSCRIBER IS WRITTEN
+
+module _ (t : List ℕ) (good : tableNumber t ≡ 0) (i : ℕ) (there : i < length t / rowLength) (s : Subscriber) (g : Good s) where
+  wrote : Wrote t i s (withRow t i (rowBytes s))
+  wrote =
+      let n : ℕ = length t / rowLength in
+      let at : rowAt (withRow t i (rowBytes s)) i ≡ rowBytes s = at-with n t (whole-rows t good) i there (rowBytes s) (length-row s) in
+      record {
+        sound-row = rw at (sound-row s g);
+        row-says = rw at (read-row s g);
+        others-stay = λ j ne. at-other n t (whole-rows t good) i there (rowBytes s) j (length-row s) ne;
+      }
+
+-- ENTERING
+
+module _ (t name : List ℕ) (h : enterNumber t name ≡ 0) where
+  enter-rows : tableNumber t ≡ 0
+  unfolding enterNumber
+  enter-rows = first-passes _ _ h
+
+  enter-name : isName name ≡ true
+  unfolding enterNumber
+  enter-name = passed _ 9 (omega arith) (first-passes _ _ (others-pass _ _ h))
+
+pub enter-writes : EnterWrites
+unfolding enter withRowAt
+enter-writes t name i h e =
+    let n : enterNumber t name ≡ 0 = sym (leaving-number (enterNumber t name) t _) ∙ h in
+    rw (leaving-done (enterNumber t name) t _ n, e)
+    (wrote t (enter-rows t name n) i (in-table allZero t i e) (named name) (good-named name (enter-name t name n)))
+
+-- ADDING
+
+sum-snoc : (ls : List ℕ) (x : ℕ) → sumOf (ls ++ (x ∷ [])) ≡ sumOf ls + x
+unfolding sumOf
+sum-snoc [] x = omega arith
+sum-snoc (l ∷ ls) x = omega (arith, sum-snoc ls x)
+
+module _ (r : List ℕ) (e : Entry) (h : entryNumber r e ≡ 0) where
+  entry-sound : sound r ≡ true
+  unfolding entryNumber
+  entry-sound = passed _ 13 (omega arith) (first-passes _ _ h)
+
+  may-enter : MayEnter ((readRow r) .entries) e
+  unfolding entryNumber goodEntry
+  may-enter =
+      let h1 = others-pass _ _ h in
+      let h2 = others-pass _ _ h1 in
+      let h3 = others-pass _ _ h2 in
+      let h4 = others-pass _ _ h3 in
+      record {
+        fine = passed _ 14 (omega arith) (first-passes _ _ h1);
+        new-label = passed _ 15 (omega arith) (first-passes _ _ h2);
+        room = ltb-true (length ((readRow r) .entries)) 4 (passed _ 16 (omega arith) (first-passes _ _ h3));
+        sum-room = rw (sum-snoc (limits ((readRow r) .entries)) (e .limit)) (leb-true _ 8 (passed _ 17 (omega arith) (first-passes _ _ h4)));
+      }
+
+add-rows : (t name : List ℕ) (e : Entry) → (add t name e) .number ≡ 0 → tableNumber t ≡ 0
+unfolding add pick leaving
+add-rows t name e h =
+    by-test (eqb (tableNumber t) 0)
+    (λ a. eqb-true (tableNumber t) 0 a)
+    (λ a. let z : _≡_ {A = ℕ} 1 0 = rw a at h in absurd (omega arith))
+
+add-is : (t name : List ℕ) (e : Entry) (i : ℕ) → tableNumber t ≡ 0 → lookup t name ≡ row i
+    → add t name e ≡ leaving (entryNumber (rowAt t i) e) t (withRow t i (rowBytes (withEntry e (readRow (rowAt t i)))))
+unfolding add addAt pick
+add-is t name e i a f = rw (a, f)
+
+found-in : (t name : List ℕ) (i : ℕ) → lookup t name ≡ row i → i < length t / rowLength
+unfolding lookup
+found-in t name i f = in-table (isRowOf name) t i f
+
+pub add-writes : AddWrites
+add-writes t name e i h f =
+    let a : tableNumber t ≡ 0 = add-rows t name e h in
+    let u : List ℕ = withRow t i (rowBytes (withEntry e (readRow (rowAt t i)))) in
+    let is : add t name e ≡ leaving (entryNumber (rowAt t i) e) t u = add-is t name e i a f in
+    let n : entryNumber (rowAt t i) e ≡ 0 = sym (leaving-number (entryNumber (rowAt t i) e) t u) ∙ ap (λ (x : SetUp). x .number) (sym is) ∙ h in
+    rw (is, leaving-done (entryNumber (rowAt t i) e) t u n)
+    (wrote t a i (found-in t name i f) (withEntry e (readRow (rowAt t i)))
+    (good-entered e (readRow (rowAt t i)) (may-enter (rowAt t i) e n) (says-good (rowAt t i) (entry-sound (rowAt t i) e n))))

@@ -1,0 +1,190 @@
+-- Demand 2: the first failing check gives the code, success is given exactly when none fails, what is cut, and what stays.
+use mathlib.Core.Path.{_≡_}
+use mathlib.Core.Bool.{Bool, true, false, _&&_, not}
+use mathlib.Core.List.{List, [], _∷_, _++_}
+use Prim.Native.Nat.{ℕ}
+use lib.Dec.{eqb}
+use lib.ListN.{length}
+use Rattle.octets.specs.Choice.{pick}
+use Rattle.message.specs.Codes.{Code, plain, userUnknown, noSubscription, roamingNotAllowed, unusedByUser, numberOf, kindOf}
+use Rattle.message.specs.ReadingAMessage.{Ask, tunnel, policy, termination, Request, headerCode, walkCode, listCode, command, avps, requestOf}
+use Rattle.table.specs.TheTable.{Access, Subscriber, Found, row, nothing, isFound, lookup, rowAt, withRow, readRow, rowBytes, barred, mayRoam}
+use Rattle.table.specs.Soundness.{sound, onEntry}
+use Rattle.changes.specs.Changes.{freed, lowestFree, opened, routed}
+use Rattle.decision.specs.Deciding.{entryNamed, entryAt, withSession, none, atLimit, placeOf}
+use Rattle.decision.specs.Calls.{Call, Left, callNumber, reply, handle, run}
+
+-- CHECKS IN ORDER
+
+pub data Check : Type 0 where
+  pass : Check
+  fail : Code → Check
+
+-- A check, with the code that its failure gives.
+unfoldable pub check : Bool → Code → Check
+check true code = pass
+check false code = fail code
+
+-- The code of the first that fails; 2001 where none does.
+unfoldable pub firstFailing : List Check → Code
+firstFailing [] = plain 2001
+firstFailing (pass ∷ cs) = firstFailing cs
+firstFailing (fail code ∷ cs) = code
+
+unfoldable pub noneFails : List Check → Bool
+noneFails [] = true
+noneFails (pass ∷ cs) = noneFails cs
+noneFails (fail code ∷ cs) = false
+
+-- THE CHECKS OF A CALL
+
+-- Header, walk and lists: each gives the code of the first of its own tests that fails, 0 where none does.
+unfoldable pub readingChecks : List ℕ → List Check
+readingChecks m =
+    check (eqb (headerCode m) 0) (plain (headerCode m))
+    ∷ check (eqb (walkCode m) 0) (plain (walkCode m))
+    ∷ check (eqb (listCode (command m) (avps m)) 0) (plain (listCode (command m) (avps m)))
+    ∷ []
+
+-- Type 0: the label is entered; the entry is not barred; no visited network is named, or the entry may roam; the
+-- Session-Id is not in the row. Type 1: an access has the Session-Id; the WAG says yes. Termination: an access has the
+-- Session-Id on this W-APN.
+unfoldable pub decidingChecks : Ask → (wag : Bool) → Subscriber → List Check
+decidingChecks (tunnel session host label visited) wag s =
+    check (not (eqb (entryNamed label s) 0)) noSubscription
+    ∷ check (not (barred (entryAt (entryNamed label s) s))) (plain 5003)
+    ∷ check (not (visited && not (mayRoam (entryAt (entryNamed label s) s)))) roamingNotAllowed
+    ∷ check (none (withSession session (s .accesses))) (plain 5012)
+    ∷ []
+decidingChecks (policy session route) wag s = check (not (none (withSession session (s .accesses)))) (plain 5012) ∷ check wag (plain 5012) ∷ []
+decidingChecks (termination session label) wag s =
+    check (not (none (withSession session (onEntry (entryNamed label s) (s .accesses))))) unusedByUser ∷ []
+
+-- What the message asks and for whom, once it is read; the user's row, and what it says. No bytes where there is no row.
+unfoldable pub requestIn : Call → Request
+requestIn c = requestOf (command (c .message)) (avps (c .message))
+
+unfoldable pub found : List ℕ → Call → Found
+found t c = lookup t ((requestIn c) .user)
+
+unfoldable pub rowFound : List ℕ → Found → List ℕ
+rowFound t nothing = []
+rowFound t (row i) = rowAt t i
+
+unfoldable pub rowBefore : List ℕ → Call → List ℕ
+rowBefore t c = rowFound t (found t c)
+
+abbrev pub said : List ℕ → Call → Subscriber
+said t c = readRow (rowBefore t c)
+
+-- In the paper's order: reading; there is a row; it is sound; deciding.
+unfoldable pub checks : List ℕ → Call → List Check
+checks t c =
+    readingChecks (c .message)
+    ++ (check (isFound (found t c)) userUnknown ∷ check (sound (rowBefore t c)) (plain 5012) ∷ decidingChecks ((requestIn c) .ask) (c .wag) (said t c))
+
+-- A call succeeds if it is one that gets an answer and none of its checks fails.
+unfoldable pub succeeds : List ℕ → Call → Bool
+succeeds t c = eqb (callNumber t c) 0 && noneFails (checks t c)
+
+-- THE CUT
+
+-- A tunnel is asked for on an entry that is at its limit.
+unfoldable pub exceeds : Ask → Subscriber → Bool
+exceeds (tunnel session host label visited) s = atLimit (entryNamed label s) s
+exceeds (policy session route) s = false
+exceeds (termination session label) s = false
+
+-- The accesses on the entry that is asked for, first on the order line first.
+unfoldable pub onAsked : Ask → Subscriber → List Access
+onAsked (tunnel session host label visited) s = onEntry (entryNamed label s) (s .accesses)
+onAsked (policy session route) s = []
+onAsked (termination session label) s = []
+
+-- The first of a list, alone.
+unfoldable pub firstAlone : List Access → List Access
+firstAlone [] = []
+firstAlone (a ∷ others) = a ∷ []
+
+-- What is cut: nothing, or the first on the order line of the accesses on that entry.
+unfoldable pub cutFor : Ask → Subscriber → List Access
+cutFor q s = pick (exceeds q s) (firstAlone (onAsked q s)) []
+
+-- What the row says once the cut is made.
+unfoldable pub spared : Ask → Subscriber → Subscriber
+spared q s = pick (exceeds q s) (freed (placeOf (onAsked q s)) s) s
+
+-- A new tunnel takes the lowest place that is free then.
+unfoldable pub placeTaken : Ask → Subscriber → ℕ
+placeTaken (tunnel session host label visited) s = lowestFree ((spared (tunnel session host label visited) s) .accesses)
+placeTaken (policy session route) s = 0
+placeTaken (termination session label) s = 0
+
+-- What the row says after success: the new access stands behind those that are left; or the policy replaces what was held;
+-- or the place is freed.
+unfoldable pub afterwards : Ask → Subscriber → Subscriber
+afterwards (tunnel session host label visited) s = opened (entryNamed label s) session host (spared (tunnel session host label visited) s)
+afterwards (policy session route) s = routed (placeOf (withSession session (s .accesses))) route s
+afterwards (termination session label) s = freed (placeOf (withSession session (onEntry (entryNamed label s) (s .accesses)))) s
+
+-- THE STATEMENTS, for any table and any call.
+
+-- A call that gets an answer gets the code, and the kind of code, of the first of its checks that fails.
+pub record CodeOf (code : Code) (l : Left) : Type 0 where
+  pub number : l .reply .result .code ≡ numberOf code
+  pub kind : l .reply .result .kind ≡ kindOf code
+
+abbrev pub FirstFailingCheck : Type 0
+FirstFailingCheck = (t : List ℕ) (c : Call) → callNumber t c ≡ 0 → CodeOf (firstFailing (checks t c)) (handle t c)
+
+-- 2001 is given exactly when none fails.
+abbrev pub SuccessExactly : Type 0
+SuccessExactly = (t : List ℕ) (c : Call) → eqb ((handle t c) .reply .result .code) 2001 ≡ succeeds t c
+
+-- Any other code, or no answer: the table and the notice room stay as they were, and there is no place and no cut.
+pub record Unchanged (t : List ℕ) (c : Call) (l : Left) : Type 0 where
+  pub table : l .table ≡ t
+  pub notice : l .reply .notice ≡ c .notice
+  pub place : l .reply .result .place ≡ 0
+  pub cut : l .reply .result .cut ≡ 0
+  pub cut-session : l .reply .result .cutSession ≡ 0
+  pub cut-host : l .reply .result .cutHost ≡ 0
+
+abbrev pub RefusedChangesNothing : Type 0
+RefusedChangesNothing = (t : List ℕ) (c : Call) → eqb ((handle t c) .reply .result .code) 2001 ≡ false → Unchanged t c (handle t c)
+
+-- A cut is made exactly when a call succeeds that asks for a tunnel on an entry that is at its limit.
+abbrev pub CutExactly : Type 0
+CutExactly = (t : List ℕ) (c : Call) → (handle t c) .reply .result .cut ≡ pick (succeeds t c && exceeds ((requestIn c) .ask) (said t c)) 1 0
+
+-- There is then an access to cut.
+abbrev pub OneToCut : Type 0
+OneToCut = (t : List ℕ) (c : Call) → succeeds t c && exceeds ((requestIn c) .ask) (said t c) ≡ true → length (cutFor ((requestIn c) .ask) (said t c)) ≡ 1
+
+-- The whole reply to a call that succeeds: 2001, the place taken, and the cut.
+abbrev pub SuccessReply : Type 0
+SuccessReply =
+    (t : List ℕ) (c : Call) → succeeds t c ≡ true
+    → (handle t c) .reply ≡ reply c (plain 2001) (placeTaken ((requestIn c) .ask) (said t c)) (cutFor ((requestIn c) .ask) (said t c))
+
+-- On success the row that the lookup finds, a sound one, is replaced by the bytes of what it says afterwards.
+pub record Replaced (t : List ℕ) (c : Call) (i : ℕ) (l : Left) : Type 0 where
+  pub was-sound : sound (rowAt t i) ≡ true
+  pub table : l .table ≡ withRow t i (rowBytes (afterwards ((requestIn c) .ask) (readRow (rowAt t i))))
+
+abbrev pub SuccessFindsRow : Type 0
+SuccessFindsRow = (t : List ℕ) (c : Call) → succeeds t c ≡ true → isFound (found t c) ≡ true
+
+abbrev pub SuccessReplacesRow : Type 0
+SuccessReplacesRow = (t : List ℕ) (c : Call) (i : ℕ) → succeeds t c ≡ true → found t c ≡ row i → Replaced t c i (handle t c)
+
+-- Every other row stays as it was, whatever the call.
+abbrev pub OtherRowsStay : Type 0
+OtherRowsStay = (t : List ℕ) (c : Call) (j : ℕ) → (found t c ≡ row j → ⊥) → rowAt ((handle t c) .table) j ≡ rowAt t j
+
+-- A sound row stays sound under every call, and so under every list of calls.
+abbrev pub SoundStaysSound : Type 0
+SoundStaysSound = (t : List ℕ) (c : Call) (j : ℕ) → sound (rowAt t j) ≡ true → sound (rowAt ((handle t c) .table) j) ≡ true
+
+abbrev pub SoundStaysInList : Type 0
+SoundStaysInList = (t : List ℕ) (cs : List Call) (j : ℕ) → sound (rowAt t j) ≡ true → sound (rowAt ((run t cs) .table) j) ≡ true

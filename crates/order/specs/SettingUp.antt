@@ -1,0 +1,41 @@
+-- Set-up: a refusal changes nothing; what is written is a sound row; the other rows stay.
+use mathlib.Core.Path.{_≡_}
+use mathlib.Core.Bool.{Bool, true, false}
+use mathlib.Core.List.{List}
+use Prim.Native.Nat.{ℕ}
+use lib.Dec.{eqb}
+use lib.ListN.{length}
+use Rattle.octets.specs.Texts.{allZero, zeros}
+use Rattle.table.specs.TheTable.{Entry, Subscriber, row, firstRow, rows, lookup, rowAt, readRow}
+use Rattle.table.specs.Soundness.{sound}
+use Rattle.changes.specs.SetUp.{SetUp, clear, enter, add, named, withEntry}
+
+-- Any number but 0 leaves the table as it was.
+abbrev pub ClearRefused : Type 0
+ClearRefused = (t : List ℕ) → eqb ((clear t) .number) 0 ≡ false → (clear t) .table ≡ t
+
+abbrev pub EnterRefused : Type 0
+EnterRefused = (t name : List ℕ) → eqb ((enter t name) .number) 0 ≡ false → (enter t name) .table ≡ t
+
+abbrev pub AddRefused : Type 0
+AddRefused = (t name : List ℕ) (e : Entry) → eqb ((add t name e) .number) 0 ≡ false → (add t name e) .table ≡ t
+
+-- A cleared table is zero throughout.
+abbrev pub ClearedZero : Type 0
+ClearedZero = (t : List ℕ) → (clear t) .number ≡ 0 → (clear t) .table ≡ zeros (length t)
+
+-- Row i is written, sound, and says this; every other row is as it was.
+pub record Wrote (t : List ℕ) (i : ℕ) (says : Subscriber) (after : List ℕ) : Type 0 where
+  pub sound-row : sound (rowAt after i) ≡ true
+  pub row-says : readRow (rowAt after i) ≡ says
+  pub others-stay : (j : ℕ) → (j ≡ i → ⊥) → rowAt after j ≡ rowAt t j
+
+-- Entering writes the first wholly zero row: the name and nothing else.
+abbrev pub EnterWrites : Type 0
+EnterWrites = (t name : List ℕ) (i : ℕ) → (enter t name) .number ≡ 0 → firstRow allZero (rows t) ≡ row i → Wrote t i (named name) ((enter t name) .table)
+
+-- Adding writes the subscriber's row: what it said, and one entry more, as given.
+abbrev pub AddWrites : Type 0
+AddWrites =
+    (t name : List ℕ) (e : Entry) (i : ℕ) → (add t name e) .number ≡ 0 → lookup t name ≡ row i
+    → Wrote t i (withEntry e (readRow (rowAt t i))) ((add t name e) .table)
