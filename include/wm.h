@@ -7,11 +7,14 @@
 #ifndef WM_H
 #define WM_H
 
+/* Where the compiler has no standard headers, define WM_OWN_TYPES and these types before this file. */
+#ifndef WM_OWN_TYPES
 #include <stdbool.h>
 #include <stddef.h>
 #include <stdint.h>
+#endif
 
-#define WM_ROW 4608u         /* bytes of a row; a table is 1 to 1,024 rows */
+#define WM_ROW 4608u          /* bytes of a row; a table is 1 to 1,024 rows */
 #define WM_ANSWER_LEAST 5120u /* the answer room's least length */
 #define WM_NOTICE_LEAST 256u  /* the notice room's least length */
 
