@@ -128,7 +128,7 @@ fn turn(
     if rest < n {
         return Turn::Broken(Damage::Ends);
     }
-    if !replaying::is_checked(&room[0..e]) {
+    if !script::is_checked(&room[0..e]) {
         return Turn::Broken(Damage::Check);
     }
     let b = e - 4;

@@ -1,10 +1,10 @@
 // What a call left, against what its record expects.
-use crate::bytes::digest;
-use crate::bytes::first_unlike;
-use crate::bytes::is_filled;
 use octets::all_zero;
 use octets::long;
 use octets::read32;
+use script::digest;
+use script::first_unlike;
+use script::is_filled;
 ghost use mathlib.Core.Path.{_≡_};
 ghost use Prim.Native.Nat.{_+_, _≤_, _<_};
 ghost use lib.ListN.{length};

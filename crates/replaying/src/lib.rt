@@ -1,6 +1,5 @@
 // A script of the independent program played on the proved server: what a record of it says, the call that it asks for, and
 // what differs from what it expects. The format is that of oracle/README.md.
-mod bytes;
 mod judging;
 mod playing;
 mod progress;
@@ -11,4 +10,3 @@ pub use progress::Progress;
 pub use progress::Turn;
 pub use progress::begin;
 pub use progress::on_record;
-pub use records::is_checked;

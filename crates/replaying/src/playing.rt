@@ -177,8 +177,8 @@ fn request(
     requires { ⌜ (4 ≤ host) × (host + 4 ≤ realm) × (realm + 4 ≤ message) × (message + 11 ≤ length (now r)) × (length (now r) ≤ 65536)
         × (length (now answer) ≤ 65536) × (length (now notice) ≤ 65536) ⌝ }
 {
-    crate::bytes::fill(answer, room.answer_seed);
-    crate::bytes::fill(notice, room.notice_seed);
+    script::fill(answer, room.answer_seed);
+    script::fill(notice, room.notice_seed);
     ask(table, r, host, realm, message, room, answer, notice)
 }
 

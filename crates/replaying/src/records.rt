@@ -1,28 +1,13 @@
-// Records as a whole: the check, and those that are no calls. A number is 4 bytes, high byte first.
-use crate::bytes::digest;
+// The records that are no calls.
 use crate::judging::number;
 use crate::judging::text_end;
-ghost use mathlib.Core.Path.{_≡_};
-ghost use Prim.Native.Nat.{_+_, _-_, _≤_, _<_};
-ghost use lib.Dec.{eqb};
-ghost use lib.ListN.{length, take};
-ghost use Rattle.octets.specs.Numbers.{net32};
-ghost use Rattle.replaying.specs.TheScript.{digestOf};
+ghost use Prim.Native.Nat.{_≤_};
+ghost use lib.ListN.{length};
 
 // What may stand in a number's place.
 pub enum Told {
     Number(usize),
     Nothing,
-}
-
-// Whether the check at the end of a whole record is right.
-pub fn is_checked(whole: &[u8]) -> bool
-    requires { ⌜ 4 ≤ length (now whole) ⌝ }
-    ensures { λ r. ⌜ r ≡ eqb (digestOf 1103515245 0 (take (length (now (whole .entry)) - 4) (now (whole .entry)))) (net32 (now (whole .entry)) (length (now (whole .entry)) - 4)) ⌝ }
-{
-    let end = whole.len() - 4;
-    let expected = octets::read32(whole, end) as u64;
-    digest(&whole[0..end], 1103515245) == expected
 }
 
 // The number of records that a HEADER announces.

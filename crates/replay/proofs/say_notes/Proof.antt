@@ -1,15 +1,8 @@
-use mathlib.Core.Path.{_≡_, refl, sym, ap, _∙_}
-use mathlib.Core.List.{List, [], _∷_, _++_}
-use Prim.Native.Nat.{ℕ, suc, _+_, _-_, _*_, _/_, _%_, _^_, _<_, _≤_}
-use native.Mathlib.Omega.{arith}
-use native.Mathlib.Numerals.{add-one}
-use lib.ListN.{length, getD, take, drop, set, length-set, length-append, length-take, length-drop}
+-- The index of a note stays below 20.
+use Prim.Native.Nat.{_-_, _≤_}
 use borrow.Author.Needs.{needs}
 use Rattle.replay.proofs.say_notes.Statement.{statement}
 use Rattle.replay.proofs.say_notes.Tie as tie
-use Rattle.replay.proofs.say_notes.Reads as reads
-use Rattle.replay.proofs.say_notes.Lts as lts
-use Rattle.replay.proofs.say_note.Reads as say-note-reads
 
 abbrev Inv-loop : tie.InvT-loop
 Inv-loop notes differing k₀ k = k ≤ 20
@@ -17,87 +10,66 @@ Inv-loop notes differing k₀ k = k ≤ 20
 abbrev μ-loop : tie.MeasureT-loop
 μ-loop notes differing k₀ k = 20 - k
 
--- src/main.rt:64:5
 loop-holds : tie.Need-loop-holds Inv-loop μ-loop
 loop-holds c = search needs
 
--- src/main.rt:66:21
 mul-i : tie.Need-mul-i Inv-loop μ-loop
 mul-i c = search needs
 
--- src/main.rt:68:17
 mul-say-note : tie.Need-mul-say-note Inv-loop μ-loop
 mul-say-note c = search needs
 
--- src/main.rt:68:17
 element-copy-out-say-note : tie.Need-element-copy-out-say-note Inv-loop μ-loop
 element-copy-out-say-note c = search needs
 
--- src/main.rt:69:23
 add-say-note : tie.Need-add-say-note Inv-loop μ-loop
 add-say-note c = search needs
 
--- src/main.rt:69:17
 mul-say-note-2 : tie.Need-mul-say-note-2 Inv-loop μ-loop
 mul-say-note-2 c = search needs
 
--- src/main.rt:69:17
 element-copy-out-say-note-2 : tie.Need-element-copy-out-say-note-2 Inv-loop μ-loop
 element-copy-out-say-note-2 c = search needs
 
--- src/main.rt:70:23
 add-say-note-2 : tie.Need-add-say-note-2 Inv-loop μ-loop
 add-say-note-2 c = search needs
 
--- src/main.rt:70:17
 mul-say-note-3 : tie.Need-mul-say-note-3 Inv-loop μ-loop
 mul-say-note-3 c = search needs
 
--- src/main.rt:70:17
 element-copy-out-say-note-3 : tie.Need-element-copy-out-say-note-3 Inv-loop μ-loop
 element-copy-out-say-note-3 c = search needs
 
--- src/main.rt:71:23
 add-say-note-3 : tie.Need-add-say-note-3 Inv-loop μ-loop
 add-say-note-3 c = search needs
 
--- src/main.rt:71:17
 mul-say-note-4 : tie.Need-mul-say-note-4 Inv-loop μ-loop
 mul-say-note-4 c = search needs
 
--- src/main.rt:71:17
 element-copy-out-say-note-4 : tie.Need-element-copy-out-say-note-4 Inv-loop μ-loop
 element-copy-out-say-note-4 c = search needs
 
--- src/main.rt:72:23
 add-say-note-4 : tie.Need-add-say-note-4 Inv-loop μ-loop
 add-say-note-4 c = search needs
 
--- src/main.rt:72:17
 mul-say-note-5 : tie.Need-mul-say-note-5 Inv-loop μ-loop
 mul-say-note-5 c = search needs
 
--- src/main.rt:72:17
 element-copy-out-say-note-5 : tie.Need-element-copy-out-say-note-5 Inv-loop μ-loop
 element-copy-out-say-note-5 c = search needs
 
--- src/main.rt:67:13
 say-note-requires : tie.Need-say-note-requires Inv-loop μ-loop
 say-note-requires c κs = search needs
 
--- src/main.rt:75:9
 add-k : tie.Need-add-k Inv-loop μ-loop
 add-k c = search needs
 
--- src/main.rt:64:5
 loop-less : tie.Need-loop-less Inv-loop μ-loop
 loop-less c = search needs
 
--- src/main.rt:64:5
 loop-again : tie.Need-loop-again Inv-loop μ-loop
 loop-again c = search needs
 
--- src/main.rt:62:1
 returns : tie.Need-returns Inv-loop μ-loop
 returns c = search needs
 

@@ -1,8 +1,11 @@
-// Leaf functions of the format: digests, the bytes that a room is filled with, and where two texts part.
+// The format of the independent program's scripts (oracle/README.md), as far as it is computed: digests, the check of a record,
+// the bytes that a room is filled with, and where two texts part.
 ghost use mathlib.Core.Path.{_≡_};
-ghost use Prim.Native.Nat.{ℕ, _+_, _*_, _<_, _≤_};
-ghost use lib.ListN.{length, drop, getD};
-ghost use Rattle.replaying.specs.TheScript.{digestOf, digestStep, roomByte, asFilled, unlike};
+ghost use Prim.Native.Nat.{ℕ, _-_, _<_, _≤_};
+ghost use lib.Dec.{eqb};
+ghost use lib.ListN.{length, take, drop, getD};
+ghost use Rattle.octets.specs.Numbers.{net32};
+ghost use Rattle.script.specs.TheScript.{digestOf, digestStep, roomByte, asFilled, unlike};
 
 // The digest of `s` at the factor `k`.
 pub fn digest(s: &[u8], k: u64) -> u64
@@ -73,4 +76,14 @@ pub fn first_unlike(a: &[u8], b: &[u8]) -> usize
         i += 1;
     }
     i
+}
+
+// Whether the check at the end of a whole record is right.
+pub fn is_checked(whole: &[u8]) -> bool
+    requires { ⌜ 4 ≤ length (now whole) ⌝ }
+    ensures { λ r. ⌜ r ≡ eqb (digestOf 1103515245 0 (take (length (now (whole .entry)) - 4) (now (whole .entry)))) (net32 (now (whole .entry)) (length (now (whole .entry)) - 4)) ⌝ }
+{
+    let end = whole.len() - 4;
+    let expected = octets::read32(whole, end) as u64;
+    digest(&whole[0..end], 1103515245) == expected
 }

@@ -1,16 +1,13 @@
-use Rattle.replaying.specs.TheScript.{unlike}
-use Rattle.replaying.proofs.Steps.{unlike-step, unlike-differ, unlike-end}
-use mathlib.Core.Path.{_≡_, refl, sym, ap, _∙_}
-use mathlib.Core.List.{List, [], _∷_, _++_}
-use Prim.Native.Nat.{ℕ, suc, _+_, _-_, _*_, _/_, _%_, _^_, _<_, _≤_}
+-- i and what is left to the first difference are the index of the first difference.
+use Rattle.script.specs.TheScript.{unlike}
+use Rattle.script.proofs.Steps.{unlike-step, unlike-differ, unlike-end}
+use mathlib.Core.Path.{_≡_}
+use Prim.Native.Nat.{suc, _+_, _-_, _≤_}
 use native.Mathlib.Omega.{arith}
-use native.Mathlib.Numerals.{add-one}
-use lib.ListN.{length, getD, take, drop, set, length-set, length-append, length-take, length-drop}
+use lib.ListN.{length, drop}
 use borrow.Author.Needs.{needs}
-use Rattle.replaying.proofs.bytes.first_unlike.Statement.{statement}
-use Rattle.replaying.proofs.bytes.first_unlike.Tie as tie
-use Rattle.replaying.proofs.bytes.first_unlike.Reads as reads
-use Rattle.replaying.proofs.bytes.first_unlike.Lts as lts
+use Rattle.script.proofs.first_unlike.Statement.{statement}
+use Rattle.script.proofs.first_unlike.Tie as tie
 
 abbrev Inv-loop : tie.InvT-loop
 Inv-loop a b i₀ i = (i ≤ length a) × (i + unlike (drop i a) (drop i b) ≡ unlike a b)
@@ -18,19 +15,15 @@ Inv-loop a b i₀ i = (i ≤ length a) × (i + unlike (drop i a) (drop i b) ≡ 
 abbrev μ-loop : tie.MeasureT-loop
 μ-loop a b i₀ i = length a - i
 
--- src/bytes.rt:69:5
 loop-holds : tie.Need-loop-holds Inv-loop μ-loop
 loop-holds c = search needs
 
--- src/bytes.rt:70:12
 shared-slice-read-if1 : tie.Need-shared-slice-read-if1 Inv-loop μ-loop
 shared-slice-read-if1 c = search needs
 
--- src/bytes.rt:70:20
 shared-slice-read-if1-2 : tie.Need-shared-slice-read-if1-2 Inv-loop μ-loop
 shared-slice-read-if1-2 c = search needs
 
--- src/bytes.rt:71:13
 returns : tie.Need-returns Inv-loop μ-loop
 returns c =
     let l = c .before .before .before .before in
@@ -39,15 +32,12 @@ returns c =
     let here : unlike (drop (l .loop .i) a) (drop (l .loop .i) b) ≡ 0 = unlike-differ a b (l .loop .i) (omega arith) (omega arith) (c .if1 .taken) in
     omega arith
 
--- src/bytes.rt:73:9
 add-i : tie.Need-add-i Inv-loop μ-loop
 add-i c = search needs
 
--- src/bytes.rt:69:5
 loop-less : tie.Need-loop-less Inv-loop μ-loop
 loop-less c = search needs
 
--- src/bytes.rt:69:5
 loop-again : tie.Need-loop-again Inv-loop μ-loop
 loop-again c =
     let l = c .before .before .before .before in
@@ -57,7 +47,6 @@ loop-again c =
     unlike-step a b (l .loop .i) (omega arith) (omega arith) (c .if1 .left) in
     omega arith
 
--- src/bytes.rt:64:1
 returns-2 : tie.Need-returns-2 Inv-loop μ-loop
 returns-2 c =
     let l = c .before in

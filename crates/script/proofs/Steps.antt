@@ -11,7 +11,7 @@ use borrow.Author.Tests.{eq-eqb, ne-eqb}
 use lib.ListN.{length, getD, set, drop, drop-of-length-le}
 use lib.Seq.{drop-cons, getD-set-same, getD-set-other}
 use Rattle.octets.specs.Choice.{pick}
-use Rattle.replaying.specs.TheScript.{digestStep, digestOf, roomByte, asFilled, unlike}
+use Rattle.script.specs.TheScript.{digestStep, digestOf, roomByte, asFilled, unlike}
 
 -- a product of a digest and a factor stays below 2^62
 pub product : (h k : ℕ) → h < 2147483647 → k ≤ 1103515245 → h * k ≤ 2369780942852710000
