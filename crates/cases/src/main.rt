@@ -1,12 +1,11 @@
 // The worked cases of document 01, played on the proved server: one line a call, and the order line after it.
-mod building;
 mod saying;
 
-use building::ending;
-use building::lengthen;
-use building::opening;
-use building::put_header;
-use building::visiting;
+use requests::ending;
+use requests::lengthen;
+use requests::opening;
+use requests::put_header;
+use requests::visiting;
 use saying::say;
 use saying::say_byte;
 use saying::say_bytes;

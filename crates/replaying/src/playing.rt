@@ -1,10 +1,10 @@
 // A call that a record asks for, made on the proved server. `r` is the record's body, `table` the table as long as it is now.
-use crate::judging::Got;
-use crate::judging::Verdict;
-use crate::judging::judged;
-use crate::judging::number;
-use crate::judging::text_end;
 use decision::Cut;
+use judging::Got;
+use judging::Verdict;
+use judging::judged;
+use judging::number;
+use judging::text_end;
 use message::Kind;
 ghost use Prim.Native.Nat.{_+_, _≤_};
 ghost use lib.ListN.{length};

@@ -1,5 +1,4 @@
 // A script from record to record.
-use crate::judging::Verdict;
 use crate::playing::play_add;
 use crate::playing::play_clear;
 use crate::playing::play_enter;
@@ -8,6 +7,7 @@ use crate::records::Told;
 use crate::records::announced;
 use crate::records::is_patched;
 use crate::records::only_number;
+use judging::Verdict;
 ghost use Prim.Native.Nat.{_≤_};
 ghost use lib.ListN.{length};
 

@@ -1,6 +1,6 @@
 // The records that are no calls.
-use crate::judging::number;
-use crate::judging::text_end;
+use judging::number;
+use judging::text_end;
 ghost use Prim.Native.Nat.{_≤_};
 ghost use lib.ListN.{length};
 

@@ -2,8 +2,8 @@
 use Prim.Native.Nat.{_-_, _≤_}
 use lib.ListN.{length}
 use borrow.Author.Needs.{needs}
-use Rattle.replaying.proofs.judging.changes.Statement.{statement}
-use Rattle.replaying.proofs.judging.changes.Tie as tie
+use Rattle.judging.proofs.changes.Statement.{statement}
+use Rattle.judging.proofs.changes.Tie as tie
 
 abbrev Inv-loop : tie.InvT-loop
 Inv-loop table s count p₀ left₀ p left = p ≤ length s
