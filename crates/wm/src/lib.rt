@@ -1,6 +1,17 @@
 // The server for C: the four operations under their C names (include/wm.h).
+use decision::Cut;
+use decision::Outcome;
+use message::Kind;
 ghost use mathlib.Core.Path.{_≡_};
+ghost use Prim.Native.Nat.{ℕ};
+ghost use Rattle.message.specs.Codes.{kindOf};
+ghost use Rattle.message.specs.Kinds.{codeFrom};
 ghost use Rattle.changes.specs.SetUp.{left, clear, enter, add};
+ghost use Rattle.decision.specs.Calls.{handle};
+ghost use Rattle.decision.specs.Outcomes.{callOf, cutHost, cutMade, cutSession, resultSaid};
+ghost use Rattle.wm.specs.InC.{in32, inC, leavesInC, narrowed, saidInC};
+
+// SET-UP: 0 on success, else the number
 
 // Every byte of the table zero.
 #[no_mangle]
@@ -25,4 +36,97 @@ pub extern "C" fn wm_add(table: &mut [u8], name: &[u8], label: &[u8], limit: u8,
         ≡ add (now (table .entry)) (now (name .entry)) (record { label = now (label .entry); flags = flags; limit = limit }) ⌝ }
 {
     changes::add(table, name, label, limit, flags)
+}
+
+// A REQUEST
+
+// What a request returns, in C's numbers.
+#[repr(C)]
+pub struct WmOutcome {
+    pub code: u32,
+    pub kind: u32,
+    pub length: u32,
+    pub place: u32,
+    pub cut: u32,
+    pub session: u32,
+    pub host: u32,
+}
+
+fn narrow(n: usize) -> u32
+    ensures { λ r. ⌜ r ≡ in32 n ⌝ }
+{
+    if n < 4294967296 {
+        return n as u32;
+    }
+    4294967295
+}
+
+fn kind_in_c(kind: Kind) -> u32
+    ensures { λ r. ⌜ ((code : ℕ) → r ≡ kindOf (codeFrom kind code)) ⌝ }
+{
+    match kind {
+        Kind::NoAnswer => 0,
+        Kind::Plain => 1,
+        Kind::Experimental => 2,
+    }
+}
+
+fn cut_in_c(cut: Cut) -> u32
+    ensures { λ r. ⌜ r ≡ cutMade cut ⌝ }
+{
+    match cut {
+        Cut::NoCut => 0,
+        Cut::Lengths(session, host) => 1,
+    }
+}
+
+fn session_in_c(cut: Cut) -> u32
+    ensures { λ r. ⌜ r ≡ in32 (cutSession cut) ⌝ }
+{
+    match cut {
+        Cut::NoCut => 0,
+        Cut::Lengths(session, host) => narrow(session),
+    }
+}
+
+fn host_in_c(cut: Cut) -> u32
+    ensures { λ r. ⌜ r ≡ in32 (cutHost cut) ⌝ }
+{
+    match cut {
+        Cut::NoCut => 0,
+        Cut::Lengths(session, host) => narrow(host),
+    }
+}
+
+fn outcome_in_c(o: Outcome) -> WmOutcome
+    ensures { λ r. ⌜ saidInC r ≡ narrowed (resultSaid o) ⌝ }
+{
+    let kind = o.kind;
+    let cut = o.cut;
+    WmOutcome {
+        code: o.code,
+        kind: kind_in_c(kind),
+        length: narrow(o.length),
+        place: narrow(o.place),
+        cut: cut_in_c(cut),
+        session: session_in_c(cut),
+        host: host_in_c(cut),
+    }
+}
+
+// One request.
+#[no_mangle]
+pub extern "C" fn wm_handle(
+    table: &mut [u8],
+    host: &[u8],
+    realm: &[u8],
+    message: &[u8],
+    wag: bool,
+    answer: &mut [u8],
+    notice: &mut [u8],
+) -> WmOutcome
+    ensures { λ r. ⌜ leavesInC r (now (table .exit)) (now (answer .exit)) (now (notice .exit))
+        ≡ inC (handle (now (table .entry)) (callOf (now (message .entry)) (now (host .entry)) (now (realm .entry)) (now (answer .entry)) (now (notice .entry)) wag)) ⌝ }
+{
+    outcome_in_c(decision::handle(table, host, realm, message, wag, answer, notice))
 }

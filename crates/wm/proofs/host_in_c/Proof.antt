@@ -1,0 +1,26 @@
+-- Each case of a cut has its length, in 32 bits.
+use Rattle.decision.specs.Outcomes.{cutHost}
+use Rattle.wm.specs.InC.{in32}
+use borrow.Author.Needs.{needs}
+use Rattle.wm.proofs.host_in_c.Statement.{statement}
+use Rattle.wm.proofs.host_in_c.Tie as tie
+
+enum-told : tie.Need-enum-told
+enum-told c = search needs
+
+enum-known-cut : tie.Need-enum-known-cut
+enum-known-cut c = search needs
+
+narrow-requires : tie.Need-narrow-requires
+narrow-requires c κs = search needs
+
+returns : tie.Need-returns
+unfolding cutHost in32
+returns c = rw (c .enum-told .given .1)
+
+returns-2 : tie.Need-returns-2
+unfolding cutHost
+returns-2 c = rw (c .before .before .cut .given .1) (c .narrow .ensures)
+
+pub host-in-c-spec : {M : Type 1} → statement M
+host-in-c-spec = tie.close (tie.spec enum-told enum-known-cut narrow-requires returns returns-2)
