@@ -1,8 +1,9 @@
 -- Seven writes one behind the other, then the header in front: no place is past the room, since every part is bounded (`one` to `six`).
-use mathlib.Core.Path.{_≡_, _∙_}
+use mathlib.Core.Path.{_≡_, _∙_, ap}
 use Prim.Native.Nat.{_≤_}
 use native.Mathlib.Omega.{arith}
 use lib.ListN.{length}
+use Rattle.octets.specs.Texts.{put}
 use Rattle.message.specs.Codes.{plain, numberOf}
 use Rattle.message.specs.WritingTheAnswer.{avpBytes, sessionAvp, authAvps, resultAvp, subscriptionAvp, proxyAvps, answerBody}
 use Rattle.message.specs.Kinds.{codeFrom}
@@ -118,7 +119,7 @@ returns c =
     (w1 .ensures) (rw (auth-from m k n) at (w2 .ensures)) (w3 .ensures) (w4 .ensures) (w5 .ensures) (rw (subscription-from m k n) at (w6 .ensures)) (w7 .ensures)
     (omega (arith, fits, length-body m host realm (codeFrom k n))) in
     answer-put m host realm (codeFrom k n) room (w7 .last .1 .1 .0) (c .before .before .put-header .last .1 .1 .1 .0) (w7 .result) (s .pre .least) fits all
-    (rw (head-from m k n (w7 .result)) at (c .before .before .put-header .ensures))
+    (c .before .before .put-header .ensures ∙ ap (put (w7 .last .1 .1 .0) 0) (head-from m k n (w7 .result)))
 
 pub answer-spec : {M : Type 1} → statement M
 answer-spec =
