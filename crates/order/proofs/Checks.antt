@@ -22,7 +22,7 @@ use Rattle.decision.specs.Deciding.{Verdict, decide, refuse}
 use Rattle.decision.specs.Calls.{Call, Left, Reply, Result, callNumber, silent, reply, refusal, settled, resultOf, noticeRoom, handle}
 use Rattle.decision.proofs.Stay.{fitting, stays}
 use Rattle.order.specs.Demand2.{Check, firstFailing, noneFails, decidingChecks, requestIn, found, rowBefore, said, checks, succeeds, exceeds, onAsked, firstAlone, cutFor, placeTaken, afterwards, CodeOf, Unchanged, Replaced}
-use Rattle.order.specs.Demand2.{FirstFailingCheck, SuccessExactly, RefusedChangesNothing, CutExactly, OneToCut, SuccessReply, SuccessFindsRow, SuccessReplacesRow, OtherRowsStay, SoundStaysSound}
+use Rattle.order.specs.Demand2.{FirstFailingCheck, SuccessExactly, RefusedChangesNothing, CutExactly, OneToCut, SuccessReply, SuccessFindsRow}
 use Rattle.order.proofs.Read.{other, call-other, ask-fits}
 use Rattle.order.proofs.Decided.{Decided, refuses, grants, granting, cutBy, decided}
 use Rattle.order.proofs.Cuts.{FirstCut, cut-first, cut-none}
@@ -166,11 +166,11 @@ refused-changes-nothing t c h = refused-went t c (sym (success-exactly t c) ∙ 
 -- THE CUT
 
 module _ (t : List ℕ) (c : Call) where
-  abbrev asked : Ask
+  abbrev pub asked : Ask
   asked = (requestIn c) .ask
 
   module _ (i : ℕ) (o : OnRow t c i) (h : noneFails (checks t c) ≡ true) where
-    granted : verdict t c i ≡ granting asked (readRow (rowAt t i))
+    pub granted : verdict t c i ≡ granting asked (readRow (rowAt t i))
     granted = granted-is _ _ _ _ (how t c i) (sym (o .none) ∙ h)
 
     cut-is : (verdict t c i) .cut ≡ cutBy asked (readRow (rowAt t i))
@@ -188,7 +188,7 @@ module _ (t : List ℕ) (c : Call) where
         rw (o .leaves, e) (settled-one t c i (verdict t c i) (ap length (cut-is ∙ f .first) ∙ f .some)))
         (λ e. rw (o .leaves, e) (settled-none t c i (verdict t c i) (cut-is ∙ cut-none asked (readRow (rowAt t i)) e)))
 
-    written : (settled t c i (verdict t c i)) .table ≡ withRow t i (rowBytes (afterwards asked (readRow (rowAt t i))))
+    pub written : (settled t c i (verdict t c i)) .table ≡ withRow t i (rowBytes (afterwards asked (readRow (rowAt t i))))
     unfolding settled granting numberOf pick
     written = rw granted
 
@@ -208,10 +208,10 @@ module _ (t : List ℕ) (c : Call) where
         ∙ ap (λ (l : List Access). reply c (plain 2001) (placeTaken asked (readRow (rowAt t i))) l) cut-for
 
   -- a call that succeeds is decided on a sound row
-  data Won : Type 0 where
+  pub data Won : Type 0 where
     won : (i : ℕ) → OnRow t c i → callNumber t c ≡ 0 → noneFails (checks t c) ≡ true → Won
 
-  won-went : succeeds t c ≡ true → Went t c → Won
+  pub won-went : succeeds t c ≡ true → Went t c → Won
   unfolding succeeds
   won-went h (unanswered a l) = false-true (sym a ∙ and-left (eqb (callNumber t c) 0) _ h)
   won-went h (stopped code a s l) = false-true (sym (s .none) ∙ and-right (eqb (callNumber t c) 0) _ h)
@@ -246,14 +246,5 @@ module _ (t : List ℕ) (c : Call) where
   unfolding isFound
   finds-won (won i o a h) = rw (o .at)
 
-  same-row : (i j : ℕ) → row i ≡ row j → i ≡ j
-  same-row i j e = cc
-
-  replaces-won : (i : ℕ) → found t c ≡ row i → Won t c → Replaced t c i (handle t c)
-  replaces-won i e (won j o a h) = rw (same-row i j (sym e ∙ o .at)) (record { was-sound = o .was-sound; table = ap (λ (l : Left). l .table) (o .leaves) ∙ written t c j o h })
-
 pub success-finds-row : SuccessFindsRow
 success-finds-row t c h = finds-won t c (won-went t c h (went t c))
-
-pub success-replaces-row : SuccessReplacesRow
-success-replaces-row t c i h e = replaces-won t c i e (won-went t c h (went t c))

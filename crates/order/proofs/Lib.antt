@@ -10,3 +10,4 @@ pub mod Cuts
 pub mod Checks
 pub mod Rest
 pub mod Setting
+pub mod Demands

@@ -167,10 +167,13 @@ SuccessReply =
     (t : List ℕ) (c : Call) → succeeds t c ≡ true
     → (handle t c) .reply ≡ reply c (plain 2001) (placeTaken ((requestIn c) .ask) (said t c)) (cutFor ((requestIn c) .ask) (said t c))
 
--- On success the row that the lookup finds, a sound one, is replaced by the bytes of what it says afterwards.
+-- On success the row that the lookup finds, a sound one, is replaced by the bytes of what it says afterwards. That is sound
+-- again, and reads as it was meant.
 pub record Replaced (t : List ℕ) (c : Call) (i : ℕ) (l : Left) : Type 0 where
   pub was-sound : sound (rowAt t i) ≡ true
   pub table : l .table ≡ withRow t i (rowBytes (afterwards ((requestIn c) .ask) (readRow (rowAt t i))))
+  pub is-sound : sound (rowAt (l .table) i) ≡ true
+  pub says : readRow (rowAt (l .table) i) ≡ afterwards ((requestIn c) .ask) (readRow (rowAt t i))
 
 abbrev pub SuccessFindsRow : Type 0
 SuccessFindsRow = (t : List ℕ) (c : Call) → succeeds t c ≡ true → isFound (found t c) ≡ true
