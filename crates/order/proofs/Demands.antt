@@ -1,11 +1,12 @@
 -- The demands, each a statement of specs/ with its proof, which stands in the file that is cited.
 use Rattle.order.specs.Demand2.{FirstFailingCheck, SuccessExactly, RefusedChangesNothing, CutExactly, OneToCut, SuccessReply, SuccessFindsRow, SuccessReplacesRow, OtherRowsStay, SoundStaysSound, SoundStaysInList}
-use Rattle.order.specs.Demand3.{OneReplyEach, EachInTurn, LastTable, RepliesAlone, RecordAlone, LookupStays, SameTable, SameReplies, NobodysReply, NobodyChangesNothing, NobodysReplies}
+use Rattle.order.specs.Demand3.{OneReplyEach, EachInTurn, LastTable, RepliesAlone, RecordAlone, LookupStays, SameTable, SameReplies, NobodysReply, NobodyChangesNothing, NobodysReplies, SubjectCounts, SenderCounts, NoSender, RepliesAloneBy, RecordAloneBy, SameTableBy, SameRepliesBy}
 use Rattle.order.specs.NoSecondAnswer.{OneClearing, OneEntering, OneAdding, OneAnswer}
 use Rattle.order.specs.SettingUp.{ClearRefused, EnterRefused, AddRefused, ClearedZero, EnterWrites, AddWrites}
 use Rattle.order.proofs.Checks as Checks
 use Rattle.order.proofs.Rest as Rest
 use Rattle.order.proofs.Lists as Lists
+use Rattle.order.proofs.Counted as Counted
 use Rattle.order.proofs.Setting as Setting
 
 -- DEMAND 1: every input has a defined outcome, since `handle`, `clear`, `enter` and `add` are defined for all; and no second
@@ -103,6 +104,28 @@ nobody-changes-nothing = Lists.nobody-changes-nothing
 
 pub nobodys-replies : NobodysReplies
 nobodys-replies = Lists.nobodys-replies
+
+-- the same where refused messages are counted as those of the User-Name that was read, and for any such counting
+pub subject-counts : SubjectCounts
+subject-counts = Counted.subject-counts
+
+pub sender-counts : SenderCounts
+sender-counts = Counted.sender-counts
+
+pub no-sender : NoSender
+no-sender = Counted.no-sender
+
+pub replies-alone-by : RepliesAloneBy
+replies-alone-by = Counted.replies-alone-by
+
+pub record-alone-by : RecordAloneBy
+record-alone-by = Counted.record-alone-by
+
+pub same-table-by : SameTableBy
+same-table-by = Counted.same-table-by
+
+pub same-replies-by : SameRepliesBy
+same-replies-by = Counted.same-replies-by
 
 -- SET-UP
 

@@ -10,4 +10,5 @@ pub mod Cuts
 pub mod Checks
 pub mod Rest
 pub mod Setting
+pub mod Counted
 pub mod Demands

@@ -46,7 +46,7 @@ module _ (t : List ℕ) (bad : eqb (tableNumber t) 0 ≡ false) where
   bad-table [] = refl
   bad-table (c ∷ cs) = rw (handle-bad t c bad) (bad-table cs)
 
-  bad-replies : (cs : List Call) → (run t cs) .replies ≡ map (λ (c : Call). silence c (tableNumber t)) cs
+  pub bad-replies : (cs : List Call) → (run t cs) .replies ≡ map (λ (c : Call). silence c (tableNumber t)) cs
   unfolding run ranFirst silent silence
   bad-replies [] = refl
   bad-replies (c ∷ cs) = rw (handle-bad t c bad, bad-replies cs)
@@ -72,10 +72,10 @@ unfolding tableNumber
 number-by-length t u e = rw e
 
 -- what the list of calls leaves, of n rows
-record Runs (n : ℕ) (t : List ℕ) (cs : List Call) : Type 0 where
-  size : length ((run t cs) .table) ≡ length t
-  rows-are : cutInRows n ((run t cs) .table) ≡ runs (cutInRows n t) cs
-  replies-are : (run t cs) .replies ≡ outs (cutInRows n t) cs
+pub record Runs (n : ℕ) (t : List ℕ) (cs : List Call) : Type 0 where
+  pub size : length ((run t cs) .table) ≡ length t
+  pub rows-are : cutInRows n ((run t cs) .table) ≡ runs (cutInRows n t) cs
+  pub replies-are : (run t cs) .replies ≡ outs (cutInRows n t) cs
 
 run-on : (n : ℕ) (t : List ℕ) (cs : List Call) → tableNumber t ≡ 0 → length t / rowLength ≡ n → Runs n t cs
 unfolding run ranFirst A.runs A.outs
@@ -139,7 +139,7 @@ module _ (t : List ℕ) (good : tableNumber t ≡ 0) where
   abbrev count : ℕ
   count = length t / rowLength
 
-  ran : (cs : List Call) → Runs count t cs
+  pub ran : (cs : List Call) → Runs count t cs
   ran cs = run-on count t cs good refl
 
   size-after : (cs : List Call) → length ((run t cs) .table) ≡ rowLength * count
