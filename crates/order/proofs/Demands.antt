@@ -1,10 +1,12 @@
 -- The demands, each a statement of specs/ with its proof, which stands in the file that is cited.
 use Rattle.order.specs.Demand2.{FirstFailingCheck, SuccessExactly, RefusedChangesNothing, CutExactly, OneToCut, SuccessReply, SuccessFindsRow, SuccessReplacesRow, OtherRowsStay, SoundStaysSound, SoundStaysInList}
 use Rattle.order.specs.Demand3.{OneReplyEach, EachInTurn, LastTable, RepliesAlone, RecordAlone, LookupStays, SameTable, SameReplies, NobodysReply, NobodyChangesNothing, NobodysReplies, SubjectCounts, SenderCounts, NoSender, RepliesAloneBy, RecordAloneBy, SameTableBy, SameRepliesBy}
+use Rattle.order.specs.OpenedFirst.{OpenedInOrder}
 use Rattle.order.specs.NoSecondAnswer.{OneClearing, OneEntering, OneAdding, OneAnswer}
 use Rattle.order.specs.SettingUp.{ClearRefused, EnterRefused, AddRefused, ClearedZero, EnterWrites, AddWrites}
 use Rattle.order.proofs.Checks as Checks
 use Rattle.order.proofs.Rest as Rest
+use Rattle.order.proofs.Opening as Opening
 use Rattle.order.proofs.Lists as Lists
 use Rattle.order.proofs.Counted as Counted
 use Rattle.order.proofs.Setting as Setting
@@ -47,6 +49,10 @@ one-to-cut = Checks.one-to-cut
 
 pub success-reply : SuccessReply
 success-reply = Checks.success-reply
+
+-- the order line is the order of opening
+pub opened-in-order : OpenedInOrder
+opened-in-order = Opening.opened-in-order
 
 -- success finds a row, replaces that row, and no other
 pub success-finds-row : SuccessFindsRow

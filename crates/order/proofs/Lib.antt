@@ -11,4 +11,5 @@ pub mod Checks
 pub mod Rest
 pub mod Setting
 pub mod Counted
+pub mod Opening
 pub mod Demands

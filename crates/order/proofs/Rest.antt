@@ -30,7 +30,7 @@ use Rattle.order.proofs.Tables.{at-with, at-other, length-cut}
 use Rattle.order.proofs.Handling.{There, there}
 
 -- the table of a call that is answered has rows
-rows-there : (t : List ℕ) (c : Call) → callNumber t c ≡ 0 → tableNumber t ≡ 0
+pub rows-there : (t : List ℕ) (c : Call) → callNumber t c ≡ 0 → tableNumber t ≡ 0
 unfolding callNumber
 rows-there t c h = first-passes _ _ h
 
