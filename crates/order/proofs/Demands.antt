@@ -1,7 +1,7 @@
 -- The demands, each a statement of specs/ with its proof, which stands in the file that is cited.
 use Rattle.order.specs.Demand2.{FirstFailingCheck, SuccessExactly, RefusedChangesNothing, CutExactly, OneToCut, SuccessReply, SuccessFindsRow, SuccessReplacesRow, OtherRowsStay, SoundStaysSound, SoundStaysInList}
 use Rattle.order.specs.Demand3.{OneReplyEach, EachInTurn, LastTable, RepliesAlone, RecordAlone, LookupStays, SameTable, SameReplies, NobodysReply, NobodyChangesNothing, NobodysReplies, SubjectCounts, SenderCounts, NoSender, RepliesAloneBy, RecordAloneBy, SameTableBy, SameRepliesBy}
-use Rattle.order.specs.OpenedFirst.{OpenedInOrder}
+use Rattle.order.specs.OpenedFirst.{OpenedInOrder, CutOpenedFirst}
 use Rattle.order.specs.NoSecondAnswer.{OneClearing, OneEntering, OneAdding, OneAnswer}
 use Rattle.order.specs.SettingUp.{ClearRefused, EnterRefused, AddRefused, ClearedZero, EnterWrites, AddWrites}
 use Rattle.order.proofs.Checks as Checks
@@ -53,6 +53,10 @@ success-reply = Checks.success-reply
 -- the order line is the order of opening
 pub opened-in-order : OpenedInOrder
 opened-in-order = Opening.opened-in-order
+
+-- so that the tunnel that is cut is the one there that was opened first
+pub cut-opened-first : CutOpenedFirst
+cut-opened-first = Opening.cut-opened-first
 
 -- success finds a row, replaces that row, and no other
 pub success-finds-row : SuccessFindsRow

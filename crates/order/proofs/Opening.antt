@@ -10,20 +10,20 @@ use lib.ListN.{length, getD}
 use Rattle.octets.specs.Choice.{pick}
 use Rattle.octets.specs.Lists.{keep}
 use Rattle.octets.proofs.Choice.{by-pick}
-use Rattle.octets.proofs.Lists.{by-test, both}
+use Rattle.octets.proofs.Lists.{and-left, and-right, by-test}
 use Rattle.message.specs.ReadingAMessage.{Ask, tunnel, policy, termination, readingCode, command, avps, requestOf, Reading, request, read}
 use Rattle.table.specs.TheTable.{Access, Subscriber, Found, row, nothing, later, firstRow, isFound, lookup, rows, isRowOf, rowAt, readRow}
-use Rattle.table.specs.Soundness.{sound, sessions}
+use Rattle.table.specs.Soundness.{onEntry, sound, sessions}
 use Rattle.changes.specs.Changes.{freed, leave, opened, newAccess, routed, hold}
 use Rattle.changes.proofs.Stays.{sids-hold, sids-snoc}
 use Rattle.decision.specs.Calls.{Call, Left, Ran, Reply, handle, run, ranFirst, callNumber}
-use Rattle.order.specs.Demand2.{requestIn, found, succeeds, afterwards, spared, Replaced}
+use Rattle.order.specs.Demand2.{requestIn, found, rowBefore, said, succeeds, exceeds, onAsked, firstAlone, cutFor, afterwards, spared, Replaced}
 use Rattle.order.specs.Demand3.{Subject, subscriber, isOf, subject, sameSubject, ownNumber}
-use Rattle.order.specs.OpenedFirst.{newSession, openings, Some, end, leaves, keeps, lineOf, OpenedInOrder}
+use Rattle.order.specs.OpenedFirst.{newSession, openings, Some, end, leaves, keeps, lineOf, OpenedInOrder, CutFirst, CutOpenedFirst}
 use Rattle.order.proofs.Finding.{finds, finds-owner, ownerOf, subject-refl}
 use Rattle.order.proofs.Handling.{was-read, number-good}
 use Rattle.order.proofs.Lists.{lookup-stays}
-use Rattle.order.proofs.Checks.{success-exactly, success-finds-row, refused-changes-nothing, Won, won, won-went}
+use Rattle.order.proofs.Checks.{cut-exactly, success-exactly, success-finds-row, refused-changes-nothing, Won, won, won-went}
 use Rattle.order.proofs.Answered.{OnRow, went}
 use Rattle.order.proofs.Rest.{success-replaces-row, other-rows-stay, sound-stays-sound, rows-there}
 
@@ -172,3 +172,40 @@ opened-in-order t (c ∷ cs) name i h s =
     let then : Some (lineOf ((run u cs) .table) i) (lineOf u i ++ openings name cs ((run u cs) .replies)) =
     opened-in-order u cs name i (lookup-stays t (c ∷ []) name ∙ h) (sound-stays-sound t c i s) in
     rw (append-assoc (lineOf t i) (opening t name i h c) (openings name cs ((run u cs) .replies))) at (through then (behind (openings name cs ((run u cs) .replies)) first))
+
+-- THE CUT
+
+cuts : (b : Bool) → _≡_ {A = ℕ} (pick b 1 0) 1 → b ≡ true
+unfolding pick
+cuts true e = refl
+cuts false e = absurd (omega arith)
+
+asked-some : (q : Ask) (s : Subscriber) → Some (sessions (onAsked q s)) (sessions (s .accesses))
+unfolding onAsked onEntry sessions
+asked-some (tunnel session host label visited) s = kept _ (s .accesses)
+asked-some (policy session route) s = none _
+asked-some (termination session label) s = none _
+
+same-name : (a b : List ℕ) → subscriber a ≡ subscriber b → a ≡ b
+same-name a b e = cc
+
+module _ (u name : List ℕ) (i : ℕ) (c : Call) (here : lookup u name ≡ row i) (of : subject c ≡ subscriber name) where
+  row-is : Won u c → rowBefore u c ≡ rowAt u i
+  unfolding found
+  row-is (won j o n h) =
+      let p : (requestIn c) .user ≡ name = same-name _ _ (sym (subject-won u c j o n) ∙ of) in
+      let q : row j ≡ row i = sym (o .at) ∙ ap (lookup u) p ∙ here in
+      o .before ∙ ap (rowAt u) (same-row j i q)
+
+pub cut-opened-first : CutOpenedFirst
+unfolding cutFor firstAlone pick
+cut-opened-first t before c name i a others h s of cut on =
+    let u : List ℕ = (run t before) .table in
+    let e : succeeds u c && exceeds ((requestIn c) .ask) (said u c) ≡ true = cuts _ (sym (cut-exactly u c) ∙ cut) in
+    let w : Won u c = won-went u c (and-left (succeeds u c) _ e) (went u c) in
+    let at : rowBefore u c ≡ rowAt u i = row-is u name i c (lookup-stays t before name ∙ h) of w in
+    let line : Some (sessions (a ∷ others)) (lineOf u i) = rw (on, at) at (asked-some ((requestIn c) .ask) (said u c)) in
+    record {
+      cut = rw (and-right (succeeds u c) _ e, on);
+      in-order = through line (opened-in-order t before name i h s);
+    }

@@ -7,11 +7,11 @@ use Prim.Native.Nat.{ℕ}
 use lib.Dec.{eqb}
 use Rattle.octets.specs.Choice.{pick}
 use Rattle.message.specs.ReadingAMessage.{Ask, tunnel, policy, termination}
-use Rattle.table.specs.TheTable.{row, lookup, rowAt, readRow}
+use Rattle.table.specs.TheTable.{Access, row, lookup, rowAt, readRow}
 use Rattle.table.specs.Soundness.{sound, sessions}
-use Rattle.decision.specs.Calls.{Call, Reply, run}
-use Rattle.order.specs.Demand2.{requestIn}
-use Rattle.order.specs.Demand3.{subscriber, isOf}
+use Rattle.decision.specs.Calls.{Call, Reply, handle, run}
+use Rattle.order.specs.Demand2.{requestIn, said, onAsked, cutFor}
+use Rattle.order.specs.Demand3.{subscriber, subject, isOf}
 
 -- The Session-Id that a request asks to open.
 unfoldable pub newSession : Ask → List (List ℕ)
@@ -41,3 +41,16 @@ abbrev pub OpenedInOrder : Type 0
 OpenedInOrder =
     (t : List ℕ) (cs : List Call) (name : List ℕ) (i : ℕ) → lookup t name ≡ row i → sound (rowAt t i) ≡ true
     → Some (lineOf ((run t cs) .table) i) (lineOf t i ++ openings name cs ((run t cs) .replies))
+
+-- So what a call cuts was opened first: of the accesses on its entry, which stand in the order of their opening, it is the
+-- first one. `before` are the calls before it, of whomever.
+pub record CutFirst (t : List ℕ) (before : List Call) (c : Call) (name : List ℕ) (i : ℕ) (a : Access) (others : List Access) : Type 0 where
+  pub cut : cutFor ((requestIn c) .ask) (said ((run t before) .table) c) ≡ a ∷ []
+  pub in-order : Some (sessions (a ∷ others)) (lineOf t i ++ openings name before ((run t before) .replies))
+
+abbrev pub CutOpenedFirst : Type 0
+CutOpenedFirst =
+    (t : List ℕ) (before : List Call) (c : Call) (name : List ℕ) (i : ℕ) (a : Access) (others : List Access)
+    → lookup t name ≡ row i → sound (rowAt t i) ≡ true → subject c ≡ subscriber name
+    → (handle ((run t before) .table) c) .reply .result .cut ≡ 1
+    → onAsked ((requestIn c) .ask) (said ((run t before) .table) c) ≡ a ∷ others → CutFirst t before c name i a others
