@@ -1,7 +1,7 @@
 -- Over rows: what a subject gets depends on its own calls alone, since a call touches only the first row that its subject
 -- finds, and no change to a row changes by whom it is found.
 use mathlib.Core.Path.{_≡_, refl, sym, ap, _∙_, subst}
-use mathlib.Core.Bool.{Bool, true, false, _&&_, not}
+use mathlib.Core.Bool.{true, false}
 use mathlib.Core.List.{List, [], _∷_}
 use Prim.Native.Nat.{ℕ}
 use Rattle.octets.specs.Choice.{pick}

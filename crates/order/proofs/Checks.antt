@@ -1,34 +1,26 @@
 -- Demand 2: code, success, cut, and what stays; case by case of how a call goes.
 use mathlib.Core.Path.{_≡_, refl, sym, ap, _∙_}
-use mathlib.Core.Bool.{Bool, true, false, _&&_, not}
-use mathlib.Core.List.{List, [], _∷_, _++_}
-use Prim.Native.Nat.{ℕ, _/_, _*_, _<_}
+use mathlib.Core.Bool.{true, false}
+use mathlib.Core.List.{List, [], _∷_}
+use Prim.Native.Nat.{ℕ}
 use native.Mathlib.Omega.{arith}
-use borrow.Author.Tests.{eqb-true, eqb-false, eq-eqb, not-true}
+use borrow.Author.Tests.{eqb-true, eqb-false, not-true}
 use lib.Dec.{eqb}
 use lib.ListN.{length}
 use Rattle.octets.specs.Choice.{pick}
-use Rattle.octets.proofs.Choice.{by-pick, first-passes}
 use Rattle.octets.proofs.Lists.{by-test, and-left, and-right}
 use Rattle.message.specs.Codes.{Code, plain, numberOf, kindOf}
-use Rattle.message.specs.ReadingAMessage.{Ask, readingCode, command, avps}
-use Rattle.table.specs.TheTable.{Access, Subscriber, Found, row, nothing, isFound, lookup, rows, firstRow, cutInRows, isRowOf, rowAt, withRow, rowLength, tableNumber, readRow, rowBytes}
-use Rattle.table.specs.Soundness.{sound}
-use Rattle.table.proofs.Bytes.{length-row}
-use Rattle.table.proofs.Good.{Good}
-use Rattle.table.proofs.Rows.{whole-rows}
-use Rattle.table.proofs.Sound.{says-good, sound-row}
-use Rattle.decision.specs.Deciding.{Verdict, decide, refuse}
-use Rattle.decision.specs.Calls.{Call, Left, Reply, Result, callNumber, silent, reply, refusal, settled, resultOf, noticeRoom, handle}
-use Rattle.decision.proofs.Stay.{fitting, stays}
-use Rattle.order.specs.Demand2.{Check, firstFailing, noneFails, decidingChecks, requestIn, found, rowBefore, said, checks, succeeds, exceeds, onAsked, firstAlone, cutFor, placeTaken, afterwards, CodeOf, Unchanged, Replaced}
+use Rattle.message.specs.ReadingAMessage.{Ask}
+use Rattle.table.specs.TheTable.{Access, Subscriber, isFound, rowAt, withRow, readRow, rowBytes}
+use Rattle.table.proofs.Sound.{says-good}
+use Rattle.decision.specs.Deciding.{Verdict, refuse}
+use Rattle.decision.specs.Calls.{Call, Left, callNumber, silent, reply, refusal, settled, resultOf, noticeRoom, handle}
+use Rattle.order.specs.Demand2.{Check, firstFailing, noneFails, requestIn, found, said, checks, succeeds, exceeds, onAsked, cutFor, placeTaken, afterwards, CodeOf, Unchanged}
 use Rattle.order.specs.Demand2.{FirstFailingCheck, SuccessExactly, RefusedChangesNothing, CutExactly, OneToCut, SuccessReply, SuccessFindsRow}
-use Rattle.order.proofs.Read.{other, call-other, ask-fits}
+use Rattle.order.proofs.Read.{other, call-other}
 use Rattle.order.proofs.Decided.{Decided, refuses, grants, granting, cutBy, decided}
 use Rattle.order.proofs.Cuts.{FirstCut, cut-first, cut-none}
-use Rattle.order.proofs.Answered.{Stops, Went, OnRow, unanswered, stopped, reached, went, verdict, decisive}
-use Rattle.order.proofs.Tables.{at-with, at-other, length-cut}
-use Rattle.order.proofs.Handling.{There, there}
+use Rattle.order.proofs.Answered.{Went, OnRow, unanswered, stopped, reached, went, verdict, decisive}
 
 false-true : {P : Type 0} → false ≡ true → P
 false-true e = let y : _≡_ {A = ℕ} 0 1 = cc in absurd (omega arith)

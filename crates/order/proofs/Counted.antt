@@ -1,19 +1,19 @@
 -- Demand 3 for a subscriber's calls together with refused ones that are counted as that subscriber's.
 use mathlib.Core.Path.{_≡_, refl, sym, ap, _∙_}
-use mathlib.Core.Bool.{Bool, true, false, _&&_}
-use mathlib.Core.List.{List, [], _∷_, _++_, map}
+use mathlib.Core.Bool.{Bool, true, false}
+use mathlib.Core.List.{List, [], _∷_, map}
 use Prim.Native.Nat.{ℕ, zero, suc, _/_}
 use native.Mathlib.Omega.{arith}
 use borrow.Author.Tests.{eqb-true, eq-eqb}
 use lib.Dec.{eqb}
 use lib.ListN.{length, take}
-use Rattle.octets.specs.Choice.{pick, require, firstOf}
+use Rattle.octets.specs.Choice.{pick, firstOf}
 use Rattle.octets.specs.Lists.{keep}
 use Rattle.octets.proofs.Choice.{first-passes, others-pass}
-use Rattle.octets.proofs.Lists.{by-test, same-refl}
-use Rattle.message.specs.ReadingAMessage.{Reading, refused, request, read, readingCode, headerCode, walkCode, listCode, command, avps, startsWith, sessionId, userName, valueOf, fieldCode, fields, requestOf}
+use Rattle.octets.proofs.Lists.{by-test}
+use Rattle.message.specs.ReadingAMessage.{read, readingCode, listCode, command, avps, userName, valueOf, requestOf}
 use Rattle.table.specs.TheTable.{cutInRows, rowLength, tableNumber}
-use Rattle.decision.specs.Calls.{Call, Reply, Ran, run}
+use Rattle.decision.specs.Calls.{Call, Reply, run}
 use Rattle.order.specs.Demand3.{Subject, nobody, subscriber, sameSubject, subject, sentBy, isOf, callsOf, recordOf, ownNumber, Counting, nameRead, sender, isBy, callsBy, repliesBy}
 use Rattle.order.specs.Demand3.{SubjectCounts, SenderCounts, NoSender, RepliesAloneBy, RecordAloneBy, SameTableBy, SameRepliesBy}
 use Rattle.order.proofs.Finding.{subject-eq, subject-refl}

@@ -1,7 +1,7 @@
 -- A list of calls on a table is the list on its rows; from there to demand 3.
 use mathlib.Core.Path.{_≡_, refl, sym, ap, _∙_}
-use mathlib.Core.Bool.{Bool, true, false}
-use mathlib.Core.List.{List, [], _∷_, _++_, map}
+use mathlib.Core.Bool.{false}
+use mathlib.Core.List.{List, [], _∷_, map}
 use Prim.Native.Nat.{ℕ, suc, _*_, _/_}
 use borrow.Author.Tests.{eqb-true}
 use lib.Dec.{eqb}
@@ -9,11 +9,10 @@ use lib.ListN.{length, getD}
 use Rattle.octets.specs.Choice.{pick}
 use Rattle.octets.specs.Lists.{keep}
 use Rattle.octets.proofs.Lists.{by-test}
-use Rattle.message.specs.Codes.{plain}
 use Rattle.message.specs.ReadingAMessage.{Reading, refused, request, read}
-use Rattle.table.specs.TheTable.{Found, row, nothing, later, firstRow, lookup, rows, cutInRows, rowAt, rowLength, tableNumber, isRowOf}
+use Rattle.table.specs.TheTable.{Found, row, nothing, later, firstRow, lookup, rows, cutInRows, rowLength, tableNumber, isRowOf}
 use Rattle.table.proofs.Rows.{whole-rows}
-use Rattle.decision.specs.Calls.{Call, Reply, Left, Ran, silent, refusal, onReading, handle, ranFirst, run}
+use Rattle.decision.specs.Calls.{Call, Reply, Left, silent, refusal, onReading, handle, ranFirst, run}
 use Rattle.order.specs.Demand3.{Subject, nobody, subscriber, sameSubject, subject, sentBy, isOf, callsOf, repliesOf, Record, absent, bytes, recordAt, recordOf, ownNumber}
 use Rattle.order.specs.Demand3.{OneReplyEach, EachInTurn, LastTable, RepliesAlone, RecordAlone, LookupStays, SameTable, SameReplies, NobodysReply, NobodyChangesNothing, NobodysReplies}
 use Rattle.order.proofs.Finding.{finds, subject-eq}

@@ -1,29 +1,29 @@
 -- The order line is the order of opening: a new access goes to its end, and every other change leaves out or leaves alone.
-use mathlib.Core.Path.{_≡_, refl, sym, ap, _∙_, subst}
-use mathlib.Core.Bool.{Bool, true, false, _&&_, not}
-use mathlib.Core.List.{List, [], _∷_, _++_, map, append-assoc, append-nil}
-use Prim.Native.Nat.{ℕ, zero, suc, _/_}
+use mathlib.Core.Path.{_≡_, refl, sym, ap, _∙_}
+use mathlib.Core.Bool.{Bool, true, false, _&&_}
+use mathlib.Core.List.{List, [], _∷_, _++_, append-assoc, append-nil}
+use Prim.Native.Nat.{ℕ}
 use native.Mathlib.Omega.{arith}
 use borrow.Author.Tests.{eq-eqb, eqb-true, eqb-false}
 use lib.Dec.{eqb}
-use lib.ListN.{length, getD}
+use lib.ListN.{getD}
 use Rattle.octets.specs.Choice.{pick}
 use Rattle.octets.specs.Lists.{keep}
 use Rattle.octets.proofs.Choice.{by-pick}
 use Rattle.octets.proofs.Lists.{and-left, and-right, by-test}
-use Rattle.message.specs.ReadingAMessage.{Ask, tunnel, policy, termination, readingCode, command, avps, requestOf, Reading, request, read}
-use Rattle.table.specs.TheTable.{Access, Subscriber, Found, row, nothing, later, firstRow, isFound, lookup, rows, isRowOf, rowAt, readRow}
-use Rattle.table.specs.Soundness.{onEntry, sound, sessions}
-use Rattle.changes.specs.Changes.{freed, leave, opened, newAccess, routed, hold}
+use Rattle.message.specs.ReadingAMessage.{Ask, tunnel, policy, termination, readingCode, command, avps, requestOf, request, read}
+use Rattle.table.specs.TheTable.{Access, Subscriber, Found, row, nothing, later, firstRow, lookup, rows, isRowOf, rowAt, readRow}
+use Rattle.table.specs.Soundness.{onEntry, sessions}
+use Rattle.changes.specs.Changes.{freed, leave, opened, newAccess, routed}
 use Rattle.changes.proofs.Stays.{sids-hold, sids-snoc}
-use Rattle.decision.specs.Calls.{Call, Left, Ran, Reply, handle, run, ranFirst, callNumber}
-use Rattle.order.specs.Demand2.{requestIn, found, rowBefore, said, succeeds, exceeds, onAsked, firstAlone, cutFor, afterwards, spared, Replaced}
-use Rattle.order.specs.Demand3.{Subject, subscriber, isOf, subject, sameSubject, ownNumber}
-use Rattle.order.specs.OpenedFirst.{newSession, openings, Some, end, leaves, keeps, lineOf, OpenedInOrder, CutFirst, CutOpenedFirst}
-use Rattle.order.proofs.Finding.{finds, finds-owner, ownerOf, subject-refl}
+use Rattle.decision.specs.Calls.{Call, handle, run, ranFirst, callNumber}
+use Rattle.order.specs.Demand2.{requestIn, found, rowBefore, said, succeeds, exceeds, onAsked, firstAlone, cutFor, afterwards, spared}
+use Rattle.order.specs.Demand3.{subscriber, isOf, subject, ownNumber}
+use Rattle.order.specs.OpenedFirst.{newSession, openings, Some, end, leaves, keeps, lineOf, OpenedInOrder, CutOpenedFirst}
+use Rattle.order.proofs.Finding.{finds, finds-owner, subject-refl, same-row}
 use Rattle.order.proofs.Handling.{was-read, number-good}
 use Rattle.order.proofs.Lists.{lookup-stays}
-use Rattle.order.proofs.Checks.{cut-exactly, success-exactly, success-finds-row, refused-changes-nothing, Won, won, won-went}
+use Rattle.order.proofs.Checks.{cut-exactly, success-exactly, refused-changes-nothing, Won, won, won-went}
 use Rattle.order.proofs.Answered.{OnRow, went}
 use Rattle.order.proofs.Rest.{success-replaces-row, other-rows-stay, sound-stays-sound, rows-there}
 
@@ -110,9 +110,6 @@ one-name t a b i p q =
 
 not-nothing : (i : ℕ) → nothing ≡ row i → ⊥
 not-nothing i e = let y : _≡_ {A = ℕ} 0 1 = cc in omega arith
-
-same-row : (i j : ℕ) → row i ≡ row j → i ≡ j
-same-row i j e = cc
 
 -- ONE CALL
 

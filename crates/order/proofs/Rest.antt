@@ -1,27 +1,26 @@
 -- What stays: the rows that a call does not find, and the soundness of every row.
 use mathlib.Core.Path.{_≡_, refl, sym, ap, _∙_}
-use mathlib.Core.Bool.{Bool, true, false, _&&_, not}
-use mathlib.Core.List.{List, [], _∷_, _++_}
-use Prim.Native.Nat.{ℕ, _/_, _*_, _<_}
-use native.Mathlib.Omega.{arith}
+use mathlib.Core.Bool.{Bool, true}
+use mathlib.Core.List.{List, [], _∷_}
+use Prim.Native.Nat.{ℕ, _/_, _<_}
 use borrow.Author.Tests.{eqb-true, eqb-false}
 use lib.Dec.{eqb}
 use lib.ListN.{length}
-use Rattle.octets.specs.Choice.{pick}
 use Rattle.octets.proofs.Choice.{by-pick, first-passes}
 use Rattle.octets.proofs.Lists.{by-test}
 use Rattle.message.specs.Codes.{numberOf}
 use Rattle.message.specs.ReadingAMessage.{readingCode}
-use Rattle.table.specs.TheTable.{Subscriber, Found, row, nothing, lookup, rows, firstRow, cutInRows, isRowOf, rowAt, withRow, rowLength, tableNumber, readRow, rowBytes}
+use Rattle.table.specs.TheTable.{Subscriber, row, lookup, rows, firstRow, cutInRows, isRowOf, rowAt, withRow, rowLength, tableNumber, readRow, rowBytes}
 use Rattle.table.specs.Soundness.{sound}
 use Rattle.table.proofs.Bytes.{length-row, read-row}
 use Rattle.table.proofs.Good.{Good}
 use Rattle.table.proofs.Rows.{whole-rows}
 use Rattle.table.proofs.Sound.{says-good, sound-row}
-use Rattle.decision.specs.Deciding.{Verdict, decide}
-use Rattle.decision.specs.Calls.{Call, Left, Ran, callNumber, silent, refusal, settled, handle, ranFirst, run}
+use Rattle.decision.specs.Deciding.{Verdict}
+use Rattle.decision.specs.Calls.{Call, Left, callNumber, silent, refusal, settled, handle, ranFirst, run}
 use Rattle.decision.proofs.Stay.{fitting, stays}
 use Rattle.order.specs.Demand2.{requestIn, found, checks, noneFails, afterwards, Replaced, SuccessReplacesRow, OtherRowsStay, SoundStaysSound, SoundStaysInList}
+use Rattle.order.proofs.Finding.{same-row}
 use Rattle.order.proofs.Read.{ask-fits}
 use Rattle.order.proofs.Answered.{Went, OnRow, unanswered, stopped, reached, went, verdict}
 use Rattle.order.proofs.Decided.{granting}
@@ -64,9 +63,6 @@ module _ (t : List ℕ) (c : Call) where
   unfolding requestIn
   fits h = ask-fits (c .message) h
 
-  same-row : (k l : ℕ) → row k ≡ row l → k ≡ l
-  same-row k l f = cc
-
   sound-went : (j : ℕ) → sound (rowAt t j) ≡ true → Went t c → sound (rowAt ((handle t c) .table) j) ≡ true
   unfolding silent refusal
   sound-went j s (unanswered a l) = rw l s
@@ -104,7 +100,7 @@ module _ (t : List ℕ) (c : Call) where
       }
 
   replaces-won : (i : ℕ) → found t c ≡ row i → Won t c → Replaced t c i (handle t c)
-  replaces-won i e (won j o a h) = rw (same-row t c i j (sym e ∙ o .at)) (replaces j o a h)
+  replaces-won i e (won j o a h) = rw (same-row i j (sym e ∙ o .at)) (replaces j o a h)
 
 pub success-replaces-row : SuccessReplacesRow
 success-replaces-row t c i h e = replaces-won t c i e (won-went t c h (went t c))

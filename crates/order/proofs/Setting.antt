@@ -1,19 +1,19 @@
 -- Set-up: what is written is sound, since the numbers test what a sound row needs.
 use mathlib.Core.Path.{_≡_, refl, sym, ap, _∙_}
-use mathlib.Core.Bool.{Bool, true, false, _&&_, not}
+use mathlib.Core.Bool.{true, false}
 use mathlib.Core.List.{List, [], _∷_, _++_}
-use Prim.Native.Nat.{ℕ, zero, suc, _+_, _/_, _*_, _≤_, _<_}
+use Prim.Native.Nat.{ℕ, _+_, _/_, _<_}
 use native.Mathlib.Omega.{arith}
-use borrow.Author.Tests.{eqb-true, eqb-false, leb-true, ltb-true}
-use lib.Dec.{eqb, leb, ltb}
+use borrow.Author.Tests.{eqb-true, leb-true, ltb-true}
+use lib.Dec.{eqb}
 use lib.ListN.{length}
-use Rattle.octets.specs.Choice.{pick, firstOf, within}
-use Rattle.octets.specs.Lists.{every, sumOf}
+use Rattle.octets.specs.Choice.{pick}
+use Rattle.octets.specs.Lists.{sumOf}
 use Rattle.octets.specs.Texts.{allZero, zeros}
-use Rattle.octets.proofs.Choice.{by-pick, first-passes, others-pass, passed}
+use Rattle.octets.proofs.Choice.{first-passes, others-pass, passed}
 use Rattle.octets.proofs.Lists.{by-test}
-use Rattle.table.specs.TheTable.{Entry, Subscriber, Found, row, nothing, firstRow, rows, lookup, isRowOf, rowAt, withRow, rowLength, tableNumber, readRow, rowBytes}
-use Rattle.table.specs.Soundness.{isName, labels, limits, sameLabel, sound}
+use Rattle.table.specs.TheTable.{Entry, Subscriber, Found, row, nothing, lookup, isRowOf, rowAt, withRow, rowLength, tableNumber, readRow, rowBytes}
+use Rattle.table.specs.Soundness.{isName, limits, sound}
 use Rattle.table.proofs.Bytes.{length-row, read-row}
 use Rattle.table.proofs.Good.{Good, goodEntry}
 use Rattle.table.proofs.Rows.{whole-rows}

@@ -1,7 +1,7 @@
 -- Demand 2: what stands first on the order line was opened first. The line is the order in which the calls opened the
 -- accesses, with those left out that were cut or ended since.
 use mathlib.Core.Path.{_≡_}
-use mathlib.Core.Bool.{Bool, true, false, _&&_}
+use mathlib.Core.Bool.{true, _&&_}
 use mathlib.Core.List.{List, [], _∷_, _++_}
 use Prim.Native.Nat.{ℕ}
 use lib.Dec.{eqb}

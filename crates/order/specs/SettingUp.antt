@@ -1,6 +1,6 @@
 -- Set-up: a refusal changes nothing; what is written is a sound row; the other rows stay.
 use mathlib.Core.Path.{_≡_}
-use mathlib.Core.Bool.{Bool, true, false}
+use mathlib.Core.Bool.{true, false}
 use mathlib.Core.List.{List}
 use Prim.Native.Nat.{ℕ}
 use lib.Dec.{eqb}
@@ -8,7 +8,7 @@ use lib.ListN.{length}
 use Rattle.octets.specs.Texts.{allZero, zeros}
 use Rattle.table.specs.TheTable.{Entry, Subscriber, row, firstRow, rows, lookup, rowAt, readRow}
 use Rattle.table.specs.Soundness.{sound}
-use Rattle.changes.specs.SetUp.{SetUp, clear, enter, add, named, withEntry}
+use Rattle.changes.specs.SetUp.{clear, enter, add, named, withEntry}
 
 -- Any number but 0 leaves the table as it was.
 abbrev pub ClearRefused : Type 0
