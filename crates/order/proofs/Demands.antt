@@ -3,7 +3,7 @@ use Rattle.order.specs.Demand2.{FirstFailingCheck, SuccessExactly, Refus
 use Rattle.order.specs.Demand3.{OneReplyEach, EachInTurn, LastTable, RepliesAlone, RecordAlone, LookupStays, SameTable, SameReplies, NobodysReply, NobodyChangesNothing, NobodysReplies, SubjectCounts, SenderCounts, NoSender, RepliesAloneBy, RecordAloneBy, SameTableBy, SameRepliesBy}
 use Rattle.order.specs.OpenedFirst.{OpenedInOrder, CutOpenedFirst}
 use Rattle.order.specs.NoSecondAnswer.{OneClearing, OneEntering, OneAdding, OneAnswer}
-use Rattle.order.specs.SettingUp.{ClearRefused, EnterRefused, AddRefused, ClearedZero, EnterWrites, AddWrites}
+use Rattle.order.specs.SettingUp.{ClearRefused, EnterRefused, AddRefused, ClearedZero, EnterWrites, EnteredFound, AddWrites}
 use Rattle.order.proofs.Checks as Checks
 use Rattle.order.proofs.Rest as Rest
 use Rattle.order.proofs.Opening as Opening
@@ -150,6 +150,9 @@ enter-refused = Setting.enter-refused
 
 pub enter-writes : EnterWrites
 enter-writes = Setting.enter-writes
+
+pub entered-found : EnteredFound
+entered-found = Setting.entered-found
 
 pub add-refused : AddRefused
 add-refused = Setting.add-refused

@@ -62,7 +62,7 @@ long-name n r h =
     absurd (omega (arith, leb-false (length n) 15 h)))
     (λ e. e)
 
-front : (n r : List ℕ) → isRowOf n (take 17 r) ≡ isRowOf n r
+pub front : (n r : List ℕ) → isRowOf n (take 17 r) ≡ isRowOf n r
 unfolding isRowOf
 front n r =
     by-test (leb (length n) 15)

@@ -34,6 +34,10 @@ pub record Wrote (t : List ℕ) (i : ℕ) (says : Subscriber) (after : List ℕ)
 abbrev pub EnterWrites : Type 0
 EnterWrites = (t name : List ℕ) (i : ℕ) → (enter t name) .number ≡ 0 → firstRow allZero (rows t) ≡ row i → Wrote t i (named name) ((enter t name) .table)
 
+-- The name is then found in that row.
+abbrev pub EnteredFound : Type 0
+EnteredFound = (t name : List ℕ) (i : ℕ) → (enter t name) .number ≡ 0 → firstRow allZero (rows t) ≡ row i → lookup ((enter t name) .table) name ≡ row i
+
 -- Adding writes the subscriber's row: what it said, and one entry more, as given.
 abbrev pub AddWrites : Type 0
 AddWrites =
