@@ -88,7 +88,7 @@ module _ (t : List ℕ) (c : Call) where
   abbrev behind : List Check
   behind = check (isFound (found t c)) userUnknown ∷ check (sound (rowBefore t c)) (plain 5012) ∷ decidingChecks ((requestIn c) .ask) (c .wag) (said t c)
 
-  no-answer : eqb (callNumber t c) 0 ≡ false → handle t c ≡ silent t c (callNumber t c)
+  pub no-answer : eqb (callNumber t c) 0 ≡ false → handle t c ≡ silent t c (callNumber t c)
   unfolding handle pick
   no-answer e = rw e
 

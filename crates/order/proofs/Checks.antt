@@ -16,11 +16,11 @@ use Rattle.table.proofs.Sound.{says-good}
 use Rattle.decision.specs.Deciding.{Verdict, refuse}
 use Rattle.decision.specs.Calls.{Call, Left, callNumber, silent, reply, refusal, settled, resultOf, noticeRoom, handle}
 use Rattle.order.specs.Demand2.{Check, firstFailing, noneFails, requestIn, found, said, checks, succeeds, exceeds, onAsked, cutFor, placeTaken, afterwards, CodeOf, Unchanged}
-use Rattle.order.specs.Demand2.{FirstFailingCheck, SuccessExactly, RefusedChangesNothing, CutExactly, OneToCut, SuccessReply, SuccessFindsRow}
+use Rattle.order.specs.Demand2.{FirstFailingCheck, SuccessExactly, RefusedChangesNothing, UnansweredLeaves, RefusedLeaves, CutExactly, OneToCut, SuccessReply, SuccessFindsRow}
 use Rattle.order.proofs.Read.{other, call-other}
 use Rattle.order.proofs.Decided.{Decided, refuses, grants, granting, cutBy, decided}
 use Rattle.order.proofs.Cuts.{FirstCut, cut-first, cut-none}
-use Rattle.order.proofs.Answered.{Went, OnRow, unanswered, stopped, reached, went, verdict, decisive}
+use Rattle.order.proofs.Answered.{Went, OnRow, unanswered, stopped, reached, went, no-answer, verdict, decisive}
 
 false-true : {P : Type 0} → false ≡ true → P
 false-true e = let y : _≡_ {A = ℕ} 0 1 = cc in absurd (omega arith)
@@ -151,6 +151,26 @@ module _ (t : List ℕ) (c : Call) where
       let n : noneFails (decisive t c i) ≡ false = sym (o .none) ∙ (rw a at h) in
       let r : ((verdict t c i) .cut ≡ []) × ((verdict t c i) .place ≡ 0) = refused-cut _ _ _ _ (how t c i) n in
       rw (o .leaves) (settled-refused t c i (verdict t c i) (decided-none _ _ _ _ (grants-2001 t c i) (how t c i) ∙ n) (r .0) (r .1))
+
+  settled-refusal : (i : ℕ) → noneFails (decisive t c i) ≡ false → settled t c i (verdict t c i) ≡ refusal t c ((verdict t c i) .code)
+  unfolding settled refusal pick
+  settled-refusal i n =
+      let r : ((verdict t c i) .cut ≡ []) × ((verdict t c i) .place ≡ 0) = refused-cut _ _ _ _ (how t c i) n in
+      rw (decided-none _ _ _ _ (grants-2001 t c i) (how t c i) ∙ n, r .0, r .1)
+
+  leaves-went : callNumber t c ≡ 0 → succeeds t c ≡ false → Went t c → handle t c ≡ refusal t c (firstFailing (checks t c))
+  unfolding succeeds
+  leaves-went z h (unanswered a l) = absurd (eqb-false (callNumber t c) 0 a z)
+  leaves-went z h (stopped code a s l) = l ∙ ap (refusal t c) (sym (s .first))
+  leaves-went z h (reached i a o) =
+      let n : noneFails (decisive t c i) ≡ false = sym (o .none) ∙ (rw a at h) in
+      o .leaves ∙ settled-refusal i n ∙ ap (refusal t c) (sym (o .first ∙ decided-first _ _ _ _ (how t c i)))
+
+pub unanswered-leaves : UnansweredLeaves
+unanswered-leaves t c h = no-answer t c h
+
+pub refused-leaves : RefusedLeaves
+refused-leaves t c z h = leaves-went t c z h (went t c)
 
 pub refused-changes-nothing : RefusedChangesNothing
 refused-changes-nothing t c h = refused-went t c (sym (success-exactly t c) ∙ h) (went t c)

@@ -1,5 +1,5 @@
 -- The demands, each a statement of specs/ with its proof, which stands in the file that is cited.
-use Rattle.order.specs.Demand2.{FirstFailingCheck, SuccessExactly, RefusedChangesNothing, CutExactly, OneToCut, SuccessReply, SuccessFindsRow, SuccessReplacesRow, OtherRowsStay, SoundStaysSound, SoundStaysInList}
+use Rattle.order.specs.Demand2.{FirstFailingCheck, SuccessExactly, RefusedChangesNothing, UnansweredLeaves, RefusedLeaves, CutExactly, OneToCut, SuccessReply, SuccessFindsRow, SuccessReplacesRow, OtherRowsStay, SoundStaysSound, SoundStaysInList}
 use Rattle.order.specs.Demand3.{OneReplyEach, EachInTurn, LastTable, RepliesAlone, RecordAlone, LookupStays, SameTable, SameReplies, NobodysReply, NobodyChangesNothing, NobodysReplies, SubjectCounts, SenderCounts, NoSender, RepliesAloneBy, RecordAloneBy, SameTableBy, SameRepliesBy}
 use Rattle.order.specs.OpenedFirst.{OpenedInOrder, CutOpenedFirst}
 use Rattle.order.specs.NoSecondAnswer.{OneClearing, OneEntering, OneAdding, OneAnswer}
@@ -38,6 +38,13 @@ success-exactly = Checks.success-exactly
 -- a refused request changes no record and cuts nothing
 pub refused-changes-nothing : RefusedChangesNothing
 refused-changes-nothing = Checks.refused-changes-nothing
+
+-- all that a call leaves that gets no answer, or that is refused
+pub unanswered-leaves : UnansweredLeaves
+unanswered-leaves = Checks.unanswered-leaves
+
+pub refused-leaves : RefusedLeaves
+refused-leaves = Checks.refused-leaves
 
 -- a cut happens exactly when the new tunnel would exceed the limit on that access point name
 pub cut-exactly : CutExactly
