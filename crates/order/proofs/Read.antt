@@ -1,21 +1,21 @@
 -- What was read: no failing test gives 2001, and a request brings texts that fit a row.
-use mathlib.Core.Path.{_≡_, refl, sym, ap, _∙_}
-use mathlib.Core.Bool.{Bool, true, false, _&&_, _||_, not}
+use mathlib.Core.Path.{_≡_, refl, sym, _∙_}
+use mathlib.Core.Bool.{Bool, true, false, _||_, not}
 use mathlib.Core.List.{List, [], _∷_, _++_, map}
-use Prim.Native.Nat.{ℕ, zero, suc, _+_, _-_, _≤_, _<_}
+use Prim.Native.Nat.{ℕ, zero, suc, _≤_}
 use native.Mathlib.Omega.{arith}
-use borrow.Author.Tests.{eqb-true, leb-true, le-leb}
-use lib.Dec.{eqb, leb}
+use borrow.Author.Tests.{le-leb}
+use lib.Dec.{eqb}
 use lib.ListN.{length, drop}
 use Rattle.octets.specs.Choice.{pick, require, firstOf, within}
-use Rattle.octets.specs.Lists.{every, keep}
+use Rattle.octets.specs.Lists.{every}
 use Rattle.octets.specs.Numbers.{up4}
 use Rattle.octets.proofs.Choice.{by-pick, first-passes, others-pass, passed}
 use Rattle.octets.proofs.Lists.{and-left, and-right, both, by-test, every-map, every-of, within-high}
 use Rattle.message.specs.CallsThatGetNoAnswer.{messageNumber}
-use Rattle.message.specs.ReadingAMessage.{Name, Avp, Walk, Field, Ask, tunnel, policy, termination, headerCode, avpLength, avpCode, avpOf, behind, walkOne, walkUpTo, walk, body, avps, walkCode, having, firstValue, valueOf, testedAs, fieldCode, forBoth, for265, for275, fields, listCode, readingCode, command, typeOf, askOf, requestOf, textField, labelField, numberField, sessionId, originHost, routingPolicy}
+use Rattle.message.specs.ReadingAMessage.{Name, Avp, Walk, Field, Ask, headerCode, avpLength, avpCode, behind, walkOne, walkUpTo, walk, body, avps, walkCode, having, firstValue, valueOf, testedAs, fieldCode, forBoth, for265, for275, fields, listCode, readingCode, command, typeOf, askOf, requestOf, textField, sessionId, originHost, routingPolicy}
 use Rattle.table.specs.TheTable.{tableNumber}
-use Rattle.decision.specs.Calls.{Call, callNumber, answerLeast, noticeLength}
+use Rattle.decision.specs.Calls.{Call, callNumber}
 use Rattle.decision.proofs.Stay.{fitting}
 
 -- NO FAILING TEST GIVES 2001
