@@ -109,7 +109,7 @@ pub answered-is : (k : Kind) (n : ℕ) (m host realm room notice : List ℕ) (wa
 unfolding leaves reply callOf
 answered-is k n m host realm room notice wag place cut o t a u ea eo eu =
     let r : resultSaid o ≡ resultOf (length (answer m host realm (codeFrom k n))) place (codeFrom k n) cut =
-      ap resultSaid eo ∙ result-is k n (length (answer m host realm (codeFrom k n))) place cut in
+    ap resultSaid eo ∙ result-is k n (length (answer m host realm (codeFrom k n))) place cut in
     λ i. record { reply = record { result = r i; answer = ea i; notice = eu i }; table = t }
 
 pub settled-is : (t : List ℕ) (i : ℕ) (m host realm room notice : List ℕ) (wag : Bool) (v : Verdict) (k : Kind) (n : ℕ) (d : Done) (o : Outcome) (t′ a u : List ℕ)
@@ -123,6 +123,6 @@ pub settled-is : (t : List ℕ) (i : ℕ) (m host realm room notice : List ℕ) 
 unfolding settled tableAfter doneFor
 settled-is t i m host realm room notice wag v k n d o t′ a u ec et eu ed ea eo =
     let eo′ : o ≡ record { code = n; kind = k; length = length (answer m host realm (codeFrom k n)); place = v .place; cut = cutFor (v .cut) } =
-      eo ∙ ap (λ (x : Done). record { code = n; kind = k; length = length (answer m host realm (codeFrom k n)); place = x .place; cut = x .cut }) ed in
+    eo ∙ ap (λ (x : Done). record { code = n; kind = k; length = length (answer m host realm (codeFrom k n)); place = x .place; cut = x .cut }) ed in
     answered-is k n m host realm room notice wag (v .place) (v .cut) o t′ a u ea eo′ eu
     ∙ (λ j. record { reply = reply (callOf m host realm room notice wag) (sym ec j) (v .place) (v .cut); table = et j })

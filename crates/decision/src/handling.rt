@@ -9,6 +9,7 @@ use message::Asked;
 use message::Kind;
 use message::Span;
 use message::Told;
+use table::RowFound;
 ghost use mathlib.Core.Path.{_≡_};
 ghost use mathlib.Core.Bool.{Bool, true};
 ghost use mathlib.Core.List.{List, []};
@@ -20,9 +21,9 @@ ghost use Rattle.message.specs.Kinds.{codeFrom};
 ghost use Rattle.message.specs.Spans.{asks, bytesOf, hasProxies, isInside, spansIn};
 ghost use Rattle.message.specs.WritingTheAnswer.{answer, answerRoom};
 ghost use Rattle.answers.specs.Answers.{Answerable};
-ghost use Rattle.decision.specs.Calls.{Call, callNumber, handle, refusal, settled};
+ghost use Rattle.decision.specs.Calls.{callNumber, handle, onRow, refusal, settled};
 ghost use Rattle.message.specs.ReadingAMessage.{read, request};
-ghost use Rattle.table.specs.TheTable.{readRow, rowAt};
+ghost use Rattle.table.specs.TheTable.{lookup, readRow, rowAt, tableNumber};
 ghost use Rattle.table.specs.Soundness.{sound};
 ghost use Rattle.decision.specs.Deciding.{decide};
 ghost use Rattle.decision.specs.Plans.{planned, fitPlan};
@@ -39,7 +40,14 @@ fn name_fits(s: &[u8]) -> bool
 }
 
 // The first of the numbers 1 to 8 that a call is refused with, 0 where none is.
-fn call_number(table: &[u8], host: &[u8], realm: &[u8], message: &[u8], answer: &[u8], notice: &[u8]) -> u32
+fn call_number(
+    table: &[u8],
+    host: &[u8],
+    realm: &[u8],
+    message: &[u8],
+    answer: &[u8],
+    notice: &[u8],
+) -> u32
     ensures { λ r. ⌜ ((wag : Bool) → r ≡ callNumber (now (table .entry)) (callOf (now (message .entry)) (now (host .entry)) (now (realm .entry)) (now (answer .entry)) (now (notice .entry)) wag)) ⌝ }
 {
     let n = table::table_number(table);
@@ -125,7 +133,12 @@ fn session_span(asked: Asked) -> Span
     ensures { λ r. ⌜ ((m : List ℕ) → (bytesOf m r ≡ sessionText m asked) × (every (isInside m) (spansIn asked) ≡ true → isInside m r ≡ true)) ⌝ }
 {
     match asked {
-        Asked::Tunnel { session, host, label, visited } => session,
+        Asked::Tunnel {
+            session,
+            host,
+            label,
+            visited,
+        } => session,
         Asked::Policy { session, route } => session,
         Asked::Termination { session, label } => session,
     }
@@ -135,7 +148,12 @@ fn host_span(asked: Asked) -> Span
     ensures { λ r. ⌜ ((m : List ℕ) → (bytesOf m r ≡ hostText m asked) × (every (isInside m) (spansIn asked) ≡ true → isInside m r ≡ true)) ⌝ }
 {
     match asked {
-        Asked::Tunnel { session, host, label, visited } => host,
+        Asked::Tunnel {
+            session,
+            host,
+            label,
+            visited,
+        } => host,
         Asked::Policy { session, route } => Span { at: 0, len: 0 },
         Asked::Termination { session, label } => Span { at: 0, len: 0 },
     }
@@ -145,7 +163,12 @@ fn route_span(asked: Asked) -> Span
     ensures { λ r. ⌜ ((m : List ℕ) → (bytesOf m r ≡ routeText m asked) × (every (isInside m) (spansIn asked) ≡ true → isInside m r ≡ true)) ⌝ }
 {
     match asked {
-        Asked::Tunnel { session, host, label, visited } => Span { at: 0, len: 0 },
+        Asked::Tunnel {
+            session,
+            host,
+            label,
+            visited,
+        } => Span { at: 0, len: 0 },
         Asked::Policy { session, route } => route,
         Asked::Termination { session, label } => Span { at: 0, len: 0 },
     }
@@ -169,7 +192,12 @@ fn plan_for(row: &[u8], m: &[u8], asked: Asked, wag: bool) -> Plan
         × (fitting (asks (now (m .entry)) asked) ≡ true → fitPlan (routeText (now (m .entry)) asked) r (now (row .entry)) ≡ true) ⌝ }
 {
     match asked {
-        Asked::Tunnel { session, host, label, visited } => {
+        Asked::Tunnel {
+            session,
+            host,
+            label,
+            visited,
+        } => {
             return deciding::plan_tunnel(row, text(m, session), text(m, label), visited);
         }
         Asked::Policy { session, route } => {
@@ -182,7 +210,15 @@ fn plan_for(row: &[u8], m: &[u8], asked: Asked, wag: bool) -> Plan
 }
 
 // A refusal: the answer is written, nothing else is changed.
-fn refuse(m: &[u8], host: &[u8], realm: &[u8], kind: Kind, code: u32, proxies: bool, room: &mut [u8]) -> Outcome
+fn refuse(
+    m: &[u8],
+    host: &[u8],
+    realm: &[u8],
+    kind: Kind,
+    code: u32,
+    proxies: bool,
+    room: &mut [u8],
+) -> Outcome
     requires { ⌜ Ready (now m) (now host) (now realm) (now room) × (proxies ≡ hasProxies (now m)) × (code ≡ 2001 → ⊥) ⌝ }
     ensures { λ r. ⌜ ((table notice : List ℕ) (wag : Bool) → leaves r table (now (room .exit)) notice
         ≡ refusal table (callOf (now (m .entry)) (now (host .entry)) (now (realm .entry)) (now (room .entry)) notice wag) (codeFrom kind code)) ⌝ }
@@ -191,7 +227,17 @@ fn refuse(m: &[u8], host: &[u8], realm: &[u8], kind: Kind, code: u32, proxies: b
         place: 0,
         cut: Cut::NoCut,
     };
-    answer_call(m, host, realm, kind, code, Span { at: 0, len: 0 }, proxies, none, room)
+    answer_call(
+        m,
+        host,
+        realm,
+        kind,
+        code,
+        Span { at: 0, len: 0 },
+        proxies,
+        none,
+        room,
+    )
 }
 
 // A request on row i, which is sound: what is decided is carried out and answered.
@@ -222,5 +268,106 @@ fn settle(
     let gateway = text(m, host_span(asked));
     let route = text(m, route_span(asked));
     let done = carrying::carry(table, i, plan, session, gateway, route, notice);
-    answer_call(m, host, realm, kind_of(plan), code_of(plan), user, proxies, done, room)
+    answer_call(
+        m,
+        host,
+        realm,
+        kind_of(plan),
+        code_of(plan),
+        user,
+        proxies,
+        done,
+        room,
+    )
+}
+
+// A request that was read: the user's row is found and tested, then the request is settled on it.
+fn on_request(
+    table: &mut [u8],
+    m: &[u8],
+    host: &[u8],
+    realm: &[u8],
+    wag: bool,
+    user: Span,
+    asked: Asked,
+    proxies: bool,
+    room: &mut [u8],
+    notice: &mut [u8],
+) -> Outcome
+    requires { ⌜ Ready (now m) (now host) (now realm) (now room) × (256 ≤ length (now notice)) × (tableNumber (now table) ≡ 0)
+        × (every (isInside (now m)) (spansIn asked) ≡ true) × (isInside (now m) user ≡ true) × (proxies ≡ hasProxies (now m))
+        × (read (now m) ≡ request (record { user = bytesOf (now m) user; ask = asks (now m) asked })) ⌝ }
+    ensures { λ r. ⌜ leaves r (now (table .exit)) (now (room .exit)) (now (notice .exit))
+        ≡ onRow (now (table .entry)) (callOf (now (m .entry)) (now (host .entry)) (now (realm .entry)) (now (room .entry)) (now (notice .entry)) wag)
+        (record { user = bytesOf (now (m .entry)) user; ask = asks (now (m .entry)) asked }) (lookup (now (table .entry)) (bytesOf (now (m .entry)) user)) ⌝ }
+{
+    let found = table::lookup(table, text(m, user));
+    let RowFound::At(i) = found else {
+        return refuse(m, host, realm, Kind::Experimental, 5001, proxies, room);
+    };
+    let a = 4608 * i;
+    let e = a + 4608;
+    if !table::row_sound(&table[a..e]) {
+        return refuse(m, host, realm, Kind::Plain, 5012, proxies, room);
+    }
+    settle(
+        table,
+        i,
+        m,
+        host,
+        realm,
+        wag,
+        user,
+        asked,
+        proxies,
+        room,
+        notice,
+    )
+}
+
+// One request: read, decided on and answered. Nothing is asked of what is lent; a bad table, name, room or message gets its number.
+pub fn handle(
+    table: &mut [u8],
+    host: &[u8],
+    realm: &[u8],
+    message: &[u8],
+    wag: bool,
+    answer: &mut [u8],
+    notice: &mut [u8],
+) -> Outcome
+    ensures { λ r. ⌜ leaves r (now (table .exit)) (now (answer .exit)) (now (notice .exit))
+        ≡ handle (now (table .entry)) (callOf (now (message .entry)) (now (host .entry)) (now (realm .entry)) (now (answer .entry)) (now (notice .entry)) wag) ⌝ }
+{
+    let n = call_number(table, host, realm, message, answer, notice);
+    if n != 0 {
+        return Outcome {
+            code: n,
+            kind: Kind::NoAnswer,
+            length: 0,
+            place: 0,
+            cut: Cut::NoCut,
+        };
+    }
+    let heard = message::read(message);
+    let told = heard.told;
+    let proxies = heard.proxies;
+    match told {
+        Told::Refused(code) => {
+            return refuse(message, host, realm, Kind::Plain, code, proxies, answer);
+        }
+        Told::Request(user, asked) => {
+            return on_request(
+                table,
+                message,
+                host,
+                realm,
+                wag,
+                user,
+                asked,
+                proxies,
+                answer,
+                notice,
+            );
+        }
+    }
 }

@@ -2,7 +2,9 @@
 mod carrying;
 mod handling;
 
+pub use handling::handle;
 use message::Kind;
+
 mod deciding;
 mod row;
 

@@ -18,7 +18,8 @@ use Rattle.table.proofs.Rows.{whole-rows}
 use Rattle.table.proofs.Sound.{says-good, sound-row}
 use Rattle.decision.specs.Deciding.{Verdict}
 use Rattle.decision.specs.Calls.{Call, Left, callNumber, silent, refusal, settled, handle, ranFirst, run}
-use Rattle.decision.proofs.Stay.{fitting, stays}
+use Rattle.decision.specs.Outcomes.{fitting}
+use Rattle.decision.proofs.Stay.{stays}
 use Rattle.order.specs.Demand2.{requestIn, found, checks, noneFails, afterwards, Replaced, SuccessReplacesRow, OtherRowsStay, SoundStaysSound, SoundStaysInList}
 use Rattle.order.proofs.Finding.{same-row}
 use Rattle.order.proofs.Read.{ask-fits}

@@ -97,9 +97,14 @@ carry-requires c κs =
     let route = c .before .before .text3 .ensures ∙ c .before .before .before .route-span .ensures m .0 in
     let row = lent-row (a .table .now) (4608 * a .i) (a .i) refl in
     let fit = c .before .before .before .before .before .before .before .before .plan-for .ensures .1 (request-fits m _ (start .pre .7)) in
-    let fits : fitPlan (c .before .before .text3 .result .now) (c .before .before .before .before .before .before .before .before .plan-for .result) (rowAt (a .table .now) (a .i)) ≡ true = rw (← route, row) at fit in
-    (start .pre .1, start .pre .2, start .pre .3, fits,
-     omega (arith, ap length session, session-short m _ (a .asked) (start .pre .7)), omega (arith, ap length gateway, host-short m _ (a .asked) (start .pre .7)))
+    let fits : fitPlan (c .before .before .text3 .result .now) (c .before .before .before .before .before .before .before .before .plan-for .result) (rowAt (a .table .now) (a .i)) ≡ true = rw (← route, row) at fit in (
+      start .pre .1,
+      start .pre .2,
+      start .pre .3,
+      fits,
+      omega (arith, ap length session, session-short m _ (a .asked) (start .pre .7)),
+      omega (arith, ap length gateway, host-short m _ (a .asked) (start .pre .7)),
+    )
 
 -- src/handling.rt:225:33
 kind-of-requires : tie.Need-kind-of-requires
@@ -156,11 +161,11 @@ returns c =
     let answered = c .before .before .answer-call .ensures in
     let by : planned (sessionText m (a .asked)) (hostText m (a .asked)) (routeText m (a .asked)) plan s ≡ v = rw row at (c .before .before .before .before .before .before .before .before .before .before .before .before .before .before .before .before .before .before .before .plan-for .ensures .0) in
     let is : planned (c .before .before .before .before .before .before .before .before .before .before .before .before .before .before .before .before .before .text .result .now) (c .before .before .before .before .before .before .before .before .before .before .before .before .before .before .before .text2 .result .now) (c .before .before .before .before .before .before .before .before .before .before .before .before .before .text3 .result .now) plan s ≡ v =
-      (λ j. planned (session j) (gateway j) (route j) plan s) ∙ by in
+    (λ j. planned (session j) (gateway j) (route j) plan s) ∙ by in
     let kind = c .before .before .before .before .before .kind-of .ensures in
     let code = c .before .before .before .before .code-of .ensures in
     let coded : v .code ≡ codeFrom (c .before .before .before .before .before .kind-of .result) (c .before .before .before .before .code-of .result) =
-      ap (λ (x : Verdict). x .code) (sym by) ∙ plan-code (sessionText m (a .asked)) (hostText m (a .asked)) (routeText m (a .asked)) plan s ∙ (λ j. codeFrom (sym kind j) (sym code j)) in
+    ap (λ (x : Verdict). x .code) (sym by) ∙ plan-code (sessionText m (a .asked)) (hostText m (a .asked)) (routeText m (a .asked)) plan s ∙ (λ j. codeFrom (sym kind j) (sym code j)) in
     settled-is (a .table .now) (a .i) m (a .host .now) (a .realm .now) (a .room .now) (a .notice .now) (a .wag) v (c .before .before .before .before .before .kind-of .result) (c .before .before .before .before .code-of .result) (c .before .before .before .before .before .before .before .before .before .before .carry .result) _ _ _ _
     coded (carried .0 ∙ ap (tableAfter (a .table .now) (a .i)) is) (carried .1 ∙ ap (λ (x : Verdict). noticeRoom (x .cut) (a .notice .now)) is) (carried .2 ∙ ap doneFor is)
     (answered .0) (answered .1)
