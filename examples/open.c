@@ -1,0 +1,72 @@
+/* A table of one row: a subscriber with one W-APN opens a tunnel. Prints the outcome, and the answer's bytes. */
+
+/* The kit's compiler comes without headers, so the types and the one function of the C library stand here. */
+#define WM_OWN_TYPES
+typedef __UINT8_TYPE__ uint8_t;
+typedef __UINT32_TYPE__ uint32_t;
+typedef __SIZE_TYPE__ size_t;
+typedef _Bool bool;
+#define false 0
+#define true 1
+int printf(const char *, ...);
+
+#include "../include/wm.h"
+
+static uint8_t table[WM_ROW], message[512], answer[WM_ANSWER_LEAST], notice[WM_NOTICE_LEAST];
+
+#define TEXT(s) (const uint8_t *)(s), sizeof(s) - 1
+
+static size_t put_number(size_t at, size_t bytes, uint32_t n) {
+    for (size_t i = bytes; i-- > 0; n /= 256)
+        message[at + i] = (uint8_t)n;
+    return at + bytes;
+}
+
+/* An AVP: M set; V and the vendor 10415 for those of 3GPP. Its length leaves the padding out. */
+static size_t put_avp(size_t at, uint32_t code, bool of_3gpp, const uint8_t *value, size_t length) {
+    size_t head = of_3gpp ? 12 : 8, end = at + (head + length + 3) / 4 * 4;
+    at = put_number(at, 4, code);
+    at = put_number(at, 1, of_3gpp ? 0xC0 : 0x40);
+    at = put_number(at, 3, (uint32_t)(head + length));
+    if (of_3gpp)
+        at = put_number(at, 4, 10415);
+    for (size_t i = 0; i < length; i++)
+        message[at++] = value[i];
+    while (at < end)
+        message[at++] = 0;
+    return end;
+}
+
+/* AA-Request of type 0 for the W-APN "board". */
+static size_t opening(void) {
+    size_t at = 20;
+    at = put_avp(at, 263, false, TEXT("a"));
+    at = put_avp(at, 258, false, TEXT("\0\0\0\1"));
+    at = put_avp(at, 264, false, TEXT("gateway.example"));
+    at = put_avp(at, 296, false, TEXT("example"));
+    at = put_avp(at, 283, false, TEXT("example"));
+    at = put_avp(at, 274, false, TEXT("\0\0\0\2"));
+    at = put_avp(at, 293, false, TEXT("server.example"));
+    at = put_avp(at, 1, false, TEXT("001010123456789"));
+    at = put_avp(at, 311, true, TEXT("\0\0\0\0"));
+    at = put_avp(at, 100, true, TEXT("board"));
+    put_number(0, 4, 0x01000000 + (uint32_t)at);
+    put_number(4, 4, 0xC0000000 + 265);
+    put_number(8, 4, 1);
+    put_number(12, 4, 7);
+    put_number(16, 4, 9);
+    return at;
+}
+
+int main(void) {
+    printf("clear: %u\n", wm_clear(table, sizeof table));
+    printf("enter: %u\n", wm_enter(table, sizeof table, TEXT("001010123456789")));
+    printf("add: %u\n", wm_add(table, sizeof table, TEXT("001010123456789"), TEXT("board"), 2, 0));
+    struct wm_outcome o = wm_handle(table, sizeof table, TEXT("server.example"), TEXT("example"), message, opening(), true,
+                                    answer, sizeof answer, notice, sizeof notice);
+    printf("code %u, kind %u, place %u, cut %u; an answer of %u bytes:", o.code, o.kind, o.place, o.cut, o.length);
+    for (uint32_t i = 0; i < o.length; i++)
+        printf(i % 16 == 0 ? "\n %02X" : " %02X", answer[i]);
+    printf("\n");
+    return o.code == 2001 && o.kind == 1 ? 0 : 1;
+}
