@@ -2,20 +2,20 @@
 use mathlib.Core.Path.{_≡_, refl, sym, ap, _∙_}
 use mathlib.Core.Bool.{Bool, true, false, _&&_, not}
 use mathlib.Core.List.{List, [], _∷_, _++_, append-assoc, append-nil}
-use Prim.Native.Nat.{ℕ, zero, suc, _+_, _-_, _*_, _/_, _%_, _≤_, _<_}
+use Prim.Native.Nat.{ℕ, zero, suc, _+_, _-_, _≤_, _<_}
 use native.Mathlib.Omega.{arith}
-use borrow.Author.Tests.{leb-true, eqb-true, eqb-false, eq-eqb, ne-eqb, le-leb, lt-leb}
-use lib.Dec.{eqb, leb}
-use lib.ListN.{length, getD, take, drop, length-append, length-take, length-drop}
+use borrow.Author.Tests.{eqb-true, eq-eqb, ne-eqb, le-leb, lt-leb}
+use lib.Dec.{eqb}
+use lib.ListN.{length, take, drop, length-append, length-drop}
 use lib.Seq.{drop-drop, drop-at, length-take-le}
 use Rattle.octets.specs.Choice.{pick, within}
 use Rattle.octets.specs.Lists.{keep}
 use Rattle.octets.specs.Texts.{part, zeros, put}
-use Rattle.octets.specs.Numbers.{net24, net32, in24, in32, up4}
-use Rattle.octets.proofs.Lists.{by-test, and-left, and-right, both, in-within, within-low, within-high}
+use Rattle.octets.specs.Numbers.{net24, in24, in32, up4}
+use Rattle.octets.proofs.Lists.{by-test, and-left, and-right, in-within, within-high}
 use Rattle.octets.proofs.Texts.{length-zeros, length-part, length-put, put-then, put-nothing}
 use Rattle.message.specs.Codes.{Code, none, plain, experimental, numberOf}
-use Rattle.message.specs.ReadingAMessage.{command, flags, headerCode, Name, sameName, Avp, Walk, behind, walkOne, walkUpTo, walk, headLength, avpLength, avpCode, avpOf, avps, walkCode, having, present, valueOf, sessionId, userName, proxyInfo}
+use Rattle.message.specs.ReadingAMessage.{command, headerCode, Name, sameName, Avp, behind, walkOne, walkUpTo, walk, headLength, avpLength, avpCode, avpOf, avps, walkCode, having, present, valueOf, sessionId, userName, proxyInfo}
 use Rattle.message.specs.WritingTheAnswer.{avpBytes, sessionAvp, is3xxx, authAvps, resultAvp, subscriptionAvp, allBytes, proxyAvps, answerBody, answerFlags, answer, answerRoom}
 use Rattle.message.specs.declared.Spot.{Spot}
 use Rattle.message.specs.declared.Span.{Span}
@@ -26,7 +26,7 @@ use Rattle.message.specs.Positions.{names, nameAt, headOf, slotOf, spotAt, head
 use Rattle.message.specs.Spans.{Holds, hasProxies}
 use Rattle.message.specs.Kinds.{codeFrom}
 use Rattle.answers.specs.Answers.{headBytes, answerHead, Written, Answerable, Answered}
-use Rattle.message.proofs.Walks.{Passed, passes, up4-least, head-least}
+use Rattle.message.proofs.Walks.{Passed, passes, up4-least}
 use Rattle.message.proofs.Heads.{net24-drop}
 use Rattle.message.proofs.Gathering.{walk-end, walk-bad, walk-one, head-is-one, head-is-bad, next-place, slot-named, slot-other, having-is, having-not, ahead}
 use Rattle.message.proofs.Readers.{slot-head}

@@ -1,6 +1,6 @@
 -- What the changes and the set-up operations keep: the length of a row, whose it is, every other row, and that it is sound.
 use mathlib.Core.Path.{_≡_, refl, sym, ap, _∙_}
-use mathlib.Core.Bool.{Bool, true}
+use mathlib.Core.Bool.{Bool, true, _&&_}
 use mathlib.Core.List.{List, [], _∷_, _++_}
 use Prim.Native.Nat.{ℕ, zero, suc, _+_, _-_, _*_, _/_, _≤_, _<_}
 use native.Mathlib.Omega.{arith}
@@ -8,11 +8,11 @@ use borrow.Author.Tests.{eqb-false, eqb-true, ltb-false, ltb-true}
 use lib.Dec.{eqb, ltb}
 use lib.ListN.{length, take, drop, getD}
 use lib.Seq.{drop-at, drop-drop, getD-take, length-take-le, take-at}
-use Rattle.octets.specs.Choice.{pick}
+use Rattle.octets.specs.Choice.{pick, within}
 use Rattle.octets.specs.Lists.{sumOf}
-use Rattle.octets.specs.Texts.{allZero, filled, part, put, zeros}
+use Rattle.octets.specs.Texts.{allZero, filled, part, put, same, zeros}
 use Rattle.octets.proofs.Choice.{by-pick, first-passes, others-pass, passed}
-use Rattle.octets.proofs.Lists.{by-test}
+use Rattle.octets.proofs.Lists.{by-test, within-high}
 use Rattle.octets.proofs.Texts.{length-put}
 use Rattle.table.specs.Soundness.{isName, limits, sound}
 use Rattle.table.specs.TheTable.{Entry, Found, Subscriber, cutInRows, firstRow, isRowOf, later, lookup, nothing, readRow, row, rowAt, rowBytes, rows, tableNumber, withRow}
@@ -57,14 +57,22 @@ unfolding withEntry
 added-17 e r h = same-17 (withEntry e) r refl h
 
 -- what a row is found by stands in those bytes
-pub found-17 : (name r q : List ℕ) → take 17 r ≡ take 17 q → length name ≤ 15 → isRowOf name r ≡ isRowOf name q
+test-by-name : (a b m : ℕ) (x y : Bool) → (m ≤ 15 → x ≡ y)
+    → eqb a 1 && (within 1 15 b && (eqb b m && x)) ≡ eqb a 1 && (within 1 15 b && (eqb b m && y))
+test-by-name a b m x y h =
+    by-test (within 1 15 b)
+    (λ w. by-test (eqb b m) (λ e. rw (w, e, h (omega (arith, within-high 1 15 b w, eqb-true b m e)))) (λ e. rw e))
+    (λ w. rw w)
+
+pub found-17 : (name r q : List ℕ) → take 17 r ≡ take 17 q → isRowOf name r ≡ isRowOf name q
 unfolding isRowOf
-found-17 name r q e h =
+found-17 name r q e =
     let a : getD r 0 0 ≡ getD q 0 0 = sym (getD-take 17 r 0 0 (omega arith)) ∙ ap (λ (t : List ℕ). getD t 0 0) e ∙ getD-take 17 q 0 0 (omega arith) in
     let b : getD r 1 0 ≡ getD q 1 0 = sym (getD-take 17 r 1 0 (omega arith)) ∙ ap (λ (t : List ℕ). getD t 1 0) e ∙ getD-take 17 q 1 0 (omega arith) in
-    let p : part r 2 (length name) ≡ part q 2 (length name) =
-    sym (part-take 17 2 (length name) r (omega arith)) ∙ ap (λ (t : List ℕ). part t 2 (length name)) e ∙ part-take 17 2 (length name) q (omega arith) in
-    rw (a, b, p)
+    let p : length name ≤ 15 → same (part r 2 (length name)) name ≡ same (part q 2 (length name)) name =
+    λ h. ap (λ (u : List ℕ). same u name)
+    (sym (part-take 17 2 (length name) r (omega arith)) ∙ ap (λ (t : List ℕ). part t 2 (length name)) e ∙ part-take 17 2 (length name) q (omega arith)) in
+    rw (a, b) (test-by-name (getD q 0 0) (getD q 1 0) (length name) _ _ p)
 
 -- THE ROWS OF A TABLE
 
@@ -137,6 +145,36 @@ found-in f (suc n) t i e =
 pub found-inside : (f : List ℕ → Bool) (t : List ℕ) (i : ℕ) → firstRow f (rows t) ≡ row i → 4608 * i + 4608 ≤ length t
 unfolding rows
 found-inside f t i e = omega (arith, found-in f (length t / 4608) t i e)
+
+-- two tables whose rows a search can not tell apart
+next-row : (t : List ℕ) (j : ℕ) → rowAt (drop 4608 t) j ≡ rowAt t (suc j)
+unfolding rowAt
+next-row t j = let q : 4608 + 4608 * j ≡ 4608 * suc j = omega arith in ap (take 4608) (drop-drop (4608 * j) 4608 t ∙ ap (λ (n : ℕ). drop n t) q)
+
+same-search : (f : List ℕ → Bool) (n : ℕ) (t u : List ℕ) → ((j : ℕ) → f (rowAt t j) ≡ f (rowAt u j)) → firstRow f (cutInRows n t) ≡ firstRow f (cutInRows n u)
+unfolding firstRow cutInRows rowAt
+same-search f zero t u h = refl
+same-search f (suc n) t u h =
+    let first : f (take 4608 t) ≡ f (take 4608 u) = h 0 in
+    let others : firstRow f (cutInRows n (drop 4608 t)) ≡ firstRow f (cutInRows n (drop 4608 u)) =
+    same-search f n (drop 4608 t) (drop 4608 u) (λ j. ap f (next-row t j) ∙ h (suc j) ∙ ap f (sym (next-row u j))) in
+    rw (first, others)
+
+-- a row whose first 17 bytes stay is found as before, and so is every other
+pub lookup-with : (t : List ℕ) (i : ℕ) (r name : List ℕ) → length r ≡ 4608 → 4608 * i + 4608 ≤ length t → take 17 r ≡ take 17 (rowAt t i)
+    → lookup (withRow t i r) name ≡ lookup t name
+unfolding lookup rows
+lookup-with t i r name size inside e =
+    let w : List ℕ = withRow t i r in
+    let each : (j : ℕ) → isRowOf name (rowAt w j) ≡ isRowOf name (rowAt t j) =
+    λ j. by-test (eqb j i)
+    (λ q. ap (λ (n : ℕ). isRowOf name (rowAt w n)) (eqb-true j i q)
+    ∙ ap (isRowOf name) (row-written t i r size inside)
+    ∙ found-17 name r (rowAt t i) e
+    ∙ ap (λ (n : ℕ). isRowOf name (rowAt t n)) (sym (eqb-true j i q)))
+    (λ q. ap (isRowOf name) (row-other t i r size inside j (eqb-false j i q))) in
+    ap (λ (n : ℕ). firstRow (isRowOf name) (cutInRows (n / 4608) w)) (length-with t i r size inside)
+    ∙ same-search (isRowOf name) (length t / 4608) w t each
 
 -- A refusal leaves the table as it was.
 

@@ -5,3 +5,5 @@ pub mod Entries
 pub mod Stay
 pub mod Verdicts
 pub mod Rooms
+pub mod Numbers
+pub mod Answered

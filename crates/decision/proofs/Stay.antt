@@ -20,6 +20,7 @@ use Rattle.table.specs.Soundness.{limits, onEntry, sameLabel, sessions, underLi
 use Rattle.table.specs.TheTable.{Access, Entry, Subscriber, line}
 use Rattle.changes.proofs.Keep.{good-freed, good-opened, good-routed}
 use Rattle.changes.proofs.Stays.{MayOpen, under-snoc}
+use Rattle.decision.specs.Outcomes.{fitting}
 use Rattle.decision.specs.Deciding.{Verdict, admit, atLimit, decide, entryAt, entryFrom, entryNamed, firstOn, grant, heldAlready, noEntry, none, openOn, placeOf, refuse, terminate, type0, type1, withSession}
 use Rattle.octets.proofs.Choice.{by-pick}
 use Rattle.octets.proofs.Lists.{and-left, and-right, by-test, every-append, every-keep, every-map, every-one, in-within, keep-comm, keep-length, keep-none, within-high, within-low}
@@ -182,15 +183,9 @@ pub stays-terminate : (session label : List ℕ) (s : Subscriber) → Good s →
 unfolding terminate refuse grant
 stays-terminate session label s g = by-pick Stays _ (λ e. g) (λ e. good-freed _ s g)
 
--- what the reader of messages has tested
-unfoldable pub fitting : Ask → Bool
-fitting (tunnel session host label visited) = within 1 128 (length session) && within 1 128 (length host)
-fitting (policy session route) = leb (length route) 128
-fitting (termination session label) = true
-
 pub stays : (q : Ask) (wag : Bool) (s : Subscriber) → fitting q ≡ true → Good s → Good ((decide q wag s) .after)
 unfolding fitting decide
 stays (tunnel session host label visited) wag s k g =
     stays-type0 session host label visited s (and-left (within 1 128 (length session)) _ k) (and-right (within 1 128 (length session)) _ k) g
-stays (policy session route) wag s k g = stays-type1 session route wag s (leb-true (length route) 128 k) g
+stays (policy session route) wag s k g = stays-type1 session route wag s (within-high 1 128 (length route) k) g
 stays (termination session label) wag s k g = stays-terminate session label s g

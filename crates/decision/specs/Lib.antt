@@ -1,4 +1,5 @@
 pub mod Deciding
 pub mod Plans
 pub mod Calls
+pub mod Outcomes
 pub mod WorkedCases

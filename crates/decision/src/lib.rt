@@ -1,5 +1,10 @@
 // Deciding on a subscriber's row, and a whole call.
 mod carrying;
+mod handling;
+
+pub use handling::handle;
+use message::Kind;
+
 mod deciding;
 mod row;
 
@@ -26,6 +31,15 @@ pub enum Cut {
 
 // What carrying out a plan gives back: the place of a new access, else 0, and the cut.
 pub struct Done {
+    pub place: usize,
+    pub cut: Cut,
+}
+
+// What a call returns: the code and its kind, the length of the answer, the place of a new access, else 0, and the cut.
+pub struct Outcome {
+    pub code: u32,
+    pub kind: Kind,
+    pub length: usize,
     pub place: usize,
     pub cut: Cut,
 }

@@ -1,26 +1,24 @@
 -- The walk that gathers: what the slots say so far, with the AVPs that are still ahead, is what the whole message says.
 use mathlib.Core.Path.{_≡_, refl, sym, ap, _∙_}
-use mathlib.Core.Bool.{Bool, true, false, _&&_}
+use mathlib.Core.Bool.{Bool, true, false}
 use mathlib.Core.List.{List, [], _∷_}
-use Prim.Native.Nat.{ℕ, zero, suc, _+_, _-_, _*_, _/_, _%_, _≤_, _<_}
+use Prim.Native.Nat.{ℕ, zero, suc, _+_, _-_, _≤_, _<_}
 use native.Mathlib.Omega.{arith}
-use borrow.Author.Tests.{leb-true, eqb-true, eqb-false, eq-eqb, ne-eqb, le-leb, lt-leb}
-use lib.Dec.{eqb, leb, T}
-use lib.ListN.{length, getD, drop, set, length-drop, length-set, replicate, getD-replicate}
+use borrow.Author.Tests.{eqb-true, eqb-false, eq-eqb, ne-eqb}
+use lib.Dec.{eqb}
+use lib.ListN.{length, getD, drop, set, length-drop, length-set, getD-replicate}
 use lib.Seq.{drop-drop, getD-set-same, getD-set-other}
-use Rattle.octets.specs.Choice.{pick, require, firstOf}
+use Rattle.octets.specs.Choice.{pick}
 use Rattle.octets.specs.Lists.{keep, every, counted}
 use Rattle.octets.specs.Texts.{zeros}
-use Rattle.octets.specs.Numbers.{net24, net32, up4}
+use Rattle.octets.specs.Numbers.{up4}
 use Rattle.octets.proofs.Lists.{by-test, and-left, and-right, both}
 use Rattle.octets.proofs.Texts.{length-zeros}
 use Rattle.message.specs.ReadingAMessage.{Name, base, vendor, sameName, Avp, Walk, behind, walkOne, walk, avpLength, avpCode, avpOf, avps, walkCode, having}
 use Rattle.message.specs.declared.Spot.{Spot}
-use Rattle.message.specs.declared.Head.{Head}
 use Rattle.message.specs.declared.Head.the-variants.{One, Bad}
 use Rattle.message.specs.Positions.{names, slotIn, slotOf, nameAt, spotAt, headAt, Often, absent, once, twice, howOften, slotSays, Stands, Gathered}
 use Rattle.message.proofs.Walks.{Passed, passes, head-least, up4-least, walk-is}
-use Rattle.message.proofs.Heads.{head-one, head-bad}
 
 -- THE WALK, ONE AVP AT A TIME
 

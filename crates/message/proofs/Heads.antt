@@ -1,19 +1,18 @@
 -- The tests of the message, of its header and of one AVP, a law for each way out of them.
-use mathlib.Core.Path.{_≡_, refl, sym, ap, _∙_}
-use mathlib.Core.Bool.{Bool, true, false, _&&_, _||_}
-use mathlib.Core.List.{List, [], _∷_}
-use Prim.Native.Nat.{ℕ, zero, suc, _+_, _-_, _*_, _/_, _%_, _≤_, _<_}
+use mathlib.Core.Path.{_≡_, refl, _∙_}
+use mathlib.Core.List.{List}
+use Prim.Native.Nat.{ℕ, zero, suc, _+_, _/_, _%_, _≤_, _<_}
 use native.Mathlib.Nat.{add-assoc}
 use native.Mathlib.Omega.{arith}
-use borrow.Author.Tests.{leb-true, eqb-true, eqb-false, eq-eqb, ne-eqb, le-leb, lt-leb}
-use lib.Dec.{eqb, leb}
+use borrow.Author.Tests.{eqb-true, eqb-false, eq-eqb, ne-eqb, le-leb, lt-leb}
+use lib.Dec.{eqb}
 use lib.ListN.{length, getD, drop, length-drop}
 use lib.Seq.{getD-drop}
 use Rattle.octets.specs.Choice.{pick, require, firstOf, within}
 use Rattle.octets.specs.Numbers.{net24, net32, up4}
 use Rattle.octets.proofs.Lists.{by-test}
 use Rattle.message.specs.CallsThatGetNoAnswer.{messageNumber}
-use Rattle.message.specs.ReadingAMessage.{Name, base, vendor, flags, command, application, headerCode, hasV, headLength, avpLength, avpCode, avpOf}
+use Rattle.message.specs.ReadingAMessage.{base, vendor, flags, command, application, headerCode, headLength, avpLength, avpCode, avpOf}
 use Rattle.message.specs.declared.Head.the-variants.{One, Bad}
 use Rattle.message.specs.Positions.{slotOf, spotAt, headAt}
 

@@ -1,17 +1,17 @@
 -- What a request that was read promises of its texts: Session-Id, host, policy and user have 1 to 128 bytes, a label 1 to 100.
 use mathlib.Core.Path.{_≡_, refl, sym, ap, _∙_}
-use mathlib.Core.Bool.{Bool, true, false, _&&_, not}
+use mathlib.Core.Bool.{Bool, true, false}
 use mathlib.Core.List.{List, [], _∷_, map}
-use Prim.Native.Nat.{ℕ, zero, suc, _+_, _≤_, _<_}
+use Prim.Native.Nat.{ℕ, zero, suc, _≤_}
 use native.Mathlib.Omega.{arith}
-use borrow.Author.Tests.{eqb-true, eqb-false, eq-eqb, ne-eqb}
+use borrow.Author.Tests.{eqb-true, eqb-false, eq-eqb}
 use lib.Dec.{eqb}
 use lib.ListN.{length}
 use Rattle.octets.specs.Choice.{pick, require, firstOf, within}
 use Rattle.octets.specs.Numbers.{net32}
 use Rattle.octets.proofs.Lists.{by-test, within-high}
 use Rattle.octets.proofs.Choice.{first-passes, others-pass, passed}
-use Rattle.message.specs.ReadingAMessage.{command, headerCode, walkCode, Avp, Field, Name, avps, having, firstValue, valueOf, testedAs, fieldCode, textField, labelField, numberField, startsWith, forBoth, for265, for275, listCode, readingCode, sessionId, authApplicationId, originHost, originRealm, destinationRealm, authRequestType, destinationHost, userName, terminationCause, visitedNetwork, sessionRequestType, wlanApnId, routingPolicy, typeOf, Ask, tunnel, policy, termination, Request, askOf, requestOf, refused, request, read}
+use Rattle.message.specs.ReadingAMessage.{command, headerCode, walkCode, Avp, Field, Name, avps, having, firstValue, valueOf, testedAs, fieldCode, textField, labelField, numberField, startsWith, forBoth, for265, for275, listCode, readingCode, sessionId, authApplicationId, originHost, authRequestType, destinationHost, userName, terminationCause, visitedNetwork, sessionRequestType, wlanApnId, routingPolicy, typeOf, tunnel, policy, termination, Request, askOf, requestOf, request, read}
 use Rattle.message.specs.Spans.{bothCode, restCode}
 use Rattle.message.proofs.Listing.{list-split, tested-in, other-command}
 

@@ -4,4 +4,5 @@ pub mod Gathering
 pub mod Readers
 pub mod Listing
 pub mod Lengths
+pub mod Callers
 pub mod WorkedCases

@@ -1,35 +1,32 @@
 -- The lists: a field that passes leaves the code to those behind it, one that fails gives it.
 use mathlib.Core.Path.{_≡_, refl, sym, ap, _∙_}
-use mathlib.Core.Bool.{Bool, true, false, _&&_, _||_, not}
+use mathlib.Core.Bool.{Bool, true, false, _||_, not}
 use mathlib.Core.List.{List, [], _∷_, _++_, map}
-use mathlib.Core.Logic.{_⊎_, ⊎-elim}
-use Prim.Native.Nat.{ℕ, zero, suc, _+_, _-_, _*_, _/_, _%_, _≤_, _<_}
+use mathlib.Core.Logic.{⊎-elim}
+use Prim.Native.Nat.{ℕ, zero, suc, _+_, _/_, _%_, _≤_, _<_}
 use native.Mathlib.Omega.{arith}
 use types.Run.{OneOf}
 use denote.Enum.Declared.{tagOf}
-use borrow.Author.Tests.{leb-true, eqb-true, eqb-false, eq-eqb, ne-eqb, le-leb, lt-leb}
-use lib.Dec.{eqb, leb}
-use lib.ListN.{length, getD, take, drop, length-drop}
+use borrow.Author.Tests.{eqb-true, eqb-false, eq-eqb, ne-eqb, le-leb}
+use lib.Dec.{eqb}
+use lib.ListN.{length, getD, drop, length-drop}
 use Rattle.octets.specs.Choice.{pick, require, firstOf, within}
-use Rattle.octets.specs.Lists.{keep, every}
-use Rattle.octets.specs.Texts.{part}
-use Rattle.octets.specs.Numbers.{net24, net32, up4}
-use Rattle.octets.proofs.Lists.{by-test, and-left, and-right, both, within-low, within-high}
+use Rattle.octets.specs.Lists.{every}
+use Rattle.octets.specs.Numbers.{net32}
+use Rattle.octets.proofs.Lists.{by-test}
 use Rattle.octets.proofs.Choice.{first-passes, others-pass, passed}
-use Rattle.message.specs.ReadingAMessage.{flags, command, application, headerCode, Name, base, vendor, sameName, Avp, Walk, behind, Field, anything, numberIn, textField, labelField, numberField, avpCode, avpOf, walk, avps, walkCode, having, firstValue, valueOf, present, testedAs, fieldCode, startsWith, forBoth, for265, for275, fields, listCode, readingCode, sessionId, originHost, proxyInfo, userName, visitedNetwork, sessionRequestType, wlanApnId, routingPolicy, typeOf, tunnel, policy, termination, Request, askOf, requestOf, Reading, refused, request, read}
+use Rattle.message.specs.ReadingAMessage.{flags, command, headerCode, Name, sameName, Avp, Walk, behind, Field, numberIn, textField, labelField, numberField, avpCode, avpOf, avps, walkCode, having, firstValue, valueOf, present, testedAs, fieldCode, startsWith, forBoth, for265, for275, fields, listCode, readingCode, sessionId, originHost, proxyInfo, userName, visitedNetwork, wlanApnId, routingPolicy, typeOf, Request, askOf, requestOf, request, read}
 use Rattle.message.specs.declared.Span.{Span}
 use Rattle.message.specs.declared.Got.{Got}
 use Rattle.message.specs.declared.Got.the-variants.{Found, Absent, Code}
-use Rattle.message.specs.declared.Both.{Both}
 use Rattle.message.specs.declared.Both.the-variants.{Held, Failed}
 use Rattle.message.specs.declared.Asked.the-variants.{Tunnel, Policy, Termination}
 use Rattle.message.specs.declared.Told.{Told}
 use Rattle.message.specs.declared.Told.the-variants.{Refused, Request as Requested}
 use Rattle.message.proofs.Got.{the-type}
-use Rattle.message.specs.Positions.{names, nameAt, Often, absent, once, twice, howOften, slotSays, Gathered}
+use Rattle.message.specs.Positions.{names, nameAt, absent, howOften, slotSays, Gathered}
 use Rattle.message.specs.Spans.{codeOf, isFound, Holds, Reads, bothCode, failedWith, BothRead, restCode, tunnelCode, tunnelOf, policyCode, policyOf, bytesOf, asks, says, spansIn, spans, isInside, verdict, Listed, hasProxies, HeardOf}
-use Rattle.message.proofs.Walks.{Passed, passes}
-use Rattle.message.proofs.Heads.{code-few, name-v, name-base}
+use Rattle.message.proofs.Heads.{code-few}
 use Rattle.message.proofs.Gathering.{walk-end, walk-bad, walk-one}
 
 -- TESTS IN ORDER

@@ -1,31 +1,31 @@
 -- A field's reader: what the number in its slot, the length of its AVP and its value say of the field.
 use mathlib.Core.Path.{_≡_, refl, sym, ap, _∙_}
-use mathlib.Core.Bool.{Bool, true, false, _&&_, not}
+use mathlib.Core.Bool.{Bool, true, false}
 use mathlib.Core.List.{List, [], _∷_}
-use mathlib.Core.Logic.{_⊎_, ⊎-elim}
-use Prim.Native.Nat.{ℕ, zero, suc, _+_, _-_, _*_, _/_, _%_, _≤_, _<_}
+use mathlib.Core.Logic.{⊎-elim}
+use Prim.Native.Nat.{ℕ, _+_, _-_, _≤_, _<_}
 use native.Mathlib.Omega.{arith}
 use types.Run.{OneOf}
 use denote.Enum.Declared.{tagOf}
-use borrow.Author.Tests.{leb-true, eqb-true, eqb-false, eq-eqb, ne-eqb, le-leb, lt-leb, lt-ltb, le-ltb}
-use lib.Dec.{eqb, leb, ltb}
-use lib.ListN.{length, getD, take, drop, length-drop}
-use lib.Seq.{drop-drop, getD-drop, length-take-le}
+use borrow.Author.Tests.{eqb-true, ne-eqb, le-leb, lt-leb}
+use lib.Dec.{eqb, leb}
+use lib.ListN.{length, getD, drop, length-drop}
+use lib.Seq.{drop-drop}
 use Rattle.octets.specs.Choice.{pick, require, firstOf, within}
-use Rattle.octets.specs.Lists.{keep, every, counted}
+use Rattle.octets.specs.Lists.{every, counted}
 use Rattle.octets.specs.Texts.{part}
 use Rattle.octets.specs.Numbers.{net24, net32, up4}
-use Rattle.octets.proofs.Lists.{by-test, and-left, and-right, both, kept, in-within}
+use Rattle.octets.proofs.Lists.{by-test, and-left, kept, in-within}
 use Rattle.octets.proofs.Texts.{length-part}
-use Rattle.message.specs.ReadingAMessage.{Name, base, vendor, sameName, Avp, Field, anything, numberIn, numberField, hasV, headLength, avpLength, avpCode, avpOf, avps, having, firstValue, valueOf, present, testedAs, fieldCode}
+use Rattle.message.specs.ReadingAMessage.{Name, base, vendor, sameName, Avp, Field, anything, numberIn, numberField, headLength, avpLength, avpOf, avps, having, firstValue, valueOf, present, testedAs, fieldCode}
 use Rattle.message.specs.declared.Span.{Span}
 use Rattle.message.specs.declared.Got.{Got}
 use Rattle.message.specs.declared.Got.the-variants.{Found, Absent, Code}
 use Rattle.message.proofs.Got.{the-type}
-use Rattle.message.specs.Positions.{names, slotIn, slotOf, nameAt, headOf, Often, absent, once, twice, howOften, slotSays, Stands, Gathered}
-use Rattle.message.specs.Spans.{bytesField, codeOf, Holds, Reads}
-use Rattle.message.proofs.Walks.{Passed, passes, head-least, up4-least}
-use Rattle.message.proofs.Heads.{net24-drop, head-v, head-base, name-v, name-base}
+use Rattle.message.specs.Positions.{names, nameAt, headOf, absent, once, twice, howOften, slotSays, Stands, Gathered}
+use Rattle.message.specs.Spans.{bytesField, codeOf, Reads}
+use Rattle.message.proofs.Walks.{Passed, passes, up4-least}
+use Rattle.message.proofs.Heads.{net24-drop}
 use Rattle.message.proofs.Gathering.{same-name-eq, says-once, says-absent, says-twice, counted-every}
 
 -- HOW OFTEN, AS LISTS

@@ -1,13 +1,13 @@
 -- Messages and answers worked by hand, each held by computing it.
 use mathlib.Core.Path.{_≡_, refl}
-use mathlib.Core.Bool.{Bool, true, false, _&&_, _||_, not}
-use mathlib.Core.List.{List, [], _∷_, _++_, map}
-use Prim.Native.Nat.{ℕ, zero, suc, _+_, _-_, _*_, _/_, _%_}
+use mathlib.Core.Bool.{true, false}
+use mathlib.Core.List.{List, [], _∷_, _++_}
+use Prim.Native.Nat.{ℕ}
 use Rattle.octets.specs.Choice.{pick, require, firstOf, within}
 use Rattle.octets.specs.Lists.{keep}
 use Rattle.octets.specs.Numbers.{net24, net32, in24, in32, up4}
 use Rattle.octets.specs.Texts.{zeros, same}
-use Rattle.message.specs.Codes.{plain, experimental, numberOf}
+use Rattle.message.specs.Codes.{plain, numberOf}
 use Rattle.message.specs.CallsThatGetNoAnswer.{messageNumber}
 use Rattle.message.specs.ReadingAMessage.{headerCode, sameName, headLength, avpCode, avpOf, behind, walkOne, walkUpTo, walk, avps, walkCode, having, firstValue, valueOf, present, anything, numberIn, textField, labelField, numberField, testedAs, fieldCode, startsWith, forBoth, for265, for275, fields, listCode, readingCode, tunnel, policy, termination, askOf, requestOf, refused, request, read}
 use Rattle.message.specs.WritingTheAnswer.{avpBytes, sessionAvp, is3xxx, authAvps, resultAvp, subscriptionAvp, allBytes, proxyAvps, answerBody, answerFlags, answer, answerRoom}

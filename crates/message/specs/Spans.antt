@@ -8,7 +8,7 @@ use lib.ListN.{length}
 use Rattle.octets.specs.Choice.{pick, require, firstOf}
 use Rattle.octets.specs.Lists.{every}
 use Rattle.octets.specs.Texts.{part}
-use Rattle.message.specs.ReadingAMessage.{Name, Field, Avp, anything, textField, labelField, headerCode, avps, walkCode, valueOf, present, fieldCode, startsWith, forBoth, for265, for275, sessionId, originHost, userName, visitedNetwork, wlanApnId, routingPolicy, proxyInfo, Ask, tunnel, policy, termination, Request, Reading, refused, request, readingCode, read}
+use Rattle.message.specs.ReadingAMessage.{Name, Field, Avp, anything, textField, labelField, headerCode, avps, walkCode, valueOf, present, fieldCode, startsWith, forBoth, for265, for275, sessionId, originHost, userName, wlanApnId, routingPolicy, proxyInfo, Ask, tunnel, policy, termination, Request, Reading, refused, request, read}
 use Rattle.message.specs.declared.Span.{Span}
 use Rattle.message.specs.declared.Got.{Got}
 use Rattle.message.specs.declared.Got.the-variants.{Found, Absent, Code}

@@ -1,11 +1,11 @@
 // Reading a request over the caller's bytes: nothing is copied, a text is a part of the message.
 ghost use mathlib.Core.Path.{_≡_};
+ghost use mathlib.Core.Bool.{Bool, true};
 ghost use Prim.Native.Nat.{ℕ, _+_, _*_, _≤_, _<_};
 ghost use lib.ListN.{length};
-ghost use Rattle.message.specs.CallsThatGetNoAnswer.{messageNumber};
-ghost use mathlib.Core.Bool.{Bool, true, false};
 ghost use Rattle.octets.specs.Texts.{zeros};
 ghost use Rattle.octets.specs.Numbers.{net32};
+ghost use Rattle.message.specs.CallsThatGetNoAnswer.{messageNumber};
 ghost use Rattle.message.specs.ReadingAMessage.{base, vendor, command, headerCode, avps, walkCode, sessionId, originHost, userName, startsWith, numberField, readingCode, requestOf};
 ghost use Rattle.message.specs.Positions.{slotOf, nameAt, headOf, headAt, Gathered};
 ghost use Rattle.message.specs.Spans.{bytesField, codeOf, isFound, Holds, Reads, BothRead, restCode, tunnelCode, tunnelOf, policyCode, policyOf, Listed, HeardOf};
@@ -292,7 +292,7 @@ fn refusal(g: Got) -> u32
 // THE LISTS
 
 // The first five fields, of both requests: Session-Id and Origin-Host, or the code of the first that fails.
-pub enum Both {
+enum Both {
     Held(Span, Span),
     Failed(u32),
 }

@@ -1,14 +1,14 @@
 -- Over rows: what a subject gets depends on its own calls alone, since a call touches only the first row that its subject
 -- finds, and no change to a row changes by whom it is found.
 use mathlib.Core.Path.{_≡_, refl, sym, ap, _∙_, subst}
-use mathlib.Core.Bool.{Bool, true, false, _&&_, not}
+use mathlib.Core.Bool.{true, false}
 use mathlib.Core.List.{List, [], _∷_}
 use Prim.Native.Nat.{ℕ}
 use Rattle.octets.specs.Choice.{pick}
 use Rattle.octets.specs.Lists.{keep}
 use Rattle.octets.proofs.Lists.{by-test}
 use Rattle.decision.specs.Calls.{Call, Reply}
-use Rattle.order.specs.Demand3.{Subject, nobody, subscriber, sameSubject, subject, isOf, callsOf, repliesOf, Record, absent, bytes}
+use Rattle.order.specs.Demand3.{Subject, nobody, subscriber, sameSubject, subject, isOf, callsOf, repliesOf, Record, absent, bytes, isBy, callsBy, repliesBy}
 use Rattle.order.proofs.Finding.{subject-eq, subject-refl, finds, ownerOf, finds-owner}
 
 -- what a call does to its subject's row and replies there, and what it replies where there is none
@@ -223,3 +223,28 @@ module _ (act : Call → List ℕ → List ℕ) (says : Call → List ℕ → Re
         (λ e. let p : subject c ≡ k = subject-eq (subject c) k e in
         rw (e, same-record k cs (tab rs c) (tab ss c) (own k c rs ss p h)))
         (λ e. rw (e, same-record k cs (tab rs c) ss (record-other k c rs e ∙ h)))
+
+    -- with some of nobody's calls among them
+    record-nobody : (rs : List (List ℕ)) → recordIn nobody rs ≡ absent
+    unfolding recordIn finds pick
+    record-nobody [] = refl
+    record-nobody (r ∷ rs) = record-nobody rs
+
+    ans-nobody : (c : Call) (rs ss : List (List ℕ)) → subject c ≡ nobody → ans rs c ≡ ans ss c
+    ans-nobody c rs ss h =
+        ans-by c rs
+        ∙ ap (answerBy c) (ap (λ (k : Subject). recordIn k rs) h ∙ record-nobody rs ∙ sym (record-nobody ss) ∙ ap (λ (k : Subject). recordIn k ss) (sym h))
+        ∙ sym (ans-by c ss)
+
+    module _ (k : Subject) (owner : Call → Subject) (all : (c : Call) → isBy owner k c ≡ false → sameSubject (subject c) k ≡ false)
+        (others : (c : Call) → isBy owner k c ≡ true → sameSubject (subject c) k ≡ false → subject c ≡ nobody) where
+      pub same-answers-by : (cs : List Call) (rs ss : List (List ℕ)) → recordIn k rs ≡ recordIn k ss → repliesBy owner k cs (outs rs cs) ≡ outs ss (callsBy owner k cs)
+      unfolding repliesBy outs callsBy keep pick
+      same-answers-by [] rs ss h = refl
+      same-answers-by (c ∷ cs) rs ss h =
+          by-test (isBy owner k c)
+          (λ f. by-test (sameSubject (subject c) k)
+          (λ e. let p : subject c ≡ k = subject-eq (subject c) k e in
+          rw (f, ans-own k c rs ss p h, same-answers-by cs (tab rs c) (tab ss c) (own k c rs ss p h)))
+          (λ e. rw (f, ans-nobody c rs ss (others c f e), same-answers-by cs (tab rs c) (tab ss c) (record-other k c rs e ∙ h ∙ sym (record-other k c ss e)))))
+          (λ f. rw (f, same-answers-by cs (tab rs c) ss (record-other k c rs (all c f) ∙ h)))

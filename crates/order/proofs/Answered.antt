@@ -1,22 +1,21 @@
 -- How a call goes: it gets no answer, it is refused before a sound row is found, or it is decided on one.
-use mathlib.Core.Path.{_≡_, refl, sym, ap, _∙_}
-use mathlib.Core.Bool.{Bool, true, false, _&&_, not}
-use mathlib.Core.List.{List, [], _∷_, _++_}
+use mathlib.Core.Path.{_≡_, refl, _∙_}
+use mathlib.Core.Bool.{true, false}
+use mathlib.Core.List.{List, _∷_, _++_}
 use Prim.Native.Nat.{ℕ}
 use native.Mathlib.Omega.{arith}
-use borrow.Author.Tests.{eqb-true, eqb-false, not-true}
+use borrow.Author.Tests.{eqb-true, not-true}
 use lib.Dec.{eqb}
-use lib.ListN.{length}
 use Rattle.octets.specs.Choice.{pick, firstOf}
 use Rattle.octets.proofs.Choice.{first-passes, others-pass}
 use Rattle.octets.proofs.Lists.{by-test}
 use Rattle.message.specs.Codes.{Code, plain, userUnknown, numberOf}
-use Rattle.message.specs.ReadingAMessage.{Request, Reading, refused, request, read, headerCode, walkCode, listCode, readingCode, command, avps, requestOf}
-use Rattle.table.specs.TheTable.{Found, row, nothing, isFound, lookup, rowAt, readRow}
+use Rattle.message.specs.ReadingAMessage.{read, headerCode, walkCode, listCode, readingCode, command, avps}
+use Rattle.table.specs.TheTable.{Found, row, nothing, isFound, rowAt, readRow}
 use Rattle.table.specs.Soundness.{sound}
 use Rattle.decision.specs.Deciding.{Verdict, decide}
-use Rattle.decision.specs.Calls.{Call, Left, callNumber, silent, refusal, settled, onRow, onReading, handle}
-use Rattle.order.specs.Demand2.{Check, pass, fail, check, firstFailing, noneFails, readingChecks, decidingChecks, requestIn, found, rowFound, rowBefore, said, checks}
+use Rattle.decision.specs.Calls.{Call, callNumber, silent, refusal, settled, onRow, onReading, handle}
+use Rattle.order.specs.Demand2.{Check, check, firstFailing, noneFails, readingChecks, decidingChecks, requestIn, found, rowFound, rowBefore, said, checks}
 use Rattle.order.proofs.Read.{other, header-code, walk-code, list-code}
 
 -- THE CHECKS OF READING
@@ -89,7 +88,7 @@ module _ (t : List ℕ) (c : Call) where
   abbrev behind : List Check
   behind = check (isFound (found t c)) userUnknown ∷ check (sound (rowBefore t c)) (plain 5012) ∷ decidingChecks ((requestIn c) .ask) (c .wag) (said t c)
 
-  no-answer : eqb (callNumber t c) 0 ≡ false → handle t c ≡ silent t c (callNumber t c)
+  pub no-answer : eqb (callNumber t c) 0 ≡ false → handle t c ≡ silent t c (callNumber t c)
   unfolding handle pick
   no-answer e = rw e
 

@@ -1,34 +1,26 @@
 -- Demand 2: code, success, cut, and what stays; case by case of how a call goes.
 use mathlib.Core.Path.{_≡_, refl, sym, ap, _∙_}
-use mathlib.Core.Bool.{Bool, true, false, _&&_, not}
-use mathlib.Core.List.{List, [], _∷_, _++_}
-use Prim.Native.Nat.{ℕ, _/_, _*_, _<_}
+use mathlib.Core.Bool.{true, false}
+use mathlib.Core.List.{List, [], _∷_}
+use Prim.Native.Nat.{ℕ}
 use native.Mathlib.Omega.{arith}
-use borrow.Author.Tests.{eqb-true, eqb-false, eq-eqb, not-true}
+use borrow.Author.Tests.{eqb-true, eqb-false, not-true}
 use lib.Dec.{eqb}
 use lib.ListN.{length}
 use Rattle.octets.specs.Choice.{pick}
-use Rattle.octets.proofs.Choice.{by-pick, first-passes}
 use Rattle.octets.proofs.Lists.{by-test, and-left, and-right}
 use Rattle.message.specs.Codes.{Code, plain, numberOf, kindOf}
-use Rattle.message.specs.ReadingAMessage.{Ask, readingCode, command, avps}
-use Rattle.table.specs.TheTable.{Access, Subscriber, Found, row, nothing, isFound, lookup, rows, firstRow, cutInRows, isRowOf, rowAt, withRow, rowLength, tableNumber, readRow, rowBytes}
-use Rattle.table.specs.Soundness.{sound}
-use Rattle.table.proofs.Bytes.{length-row}
-use Rattle.table.proofs.Good.{Good}
-use Rattle.table.proofs.Rows.{whole-rows}
-use Rattle.table.proofs.Sound.{says-good, sound-row}
-use Rattle.decision.specs.Deciding.{Verdict, decide, refuse}
-use Rattle.decision.specs.Calls.{Call, Left, Reply, Result, callNumber, silent, reply, refusal, settled, resultOf, noticeRoom, handle}
-use Rattle.decision.proofs.Stay.{fitting, stays}
-use Rattle.order.specs.Demand2.{Check, firstFailing, noneFails, decidingChecks, requestIn, found, rowBefore, said, checks, succeeds, exceeds, onAsked, firstAlone, cutFor, placeTaken, afterwards, CodeOf, Unchanged, Replaced}
-use Rattle.order.specs.Demand2.{FirstFailingCheck, SuccessExactly, RefusedChangesNothing, CutExactly, OneToCut, SuccessReply, SuccessFindsRow, SuccessReplacesRow, OtherRowsStay, SoundStaysSound}
-use Rattle.order.proofs.Read.{other, call-other, ask-fits}
+use Rattle.message.specs.ReadingAMessage.{Ask}
+use Rattle.table.specs.TheTable.{Access, Subscriber, isFound, rowAt, withRow, readRow, rowBytes}
+use Rattle.table.proofs.Sound.{says-good}
+use Rattle.decision.specs.Deciding.{Verdict, refuse}
+use Rattle.decision.specs.Calls.{Call, Left, callNumber, silent, reply, refusal, settled, resultOf, noticeRoom, handle}
+use Rattle.order.specs.Demand2.{Check, firstFailing, noneFails, requestIn, found, said, checks, succeeds, exceeds, onAsked, cutFor, placeTaken, afterwards, CodeOf, Unchanged}
+use Rattle.order.specs.Demand2.{FirstFailingCheck, SuccessExactly, RefusedChangesNothing, UnansweredLeaves, RefusedLeaves, CutExactly, OneToCut, SuccessReply, SuccessFindsRow}
+use Rattle.order.proofs.Read.{other, call-other}
 use Rattle.order.proofs.Decided.{Decided, refuses, grants, granting, cutBy, decided}
 use Rattle.order.proofs.Cuts.{FirstCut, cut-first, cut-none}
-use Rattle.order.proofs.Answered.{Stops, Went, OnRow, unanswered, stopped, reached, went, verdict, decisive}
-use Rattle.order.proofs.Tables.{at-with, at-other, length-cut}
-use Rattle.order.proofs.Handling.{There, there}
+use Rattle.order.proofs.Answered.{Went, OnRow, unanswered, stopped, reached, went, no-answer, verdict, decisive}
 
 false-true : {P : Type 0} → false ≡ true → P
 false-true e = let y : _≡_ {A = ℕ} 0 1 = cc in absurd (omega arith)
@@ -160,17 +152,37 @@ module _ (t : List ℕ) (c : Call) where
       let r : ((verdict t c i) .cut ≡ []) × ((verdict t c i) .place ≡ 0) = refused-cut _ _ _ _ (how t c i) n in
       rw (o .leaves) (settled-refused t c i (verdict t c i) (decided-none _ _ _ _ (grants-2001 t c i) (how t c i) ∙ n) (r .0) (r .1))
 
+  settled-refusal : (i : ℕ) → noneFails (decisive t c i) ≡ false → settled t c i (verdict t c i) ≡ refusal t c ((verdict t c i) .code)
+  unfolding settled refusal pick
+  settled-refusal i n =
+      let r : ((verdict t c i) .cut ≡ []) × ((verdict t c i) .place ≡ 0) = refused-cut _ _ _ _ (how t c i) n in
+      rw (decided-none _ _ _ _ (grants-2001 t c i) (how t c i) ∙ n, r .0, r .1)
+
+  leaves-went : callNumber t c ≡ 0 → succeeds t c ≡ false → Went t c → handle t c ≡ refusal t c (firstFailing (checks t c))
+  unfolding succeeds
+  leaves-went z h (unanswered a l) = absurd (eqb-false (callNumber t c) 0 a z)
+  leaves-went z h (stopped code a s l) = l ∙ ap (refusal t c) (sym (s .first))
+  leaves-went z h (reached i a o) =
+      let n : noneFails (decisive t c i) ≡ false = sym (o .none) ∙ (rw a at h) in
+      o .leaves ∙ settled-refusal i n ∙ ap (refusal t c) (sym (o .first ∙ decided-first _ _ _ _ (how t c i)))
+
+pub unanswered-leaves : UnansweredLeaves
+unanswered-leaves t c h = no-answer t c h
+
+pub refused-leaves : RefusedLeaves
+refused-leaves t c z h = leaves-went t c z h (went t c)
+
 pub refused-changes-nothing : RefusedChangesNothing
 refused-changes-nothing t c h = refused-went t c (sym (success-exactly t c) ∙ h) (went t c)
 
 -- THE CUT
 
 module _ (t : List ℕ) (c : Call) where
-  abbrev asked : Ask
+  abbrev pub asked : Ask
   asked = (requestIn c) .ask
 
   module _ (i : ℕ) (o : OnRow t c i) (h : noneFails (checks t c) ≡ true) where
-    granted : verdict t c i ≡ granting asked (readRow (rowAt t i))
+    pub granted : verdict t c i ≡ granting asked (readRow (rowAt t i))
     granted = granted-is _ _ _ _ (how t c i) (sym (o .none) ∙ h)
 
     cut-is : (verdict t c i) .cut ≡ cutBy asked (readRow (rowAt t i))
@@ -188,7 +200,7 @@ module _ (t : List ℕ) (c : Call) where
         rw (o .leaves, e) (settled-one t c i (verdict t c i) (ap length (cut-is ∙ f .first) ∙ f .some)))
         (λ e. rw (o .leaves, e) (settled-none t c i (verdict t c i) (cut-is ∙ cut-none asked (readRow (rowAt t i)) e)))
 
-    written : (settled t c i (verdict t c i)) .table ≡ withRow t i (rowBytes (afterwards asked (readRow (rowAt t i))))
+    pub written : (settled t c i (verdict t c i)) .table ≡ withRow t i (rowBytes (afterwards asked (readRow (rowAt t i))))
     unfolding settled granting numberOf pick
     written = rw granted
 
@@ -208,10 +220,10 @@ module _ (t : List ℕ) (c : Call) where
         ∙ ap (λ (l : List Access). reply c (plain 2001) (placeTaken asked (readRow (rowAt t i))) l) cut-for
 
   -- a call that succeeds is decided on a sound row
-  data Won : Type 0 where
+  pub data Won : Type 0 where
     won : (i : ℕ) → OnRow t c i → callNumber t c ≡ 0 → noneFails (checks t c) ≡ true → Won
 
-  won-went : succeeds t c ≡ true → Went t c → Won
+  pub won-went : succeeds t c ≡ true → Went t c → Won
   unfolding succeeds
   won-went h (unanswered a l) = false-true (sym a ∙ and-left (eqb (callNumber t c) 0) _ h)
   won-went h (stopped code a s l) = false-true (sym (s .none) ∙ and-right (eqb (callNumber t c) 0) _ h)
@@ -246,14 +258,5 @@ module _ (t : List ℕ) (c : Call) where
   unfolding isFound
   finds-won (won i o a h) = rw (o .at)
 
-  same-row : (i j : ℕ) → row i ≡ row j → i ≡ j
-  same-row i j e = cc
-
-  replaces-won : (i : ℕ) → found t c ≡ row i → Won t c → Replaced t c i (handle t c)
-  replaces-won i e (won j o a h) = rw (same-row i j (sym e ∙ o .at)) (record { was-sound = o .was-sound; table = ap (λ (l : Left). l .table) (o .leaves) ∙ written t c j o h })
-
 pub success-finds-row : SuccessFindsRow
 success-finds-row t c h = finds-won t c (won-went t c h (went t c))
-
-pub success-replaces-row : SuccessReplacesRow
-success-replaces-row t c i h e = replaces-won t c i e (won-went t c h (went t c))

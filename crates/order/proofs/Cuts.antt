@@ -1,20 +1,20 @@
 -- What is cut is the first on the order line of the accesses on that entry, and there is one.
-use mathlib.Core.Path.{_≡_, refl, sym, ap, _∙_}
-use mathlib.Core.Bool.{Bool, true, false, _&&_, not}
-use mathlib.Core.List.{List, [], _∷_, _++_, map}
-use Prim.Native.Nat.{ℕ, zero, suc, _-_, _≤_, _<_}
+use mathlib.Core.Path.{_≡_, refl, ap, _∙_}
+use mathlib.Core.Bool.{Bool, true, false, not}
+use mathlib.Core.List.{List, [], _∷_}
+use Prim.Native.Nat.{ℕ, _≤_}
 use native.Mathlib.Omega.{arith}
-use borrow.Author.Tests.{eq-eqb, ltb-false, not-true, not-false}
+use borrow.Author.Tests.{eq-eqb, ltb-false, not-true}
 use lib.Dec.{eqb, ltb}
-use lib.ListN.{length, getD}
+use lib.ListN.{length}
 use Rattle.octets.specs.Choice.{pick, within}
 use Rattle.octets.specs.Lists.{distinct, every, firstOr, keep}
 use Rattle.octets.proofs.Lists.{and-left, and-right, by-test, every-keep, every-map, eqb-comm}
 use Rattle.message.specs.ReadingAMessage.{Ask, tunnel, policy, termination}
-use Rattle.table.specs.TheTable.{Access, Subscriber, line, barred, mayRoam}
-use Rattle.table.specs.Soundness.{limits, onEntry}
+use Rattle.table.specs.TheTable.{Access, Subscriber, line}
+use Rattle.table.specs.Soundness.{onEntry}
 use Rattle.table.proofs.Good.{Good}
-use Rattle.decision.specs.Deciding.{atLimit, atPlace, entryAt, entryNamed, firstOn, none, placeOf, withSession}
+use Rattle.decision.specs.Deciding.{atLimit, atPlace, entryAt, entryNamed, firstOn, placeOf}
 use Rattle.decision.proofs.Stay.{entry-found, limit-is, limit-some}
 use Rattle.order.specs.Demand2.{check, noneFails, decidingChecks, exceeds, onAsked, firstAlone}
 use Rattle.order.proofs.Decided.{cutBy}

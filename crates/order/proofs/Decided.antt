@@ -1,20 +1,17 @@
 -- Deciding, check by check.
-use mathlib.Core.Path.{_≡_, refl, sym, ap, _∙_}
+use mathlib.Core.Path.{_≡_, refl, sym, ap}
 use mathlib.Core.Bool.{Bool, true, false, _&&_, not}
-use mathlib.Core.List.{List, [], _∷_, _++_}
-use Prim.Native.Nat.{ℕ, zero, suc, _≤_}
-use native.Mathlib.Omega.{arith}
+use mathlib.Core.List.{List, []}
+use Prim.Native.Nat.{ℕ}
 use lib.Dec.{eqb}
-use lib.ListN.{length}
 use Rattle.octets.specs.Choice.{pick}
-use Rattle.octets.proofs.Choice.{by-pick}
 use Rattle.octets.proofs.Lists.{by-test}
-use Rattle.message.specs.Codes.{Code, plain, noSubscription, roamingNotAllowed, unusedByUser, numberOf}
+use Rattle.message.specs.Codes.{plain, numberOf}
 use Rattle.message.specs.ReadingAMessage.{Ask, tunnel, policy, termination}
 use Rattle.table.specs.TheTable.{Access, Subscriber, barred, mayRoam}
 use Rattle.table.specs.Soundness.{onEntry}
 use Rattle.decision.specs.Deciding.{Verdict, decide, type0, type1, terminate, admit, openOn, refuse, grant, heldAlready, entryNamed, entryAt, withSession, none, atLimit, atPlace, firstOn}
-use Rattle.order.specs.Demand2.{Check, pass, fail, check, firstFailing, noneFails, decidingChecks, exceeds, onAsked, spared, placeTaken, afterwards}
+use Rattle.order.specs.Demand2.{Check, check, firstFailing, noneFails, decidingChecks, exceeds, onAsked, spared, placeTaken, afterwards}
 
 -- the accesses that are cut, as they are decided
 unfoldable pub cutBy : Ask → Subscriber → List Access

@@ -1,17 +1,17 @@
 -- Whose a row is: its first 17 bytes say so, and no row is found by two names.
 use mathlib.Core.Path.{_≡_, refl, sym, ap, _∙_}
-use mathlib.Core.Bool.{Bool, true, false, _&&_, not}
-use mathlib.Core.List.{List, [], _∷_, _++_}
-use Prim.Native.Nat.{ℕ, zero, suc, _+_, _-_, _≤_, _<_}
+use mathlib.Core.Bool.{Bool, true, false}
+use mathlib.Core.List.{List}
+use Prim.Native.Nat.{ℕ, _≤_}
 use native.Mathlib.Omega.{arith}
-use borrow.Author.Tests.{eqb-true, leb-true, leb-false, ltb-true}
+use borrow.Author.Tests.{eqb-true, leb-true, leb-false}
 use lib.Dec.{eqb, leb}
-use lib.ListN.{length, getD, take, drop}
+use lib.ListN.{length, getD, take}
 use lib.Seq.{getD-take}
-use Rattle.octets.specs.Choice.{pick, within}
-use Rattle.octets.specs.Texts.{part, same}
+use Rattle.octets.specs.Choice.{within}
+use Rattle.octets.specs.Texts.{part}
 use Rattle.octets.proofs.Lists.{and-left, and-right, by-test, same-eq, same-refl, within-high}
-use Rattle.table.specs.TheTable.{isRowOf}
+use Rattle.table.specs.TheTable.{row, isRowOf}
 use Rattle.table.proofs.Form.{part-take}
 use Rattle.order.specs.Demand3.{Subject, nobody, subscriber, sameSubject}
 
@@ -62,7 +62,7 @@ long-name n r h =
     absurd (omega (arith, leb-false (length n) 15 h)))
     (λ e. e)
 
-front : (n r : List ℕ) → isRowOf n (take 17 r) ≡ isRowOf n r
+pub front : (n r : List ℕ) → isRowOf n (take 17 r) ≡ isRowOf n r
 unfolding isRowOf
 front n r =
     by-test (leb (length n) 15)
@@ -74,3 +74,6 @@ pub finds-front : (k : Subject) (q r : List ℕ) → take 17 q ≡ take 17 r →
 unfolding finds
 finds-front nobody q r e = refl
 finds-front (subscriber n) q r e = sym (front n q) ∙ ap (isRowOf n) e ∙ front n r
+
+pub same-row : (i j : ℕ) → row i ≡ row j → i ≡ j
+same-row i j e = cc

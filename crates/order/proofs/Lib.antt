@@ -10,3 +10,6 @@ pub mod Cuts
 pub mod Checks
 pub mod Rest
 pub mod Setting
+pub mod Counted
+pub mod Opening
+pub mod Demands

@@ -1,7 +1,7 @@
 -- A list of calls on a table is the list on its rows; from there to demand 3.
 use mathlib.Core.Path.{_≡_, refl, sym, ap, _∙_}
-use mathlib.Core.Bool.{Bool, true, false}
-use mathlib.Core.List.{List, [], _∷_, _++_, map}
+use mathlib.Core.Bool.{false}
+use mathlib.Core.List.{List, [], _∷_, map}
 use Prim.Native.Nat.{ℕ, suc, _*_, _/_}
 use borrow.Author.Tests.{eqb-true}
 use lib.Dec.{eqb}
@@ -9,11 +9,10 @@ use lib.ListN.{length, getD}
 use Rattle.octets.specs.Choice.{pick}
 use Rattle.octets.specs.Lists.{keep}
 use Rattle.octets.proofs.Lists.{by-test}
-use Rattle.message.specs.Codes.{plain}
 use Rattle.message.specs.ReadingAMessage.{Reading, refused, request, read}
-use Rattle.table.specs.TheTable.{Found, row, nothing, later, firstRow, lookup, rows, cutInRows, rowAt, rowLength, tableNumber, isRowOf}
+use Rattle.table.specs.TheTable.{Found, row, nothing, later, firstRow, lookup, rows, cutInRows, rowLength, tableNumber, isRowOf}
 use Rattle.table.proofs.Rows.{whole-rows}
-use Rattle.decision.specs.Calls.{Call, Reply, Left, Ran, silent, refusal, onReading, handle, ranFirst, run}
+use Rattle.decision.specs.Calls.{Call, Reply, Left, silent, refusal, onReading, handle, ranFirst, run}
 use Rattle.order.specs.Demand3.{Subject, nobody, subscriber, sameSubject, subject, sentBy, isOf, callsOf, repliesOf, Record, absent, bytes, recordAt, recordOf, ownNumber}
 use Rattle.order.specs.Demand3.{OneReplyEach, EachInTurn, LastTable, RepliesAlone, RecordAlone, LookupStays, SameTable, SameReplies, NobodysReply, NobodyChangesNothing, NobodysReplies}
 use Rattle.order.proofs.Finding.{finds, subject-eq}
@@ -46,7 +45,7 @@ module _ (t : List ℕ) (bad : eqb (tableNumber t) 0 ≡ false) where
   bad-table [] = refl
   bad-table (c ∷ cs) = rw (handle-bad t c bad) (bad-table cs)
 
-  bad-replies : (cs : List Call) → (run t cs) .replies ≡ map (λ (c : Call). silence c (tableNumber t)) cs
+  pub bad-replies : (cs : List Call) → (run t cs) .replies ≡ map (λ (c : Call). silence c (tableNumber t)) cs
   unfolding run ranFirst silent silence
   bad-replies [] = refl
   bad-replies (c ∷ cs) = rw (handle-bad t c bad, bad-replies cs)
@@ -72,10 +71,10 @@ unfolding tableNumber
 number-by-length t u e = rw e
 
 -- what the list of calls leaves, of n rows
-record Runs (n : ℕ) (t : List ℕ) (cs : List Call) : Type 0 where
-  size : length ((run t cs) .table) ≡ length t
-  rows-are : cutInRows n ((run t cs) .table) ≡ runs (cutInRows n t) cs
-  replies-are : (run t cs) .replies ≡ outs (cutInRows n t) cs
+pub record Runs (n : ℕ) (t : List ℕ) (cs : List Call) : Type 0 where
+  pub size : length ((run t cs) .table) ≡ length t
+  pub rows-are : cutInRows n ((run t cs) .table) ≡ runs (cutInRows n t) cs
+  pub replies-are : (run t cs) .replies ≡ outs (cutInRows n t) cs
 
 run-on : (n : ℕ) (t : List ℕ) (cs : List Call) → tableNumber t ≡ 0 → length t / rowLength ≡ n → Runs n t cs
 unfolding run ranFirst A.runs A.outs
@@ -139,7 +138,7 @@ module _ (t : List ℕ) (good : tableNumber t ≡ 0) where
   abbrev count : ℕ
   count = length t / rowLength
 
-  ran : (cs : List Call) → Runs count t cs
+  pub ran : (cs : List Call) → Runs count t cs
   ran cs = run-on count t cs good refl
 
   size-after : (cs : List Call) → length ((run t cs) .table) ≡ rowLength * count

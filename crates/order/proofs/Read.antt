@@ -1,22 +1,23 @@
 -- What was read: no failing test gives 2001, and a request brings texts that fit a row.
-use mathlib.Core.Path.{_≡_, refl, sym, ap, _∙_}
-use mathlib.Core.Bool.{Bool, true, false, _&&_, _||_, not}
+use mathlib.Core.Path.{_≡_, refl, sym, _∙_}
+use mathlib.Core.Bool.{Bool, true, false, _||_, not}
 use mathlib.Core.List.{List, [], _∷_, _++_, map}
-use Prim.Native.Nat.{ℕ, zero, suc, _+_, _-_, _≤_, _<_}
+use Prim.Native.Nat.{ℕ, zero, suc, _≤_}
 use native.Mathlib.Omega.{arith}
-use borrow.Author.Tests.{eqb-true, leb-true, le-leb}
-use lib.Dec.{eqb, leb}
+use borrow.Author.Tests.{eq-eqb}
+use lib.Dec.{eqb}
 use lib.ListN.{length, drop}
 use Rattle.octets.specs.Choice.{pick, require, firstOf, within}
-use Rattle.octets.specs.Lists.{every, keep}
+use Rattle.octets.specs.Lists.{every}
 use Rattle.octets.specs.Numbers.{up4}
 use Rattle.octets.proofs.Choice.{by-pick, first-passes, others-pass, passed}
 use Rattle.octets.proofs.Lists.{and-left, and-right, both, by-test, every-map, every-of, within-high}
 use Rattle.message.specs.CallsThatGetNoAnswer.{messageNumber}
-use Rattle.message.specs.ReadingAMessage.{Name, Avp, Walk, Field, Ask, tunnel, policy, termination, headerCode, avpLength, avpCode, avpOf, behind, walkOne, walkUpTo, walk, body, avps, walkCode, having, firstValue, valueOf, testedAs, fieldCode, forBoth, for265, for275, fields, listCode, readingCode, command, typeOf, askOf, requestOf, textField, labelField, numberField, sessionId, originHost, routingPolicy}
+use Rattle.message.specs.ReadingAMessage.{Name, Avp, Walk, Field, Ask, headerCode, avpLength, avpCode, behind, walkOne, walkUpTo, walk, body, avps, walkCode, having, firstValue, valueOf, testedAs, fieldCode, forBoth, for265, for275, fields, listCode, readingCode, command, typeOf, askOf, requestOf, request, read}
 use Rattle.table.specs.TheTable.{tableNumber}
-use Rattle.decision.specs.Calls.{Call, callNumber, answerLeast, noticeLength}
-use Rattle.decision.proofs.Stay.{fitting}
+use Rattle.decision.specs.Calls.{Call, callNumber}
+use Rattle.decision.specs.Outcomes.{fitting}
+use Rattle.decision.proofs.Answered.{request-fits}
 
 -- NO FAILING TEST GIVES 2001
 
@@ -82,66 +83,11 @@ walk-code m = walk-other _ (body m)
 pub list-code : (m : List ℕ) → other (listCode (command m) (avps m)) ≡ true
 list-code m = list-other (command m) (avps m)
 
--- A REQUEST'S TEXTS FIT
+-- THE TEXTS OF A REQUEST FIT A ROW
 
-tested-most : (f : Field) (xs : List Avp) → testedAs f xs ≡ 0 → length (firstValue xs) ≤ f .high
-unfolding testedAs firstValue
-tested-most f [] h = omega arith
-tested-most f (a ∷ []) h = within-high (f .low) (f .high) _ (passed _ 5014 (omega arith) (first-passes _ _ h))
-tested-most f (a ∷ (b ∷ xs)) h = absurd (omega arith)
-
-tested-within : (f : Field) (xs : List Avp) → f .required ≡ true → testedAs f xs ≡ 0 → within (f .low) (f .high) (length (firstValue xs)) ≡ true
-unfolding testedAs firstValue require
-tested-within f [] r h = let z : _≡_ {A = ℕ} 5005 0 = rw r at h in absurd (omega arith)
-tested-within f (a ∷ []) r h = passed _ 5014 (omega arith) (first-passes _ _ h)
-tested-within f (a ∷ (b ∷ xs)) r h = absurd (omega arith)
-
-or-left : (a b : Bool) → a || b ≡ true → b ≡ false → a ≡ true
-or-left true b h e = refl
-or-left false b h e = sym e ∙ h
-
-module _ (xs : List Avp) where
-  text-within : (n : Name) → fieldCode xs (textField n true) ≡ 0 → within 1 128 (length (valueOf n xs)) ≡ true
-  unfolding fieldCode valueOf textField
-  text-within n h = tested-within (textField n true) (having n xs) refl h
-
-  text-most : (n : Name) (b : Bool) → fieldCode xs (textField n b) ≡ 0 → length (valueOf n xs) ≤ 128
-  unfolding fieldCode valueOf textField
-  text-most n b h = tested-most (textField n b) (having n xs) h
-
-  both-pass : (more : List Field) → firstOf (map (fieldCode xs) (forBoth ++ more)) ≡ 0
-      → (fieldCode xs (textField sessionId true) ≡ 0) × (fieldCode xs (textField originHost true) ≡ 0) × (firstOf (map (fieldCode xs) more) ≡ 0)
-  unfolding forBoth
-  both-pass more h =
-      let h1 = others-pass _ _ h in
-      let h2 = others-pass _ _ h1 in
-      let h3 = others-pass _ _ h2 in
-      let h4 = others-pass _ _ h3 in
-      (first-passes _ _ h, first-passes _ _ h2, others-pass _ _ h4)
-
-  policy-pass : firstOf (map (fieldCode xs) (for265 xs)) ≡ 0 → fieldCode xs (textField routingPolicy (eqb (typeOf xs) 1)) ≡ 0
-  unfolding for265
-  policy-pass h = first-passes _ _ (others-pass _ _ (others-pass _ _ (others-pass _ _ (others-pass _ _ (others-pass _ _ (others-pass _ _ h))))))
-
-  is265 : (c : ℕ) → eqb c 265 || eqb c 275 ≡ true → eqb c 275 ≡ false
-      → firstOf (map (fieldCode xs) (pick (eqb c 265) (for265 xs) for275)) ≡ 0 → firstOf (map (fieldCode xs) (for265 xs)) ≡ 0
-  unfolding pick
-  is265 c known e p = let k : eqb c 265 ≡ true = or-left (eqb c 265) (eqb c 275) known e in rw k at p
-
-  list-fits : (c : ℕ) → eqb c 265 || eqb c 275 ≡ true → listCode c xs ≡ 0 → fitting (askOf c xs) ≡ true
-  unfolding listCode fields askOf fitting
-  list-fits c known h =
-      let b = both-pass (pick (eqb c 265) (for265 xs) for275) (others-pass _ _ h) in
-      by-pick (λ (q : Ask). fitting q ≡ true) (eqb c 275)
-      (λ e. refl)
-      (λ e. by-pick (λ (q : Ask). fitting q ≡ true) (eqb (typeOf xs) 0)
-      (λ z. both (text-within sessionId (b .0)) (text-within originHost (b .1)))
-      (λ z. le-leb _ 128 (text-most routingPolicy _ (policy-pass (is265 c known e (b .2))))))
-
-known-command : (m : List ℕ) → headerCode m ≡ 0 → eqb (command m) 265 || eqb (command m) 275 ≡ true
-unfolding headerCode
-known-command m h = passed _ 3001 (omega arith) (first-passes _ _ (others-pass _ _ (others-pass _ _ h)))
+read-is : (m : List ℕ) → readingCode m ≡ 0 → read m ≡ request (requestOf (command m) (avps m))
+unfolding read pick
+read-is m h = rw (eq-eqb (readingCode m) 0 h)
 
 pub ask-fits : (m : List ℕ) → readingCode m ≡ 0 → fitting ((requestOf (command m) (avps m)) .ask) ≡ true
-unfolding readingCode requestOf
-ask-fits m h = list-fits (avps m) (command m) (known-command m (first-passes _ _ h)) (first-passes _ _ (others-pass _ _ (others-pass _ _ h)))
+ask-fits m h = request-fits m (requestOf (command m) (avps m)) (read-is m h)

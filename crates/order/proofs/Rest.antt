@@ -1,34 +1,36 @@
 -- What stays: the rows that a call does not find, and the soundness of every row.
 use mathlib.Core.Path.{_≡_, refl, sym, ap, _∙_}
-use mathlib.Core.Bool.{Bool, true, false, _&&_, not}
-use mathlib.Core.List.{List, [], _∷_, _++_}
-use Prim.Native.Nat.{ℕ, _/_, _*_, _<_}
-use native.Mathlib.Omega.{arith}
+use mathlib.Core.Bool.{Bool, true}
+use mathlib.Core.List.{List, [], _∷_}
+use Prim.Native.Nat.{ℕ, _/_, _<_}
 use borrow.Author.Tests.{eqb-true, eqb-false}
 use lib.Dec.{eqb}
 use lib.ListN.{length}
-use Rattle.octets.specs.Choice.{pick}
 use Rattle.octets.proofs.Choice.{by-pick, first-passes}
 use Rattle.octets.proofs.Lists.{by-test}
 use Rattle.message.specs.Codes.{numberOf}
 use Rattle.message.specs.ReadingAMessage.{readingCode}
-use Rattle.table.specs.TheTable.{Subscriber, Found, row, nothing, lookup, rows, firstRow, cutInRows, isRowOf, rowAt, withRow, rowLength, tableNumber, readRow, rowBytes}
+use Rattle.table.specs.TheTable.{Subscriber, row, lookup, rows, firstRow, cutInRows, isRowOf, rowAt, withRow, rowLength, tableNumber, readRow, rowBytes}
 use Rattle.table.specs.Soundness.{sound}
-use Rattle.table.proofs.Bytes.{length-row}
+use Rattle.table.proofs.Bytes.{length-row, read-row}
 use Rattle.table.proofs.Good.{Good}
 use Rattle.table.proofs.Rows.{whole-rows}
 use Rattle.table.proofs.Sound.{says-good, sound-row}
-use Rattle.decision.specs.Deciding.{Verdict, decide}
-use Rattle.decision.specs.Calls.{Call, Left, Ran, callNumber, silent, refusal, settled, handle, ranFirst, run}
-use Rattle.decision.proofs.Stay.{fitting, stays}
-use Rattle.order.specs.Demand2.{requestIn, found, OtherRowsStay, SoundStaysSound, SoundStaysInList}
+use Rattle.decision.specs.Deciding.{Verdict}
+use Rattle.decision.specs.Calls.{Call, Left, callNumber, silent, refusal, settled, handle, ranFirst, run}
+use Rattle.decision.specs.Outcomes.{fitting}
+use Rattle.decision.proofs.Stay.{stays}
+use Rattle.order.specs.Demand2.{requestIn, found, checks, noneFails, afterwards, Replaced, SuccessReplacesRow, OtherRowsStay, SoundStaysSound, SoundStaysInList}
+use Rattle.order.proofs.Finding.{same-row}
 use Rattle.order.proofs.Read.{ask-fits}
 use Rattle.order.proofs.Answered.{Went, OnRow, unanswered, stopped, reached, went, verdict}
+use Rattle.order.proofs.Decided.{granting}
+use Rattle.order.proofs.Checks.{Won, won, won-went, granted, written}
 use Rattle.order.proofs.Tables.{at-with, at-other, length-cut}
 use Rattle.order.proofs.Handling.{There, there}
 
 -- the table of a call that is answered has rows
-rows-there : (t : List ℕ) (c : Call) → callNumber t c ≡ 0 → tableNumber t ≡ 0
+pub rows-there : (t : List ℕ) (c : Call) → callNumber t c ≡ 0 → tableNumber t ≡ 0
 unfolding callNumber
 rows-there t c h = first-passes _ _ h
 
@@ -62,9 +64,6 @@ module _ (t : List ℕ) (c : Call) where
   unfolding requestIn
   fits h = ask-fits (c .message) h
 
-  same-row : (k l : ℕ) → row k ≡ row l → k ≡ l
-  same-row k l f = cc
-
   sound-went : (j : ℕ) → sound (rowAt t j) ≡ true → Went t c → sound (rowAt ((handle t c) .table) j) ≡ true
   unfolding silent refusal
   sound-went j s (unanswered a l) = rw l s
@@ -78,6 +77,34 @@ module _ (t : List ℕ) (c : Call) where
       let g : Good ((verdict t c i) .after) = stays ((requestIn c) .ask) (c .wag) (readRow (rowAt t i)) (fits (o .was-read)) (says-good (rowAt t i) (o .was-sound)) in
       rw (o .leaves) (settled-table (λ (u : List ℕ). sound (rowAt u j) ≡ true) i (verdict t c i) s (rw (p, w) (sound-row _ g))))
       (λ e. ap sound (other-went j (λ f. eqb-false j i e (same-row j i (sym f ∙ o .at))) (reached i a o)) ∙ s)
+
+-- THE ROW THAT IS REPLACED
+
+module _ (t : List ℕ) (c : Call) where
+  after-good : (i : ℕ) → OnRow t c i → noneFails (checks t c) ≡ true → Good (afterwards ((requestIn c) .ask) (readRow (rowAt t i)))
+  unfolding granting
+  after-good i o h =
+      let g : Good ((verdict t c i) .after) = stays ((requestIn c) .ask) (c .wag) (readRow (rowAt t i)) (fits t c (o .was-read)) (says-good (rowAt t i) (o .was-sound)) in
+      rw (granted t c i o h) at g
+
+  replaces : (i : ℕ) → OnRow t c i → callNumber t c ≡ 0 → noneFails (checks t c) ≡ true → Replaced t c i (handle t c)
+  replaces i o a h =
+      let after : Subscriber = afterwards ((requestIn c) .ask) (readRow (rowAt t i)) in
+      let table : (handle t c) .table ≡ withRow t i (rowBytes after) = ap (λ (l : Left). l .table) (o .leaves) ∙ written t c i o h in
+      let w : rowAt ((handle t c) .table) i ≡ rowBytes after =
+      ap (λ (u : List ℕ). rowAt u i) table ∙ at-with (length t / rowLength) t (whole-rows t (rows-there t c a)) i (row-in t c i (o .at)) (rowBytes after) (length-row after) in
+      record {
+        was-sound = o .was-sound;
+        table = table;
+        is-sound = rw w (sound-row after (after-good i o h));
+        says = rw w (read-row after (after-good i o h));
+      }
+
+  replaces-won : (i : ℕ) → found t c ≡ row i → Won t c → Replaced t c i (handle t c)
+  replaces-won i e (won j o a h) = rw (same-row i j (sym e ∙ o .at)) (replaces j o a h)
+
+pub success-replaces-row : SuccessReplacesRow
+success-replaces-row t c i h e = replaces-won t c i e (won-went t c h (went t c))
 
 pub other-rows-stay : OtherRowsStay
 other-rows-stay t c j h = other-went t c j h (went t c)

@@ -1,29 +1,32 @@
 -- Set-up: what is written is sound, since the numbers test what a sound row needs.
 use mathlib.Core.Path.{_≡_, refl, sym, ap, _∙_}
-use mathlib.Core.Bool.{Bool, true, false, _&&_, not}
+use mathlib.Core.Bool.{Bool, true, false}
 use mathlib.Core.List.{List, [], _∷_, _++_}
-use Prim.Native.Nat.{ℕ, zero, suc, _+_, _/_, _*_, _≤_, _<_}
+use Prim.Native.Nat.{ℕ, zero, suc, _+_, _*_, _/_, _≤_, _<_}
 use native.Mathlib.Omega.{arith}
-use borrow.Author.Tests.{eqb-true, eqb-false, leb-true, ltb-true}
-use lib.Dec.{eqb, leb, ltb}
-use lib.ListN.{length}
-use Rattle.octets.specs.Choice.{pick, firstOf, within}
-use Rattle.octets.specs.Lists.{every, sumOf}
-use Rattle.octets.specs.Texts.{allZero, zeros}
-use Rattle.octets.proofs.Choice.{by-pick, first-passes, others-pass, passed}
-use Rattle.octets.proofs.Lists.{by-test}
-use Rattle.table.specs.TheTable.{Entry, Subscriber, Found, row, nothing, firstRow, rows, lookup, isRowOf, rowAt, withRow, rowLength, tableNumber, readRow, rowBytes}
-use Rattle.table.specs.Soundness.{isName, labels, limits, sameLabel, sound}
+use borrow.Author.Tests.{eq-eqb, eqb-true, leb-true, ltb-true, not-true}
+use lib.Dec.{eqb}
+use lib.ListN.{length, set, take}
+use lib.Seq.{take-at, take-take}
+use Rattle.octets.specs.Choice.{pick, within}
+use Rattle.octets.specs.Lists.{sumOf}
+use Rattle.octets.specs.Texts.{allZero, filled, zeros}
+use Rattle.octets.proofs.Choice.{first-passes, others-pass, passed}
+use Rattle.octets.proofs.Lists.{and-left, both, by-test, same-refl, within-high}
+use Rattle.table.specs.TheTable.{Entry, Subscriber, Found, row, nothing, later, isFound, firstRow, rows, cutInRows, lookup, isRowOf, rowAt, withRow, rowLength, tableNumber, readRow, rowBytes}
+use Rattle.table.specs.Soundness.{isName, limits, sound}
 use Rattle.table.proofs.Bytes.{length-row, read-row}
 use Rattle.table.proofs.Good.{Good, goodEntry}
 use Rattle.table.proofs.Rows.{whole-rows}
 use Rattle.table.proofs.Sound.{says-good, sound-row}
 use Rattle.changes.specs.SetUp.{SetUp, leaving, clear, enter, enterNumber, add, addAt, entryNumber, named, withEntry, withRowAt}
 use Rattle.changes.proofs.Stays.{MayEnter}
+use Rattle.changes.proofs.Steps.{row-name}
 use Rattle.changes.proofs.Keep.{good-named, good-entered}
-use Rattle.order.specs.SettingUp.{Wrote, ClearRefused, EnterRefused, AddRefused, ClearedZero, EnterWrites, AddWrites}
+use Rattle.order.specs.SettingUp.{Wrote, ClearRefused, EnterRefused, AddRefused, ClearedZero, EnterWrites, EnteredFound, AddWrites}
 use Rattle.order.specs.NoSecondAnswer.{OneClearing, OneEntering, OneAdding, OneAnswer}
-use Rattle.order.proofs.Tables.{at-with, at-other}
+use Rattle.order.proofs.Finding.{front}
+use Rattle.order.proofs.Tables.{at-with, at-other, cut-with, length-cut, length-with}
 use Rattle.order.proofs.Rest.{in-table}
 
 -- NO SECOND ANSWER
@@ -160,3 +163,60 @@ add-writes t name e i h f =
     rw (is, leaving-done (entryNumber (rowAt t i) e) t u n)
     (wrote t a i (found-in t name i f) (withEntry e (readRow (rowAt t i)))
     (good-entered e (readRow (rowAt t i)) (may-enter (rowAt t i) e n) (says-good (rowAt t i) (entry-sound (rowAt t i) e n))))
+
+-- A NAME THAT WAS ENTERED IS FOUND
+
+found-later : (F : Found) → isFound (later F) ≡ isFound F
+unfolding isFound later
+found-later nothing = refl
+found-later (row i) = refl
+
+still : (f : List ℕ → Bool) (rs : List (List ℕ)) → isFound (later (firstRow f rs)) ≡ false → isFound (firstRow f rs) ≡ false
+still f rs h = sym (found-later (firstRow f rs)) ∙ h
+
+-- a row that passes, put among rows of which none does
+found-put : (f : List ℕ → Bool) (rs : List (List ℕ)) (i : ℕ) (r : List ℕ) → isFound (firstRow f rs) ≡ false → f r ≡ true → i < length rs → firstRow f (set rs i r) ≡ row i
+unfolding firstRow pick later isFound
+found-put f [] i r n p h = absurd (omega arith)
+found-put f (x ∷ rs) zero r n p h = rw p
+found-put f (x ∷ rs) (suc i) r n p h =
+    by-test (f x)
+    (λ e. let z : true ≡ false = rw e at n in let y : _≡_ {A = ℕ} 0 1 = cc in absurd (omega arith))
+    (λ e. rw (e, found-put f rs i r (still f rs (rw e at n)) p (omega arith)))
+
+-- the new row has the name
+name-part : (name : List ℕ) → length name ≤ 15 → take (length name) (filled name 15) ≡ name
+unfolding filled
+name-part name h = take-take (length name) 15 (name ++ zeros 15) h ∙ take-at name (zeros 15) (length name) refl
+
+front-found : (name : List ℕ) → isName name ≡ true → isRowOf name (1 ∷ length name ∷ filled name 15) ≡ true
+unfolding isRowOf isName
+front-found name h =
+    let w : within 1 15 (length name) ≡ true = and-left (within 1 15 (length name)) _ h in
+    both w (both (eq-eqb (length name) (length name) refl) (rw (name-part name (within-high 1 15 _ w)) (same-refl name)))
+
+new-found : (name : List ℕ) → isName name ≡ true → isRowOf name (rowBytes (named name)) ≡ true
+unfolding named
+new-found name h =
+    sym (front name (rowBytes (named name))) ∙ ap (isRowOf name) (row-name (named name)) ∙ front-found name h
+
+module _ (t name : List ℕ) (h : enterNumber t name ≡ 0) where
+  not-held : isFound (lookup t name) ≡ false
+  unfolding enterNumber
+  not-held = not-true (isFound (lookup t name)) (passed _ 10 (omega arith) (first-passes _ _ (others-pass _ _ (others-pass _ _ h))))
+
+  look-after : (i : ℕ) → i < length t / rowLength → lookup (withRow t i (rowBytes (named name))) name ≡ row i
+  unfolding lookup rows
+  look-after i l =
+      let n : ℕ = length t / rowLength in
+      let size : length t ≡ rowLength * n = whole-rows t (enter-rows t name h) in
+      let r : List ℕ = rowBytes (named name) in
+      ap (λ (k : ℕ). firstRow (isRowOf name) (cutInRows (k / rowLength) (withRow t i r))) (length-with n t size i l r (length-row (named name)))
+      ∙ ap (firstRow (isRowOf name)) (cut-with n t size i l r (length-row (named name)))
+      ∙ found-put (isRowOf name) (cutInRows n t) i r not-held (new-found name (enter-name t name h)) (rw (length-cut n t) l)
+
+pub entered-found : EnteredFound
+unfolding enter withRowAt
+entered-found t name i h e =
+    let n : enterNumber t name ≡ 0 = sym (leaving-number (enterNumber t name) t _) ∙ h in
+    rw (leaving-done (enterNumber t name) t _ n, e) (look-after t name n i (in-table allZero t i e))

@@ -1,14 +1,14 @@
 -- A table as its rows, one behind another: reading one, replacing one, and putting all together again.
-use mathlib.Core.Path.{_≡_, refl, sym, ap, _∙_}
+use mathlib.Core.Path.{_≡_, refl, ap, _∙_}
 use mathlib.Core.List.{List, [], _∷_, _++_, append-assoc}
-use Prim.Native.Nat.{ℕ, zero, suc, _+_, _-_, _*_, _/_, _≤_, _<_}
+use Prim.Native.Nat.{ℕ, zero, suc, _+_, _-_, _*_, _<_}
 use native.Mathlib.Omega.{arith}
 use native.Mathlib.Nat.{mul-suc, mul-zero, add-comm, add-assoc, zero-add, not-suc-le-zero, le-of-suc-le-suc}
 use lib.ListN.{length, getD, take, drop, set, length-append, length-take, length-drop, take-append-drop}
 use lib.Seq.{take-at, drop-at, length-take-le, drop-drop, take-add, take-append-le, drop-append-le}
 use borrow.Author.Tests.{ltb-true, ltb-false}
 use lib.Dec.{ltb}
-use Rattle.octets.specs.Texts.{part, put}
+use Rattle.octets.specs.Texts.{put}
 use Rattle.octets.proofs.Lists.{by-test}
 use Rattle.table.proofs.Bytes.{drop-past}
 use Rattle.table.proofs.Form.{part-take}

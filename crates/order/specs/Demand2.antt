@@ -12,7 +12,7 @@ use Rattle.table.specs.TheTable.{Access, Subscriber, Found, row, nothing, isFou
 use Rattle.table.specs.Soundness.{sound, onEntry}
 use Rattle.changes.specs.Changes.{freed, lowestFree, opened, routed}
 use Rattle.decision.specs.Deciding.{entryNamed, entryAt, withSession, none, atLimit, placeOf}
-use Rattle.decision.specs.Calls.{Call, Left, callNumber, reply, handle, run}
+use Rattle.decision.specs.Calls.{Call, Left, callNumber, silent, reply, refusal, handle, run}
 
 -- CHECKS IN ORDER
 
@@ -153,6 +153,14 @@ pub record Unchanged (t : List ℕ) (c : Call) (l : Left) : Type 0 where
 abbrev pub RefusedChangesNothing : Type 0
 RefusedChangesNothing = (t : List ℕ) (c : Call) → eqb ((handle t c) .reply .result .code) 2001 ≡ false → Unchanged t c (handle t c)
 
+-- All that these two leave: no answer, with the number of the first of the eight tests that fails; or a refusal with the code
+-- of the first check that fails.
+abbrev pub UnansweredLeaves : Type 0
+UnansweredLeaves = (t : List ℕ) (c : Call) → eqb (callNumber t c) 0 ≡ false → handle t c ≡ silent t c (callNumber t c)
+
+abbrev pub RefusedLeaves : Type 0
+RefusedLeaves = (t : List ℕ) (c : Call) → callNumber t c ≡ 0 → succeeds t c ≡ false → handle t c ≡ refusal t c (firstFailing (checks t c))
+
 -- A cut is made exactly when a call succeeds that asks for a tunnel on an entry that is at its limit.
 abbrev pub CutExactly : Type 0
 CutExactly = (t : List ℕ) (c : Call) → (handle t c) .reply .result .cut ≡ pick (succeeds t c && exceeds ((requestIn c) .ask) (said t c)) 1 0
@@ -167,10 +175,13 @@ SuccessReply =
     (t : List ℕ) (c : Call) → succeeds t c ≡ true
     → (handle t c) .reply ≡ reply c (plain 2001) (placeTaken ((requestIn c) .ask) (said t c)) (cutFor ((requestIn c) .ask) (said t c))
 
--- On success the row that the lookup finds, a sound one, is replaced by the bytes of what it says afterwards.
+-- On success the row that the lookup finds, a sound one, is replaced by the bytes of what it says afterwards. That is sound
+-- again, and reads as it was meant.
 pub record Replaced (t : List ℕ) (c : Call) (i : ℕ) (l : Left) : Type 0 where
   pub was-sound : sound (rowAt t i) ≡ true
   pub table : l .table ≡ withRow t i (rowBytes (afterwards ((requestIn c) .ask) (readRow (rowAt t i))))
+  pub is-sound : sound (rowAt (l .table) i) ≡ true
+  pub says : readRow (rowAt (l .table) i) ≡ afterwards ((requestIn c) .ask) (readRow (rowAt t i))
 
 abbrev pub SuccessFindsRow : Type 0
 SuccessFindsRow = (t : List ℕ) (c : Call) → succeeds t c ≡ true → isFound (found t c) ≡ true

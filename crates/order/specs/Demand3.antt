@@ -4,12 +4,12 @@ use mathlib.Core.Bool.{Bool, true, false, _&&_}
 use mathlib.Core.List.{List, [], _∷_, _++_, map}
 use Prim.Native.Nat.{ℕ}
 use lib.Dec.{eqb, leb}
-use lib.ListN.{length}
+use lib.ListN.{length, take}
 use Rattle.octets.specs.Choice.{pick, require, firstOf, within}
 use Rattle.octets.specs.Lists.{keep}
 use Rattle.octets.specs.Texts.{same}
 use Rattle.message.specs.CallsThatGetNoAnswer.{messageNumber}
-use Rattle.message.specs.ReadingAMessage.{Reading, refused, request, read}
+use Rattle.message.specs.ReadingAMessage.{Reading, refused, request, read, headerCode, walkCode, command, avps, startsWith, sessionId, userName, valueOf, fieldCode, fields}
 use Rattle.table.specs.TheTable.{Found, row, nothing, lookup, rowAt}
 use Rattle.decision.specs.Calls.{Call, Reply, handle, run, answerLeast, noticeLength}
 
@@ -127,3 +127,63 @@ NobodyChangesNothing = (t : List ℕ) (c : Call) → subject c ≡ nobody → (h
 -- So wherever it stands in a list, it gets the reply that it gets on the table before the list.
 abbrev pub NobodysReplies : Type 0
 NobodysReplies = (t : List ℕ) (cs : List Call) → repliesOf nobody cs ((run t cs) .replies) ≡ map (λ (c : Call). (handle t c) .reply) (callsOf nobody cs)
+
+-- COUNTED BY THE USER-NAME. A message that is refused once its User-Name was read may be counted as that user's, and not as
+-- nobody's. Demand 3 holds for this counting too, and for any in which a call that is not refused is its subscriber's.
+
+abbrev pub Counting : (Call → Subject) → Type 0
+Counting owner = (c : Call) (name : List ℕ) → subject c ≡ subscriber name → owner c ≡ subscriber name
+
+-- The User-Name is read: header and walk pass, and so do the first eight of the list, of which User-Name is the eighth for
+-- both commands.
+unfoldable pub nameRead : List ℕ → Bool
+nameRead m =
+    eqb (firstOf (headerCode m ∷ walkCode m ∷ require (startsWith sessionId (avps m)) 5005 ∷ take 8 (map (fieldCode (avps m)) (fields (command m) (avps m))))) 0
+
+unfoldable pub sender : Call → Subject
+sender c = pick (eqb (ownNumber c) 0 && nameRead (c .message)) (subscriber (valueOf userName (avps (c .message)))) nobody
+
+unfoldable pub isBy : (Call → Subject) → Subject → Call → Bool
+isBy owner who c = sameSubject (owner c) who
+
+unfoldable pub callsBy : (Call → Subject) → Subject → List Call → List Call
+callsBy owner who cs = keep (isBy owner who) cs
+
+unfoldable pub repliesBy : (Call → Subject) → Subject → (cs : List Call) → (rs : List Reply) → List Reply
+repliesBy owner who [] rs = []
+repliesBy owner who (c ∷ cs) [] = []
+repliesBy owner who (c ∷ cs) (r ∷ rs) = pick (isBy owner who c) (r ∷ repliesBy owner who cs rs) (repliesBy owner who cs rs)
+
+-- Both ways of counting are such.
+abbrev pub SubjectCounts : Type 0
+SubjectCounts = Counting subject
+
+abbrev pub SenderCounts : Type 0
+SenderCounts = Counting sender
+
+-- A call of no sender is nobody's, so that its reply depends on no record.
+abbrev pub NoSender : Type 0
+NoSender = (c : Call) → sender c ≡ nobody → subject c ≡ nobody
+
+-- A subscriber's replies and record by this counting.
+abbrev pub RepliesAloneBy : Type 0
+RepliesAloneBy =
+    (owner : Call → Subject) → Counting owner → (t : List ℕ) (cs : List Call) (name : List ℕ)
+    → repliesBy owner (subscriber name) cs ((run t cs) .replies) ≡ (run t (callsBy owner (subscriber name) cs)) .replies
+
+abbrev pub RecordAloneBy : Type 0
+RecordAloneBy =
+    (owner : Call → Subject) → Counting owner → (t : List ℕ) (cs : List Call) (name : List ℕ)
+    → recordOf name ((run t cs) .table) ≡ recordOf name ((run t (callsBy owner (subscriber name) cs)) .table)
+
+-- Two lists that are alike by this counting.
+abbrev pub SameTableBy : Type 0
+SameTableBy =
+    (owner : Call → Subject) → Counting owner → (t : List ℕ) (cs ds : List Call)
+    → ((name : List ℕ) → callsBy owner (subscriber name) cs ≡ callsBy owner (subscriber name) ds) → (run t cs) .table ≡ (run t ds) .table
+
+abbrev pub SameRepliesBy : Type 0
+SameRepliesBy =
+    (owner : Call → Subject) → Counting owner → (t : List ℕ) (cs ds : List Call) (name : List ℕ)
+    → callsBy owner (subscriber name) cs ≡ callsBy owner (subscriber name) ds
+    → repliesBy owner (subscriber name) cs ((run t cs) .replies) ≡ repliesBy owner (subscriber name) ds ((run t ds) .replies)

@@ -1,4 +1,5 @@
 pub mod Demand2
 pub mod Demand3
 pub mod NoSecondAnswer
+pub mod OpenedFirst
 pub mod SettingUp

@@ -1,6 +1,6 @@
 -- Set-up: a refusal changes nothing; what is written is a sound row; the other rows stay.
 use mathlib.Core.Path.{_≡_}
-use mathlib.Core.Bool.{Bool, true, false}
+use mathlib.Core.Bool.{true, false}
 use mathlib.Core.List.{List}
 use Prim.Native.Nat.{ℕ}
 use lib.Dec.{eqb}
@@ -8,7 +8,7 @@ use lib.ListN.{length}
 use Rattle.octets.specs.Texts.{allZero, zeros}
 use Rattle.table.specs.TheTable.{Entry, Subscriber, row, firstRow, rows, lookup, rowAt, readRow}
 use Rattle.table.specs.Soundness.{sound}
-use Rattle.changes.specs.SetUp.{SetUp, clear, enter, add, named, withEntry}
+use Rattle.changes.specs.SetUp.{clear, enter, add, named, withEntry}
 
 -- Any number but 0 leaves the table as it was.
 abbrev pub ClearRefused : Type 0
@@ -33,6 +33,10 @@ pub record Wrote (t : List ℕ) (i : ℕ) (says : Subscriber) (after : List ℕ)
 -- Entering writes the first wholly zero row: the name and nothing else.
 abbrev pub EnterWrites : Type 0
 EnterWrites = (t name : List ℕ) (i : ℕ) → (enter t name) .number ≡ 0 → firstRow allZero (rows t) ≡ row i → Wrote t i (named name) ((enter t name) .table)
+
+-- The name is then found in that row.
+abbrev pub EnteredFound : Type 0
+EnteredFound = (t name : List ℕ) (i : ℕ) → (enter t name) .number ≡ 0 → firstRow allZero (rows t) ≡ row i → lookup ((enter t name) .table) name ≡ row i
 
 -- Adding writes the subscriber's row: what it said, and one entry more, as given.
 abbrev pub AddWrites : Type 0

@@ -2,7 +2,6 @@ pub mod Good
 pub mod Bytes
 pub mod Form
 pub mod Sound
-pub mod Fletcher
 pub mod Rows
 pub mod Tests
 pub mod Entries
@@ -11,3 +10,4 @@ pub mod Line
 pub mod Accesses
 pub mod Tested
 pub mod WorkedCases
+pub mod Columns

@@ -3,3 +3,4 @@ pub mod Soundness
 pub mod WorkedCases
 pub mod Answers
 pub mod RowTests
+pub mod Columns

@@ -11,6 +11,7 @@ ghost use Rattle.table.specs.TheTable.{orderLine, places, readEntries, r
 ghost use Rattle.octets.specs.Lists.{every, distinct, sumOf, upTo0};
 ghost use Rattle.table.specs.Soundness.{zeroBehind, isDigit, isName, headForm, entryForm, entriesForm, sameLabel, labels, limits, inUse, accessForm, lineExact, sessions, onEntry, underLimits, sound};
 ghost use Rattle.table.specs.RowTests.{accessSound, placeSound, headSound};
+ghost use Rattle.table.specs.Columns.{columnFirst, columnSecond};
 ghost use Rattle.table.specs.Answers.{found, rowEnd};
 
 // The two sums of a block, each a remainder modulo 255.
@@ -19,19 +20,46 @@ pub struct Sums {
     pub second: u32,
 }
 
-// Fletcher-16 over the 510 bytes of a block that come before its sums. Both plain sums fit, so that one remainder each,
-// at the end, is enough.
+// The plain sums of column j, where the 510 bytes before a block's sums stand in 15 rows of 34.
+fn column(s: &[u8], j: usize) -> Sums
+    requires { ⌜ (length (now s) ≡ 510) × (j < 34) ⌝ }
+    ensures { λ r. ⌜ (r .first ≡ columnFirst 15 (now (s .entry)) j) × (r .second ≡ columnSecond 15 (now (s .entry)) j) × (r .first ≤ 3825) × (r .second ≤ 57375) ⌝ }
+{
+    let mut a: u32 = 0;
+    let mut b: u32 = 0;
+    let mut at: usize = j;
+    let mut k: usize = 0;
+    while k < 15 {
+        a += octets::wide(s[at]);
+        b += a;
+        at += 34;
+        k += 1;
+    }
+    Sums {
+        first: a,
+        second: b,
+    }
+}
+
+// Fletcher-16 over the 510 bytes of a block that come before its sums. Byte j of row k counts 510 - (34 k + j) times in the
+// second sum; 34 times its column's second sum counts it j times too often, and modulo 255 so much less is 255 - j more.
+// Columns do not depend on each other, so that the compiler takes several at a time; one remainder each is enough.
 pub fn sums_of(s: &[u8]) -> Sums
     requires { ⌜ length (now s) ≡ 510 ⌝ }
     ensures { λ r. ⌜ (r .second ∷ r .first ∷ [] ≡ sums (now (s .entry))) × (r .first < 255) × (r .second < 255) ⌝ }
 {
     let mut a: u32 = 0;
     let mut b: u32 = 0;
-    let mut i: usize = 0;
-    while i < s.len() {
-        a += octets::wide(s[i]);
-        b += a;
-        i += 1;
+    let mut weight: u32 = 255;
+    let mut j: usize = 0;
+    while j < 34 {
+        let c = column(s, j);
+        let first = c.first;
+        let second = c.second;
+        a += first;
+        b += 34 * second + weight * first;
+        weight -= 1;
+        j += 1;
     }
     Sums {
         first: a % 255,

@@ -1,8 +1,9 @@
 -- Seven writes one behind the other, then the header in front: no place is past the room, since every part is bounded (`one` to `six`).
-use mathlib.Core.Path.{_≡_, _∙_}
+use mathlib.Core.Path.{_≡_, _∙_, ap}
 use Prim.Native.Nat.{_≤_}
 use native.Mathlib.Omega.{arith}
 use lib.ListN.{length}
+use Rattle.octets.specs.Texts.{put}
 use Rattle.message.specs.Codes.{plain, numberOf}
 use Rattle.message.specs.WritingTheAnswer.{avpBytes, sessionAvp, authAvps, resultAvp, subscriptionAvp, proxyAvps, answerBody}
 use Rattle.message.specs.Kinds.{codeFrom}
@@ -43,8 +44,10 @@ six p =
     let s = p .before .before .before .before .before .before .before .before .before .before .before .before .before .before .before .before .before .before .before .before .before .before .before .before .before .before in
     let a = s .args in
     let q = five (p .before .before .before .before) in
-    let u = user-short (a .m .now) (a .host .now) (a .realm .now) (a .code) (a .user) (a .proxies) (a .room .now) (s .pre) in
-    (omega (arith, p .put-subscription .ensures .place, subscription-most (a .m .now) (plain (a .code)) u, q .0), p .put-subscription .kept .1 .1 .1 .0 ∙ q .1)
+    let u = user-short (a .m .now) (a .host .now) (a .realm .now) (a .code) (a .user) (a .proxies) (a .room .now) (s .pre) in (
+      omega (arith, p .put-subscription .ensures .place, subscription-most (a .m .now) (plain (a .code)) u, q .0),
+      p .put-subscription .kept .1 .1 .1 .0 ∙ q .1,
+    )
 
 put-session-requires : tie.Need-put-session-requires
 put-session-requires c κs =
@@ -52,8 +55,10 @@ put-session-requires c κs =
 
 put-auth-requires : tie.Need-put-auth-requires
 put-auth-requires c κs =
-    let p = one (c .before .before .before) in
-    (c .before .before .before .before .before .before .before .before .before .pre .least, omega (arith, p .0, p .1, c .before .before .before .before .before .before .before .before .before .pre .room-fits))
+    let p = one (c .before .before .before) in (
+      c .before .before .before .before .before .before .before .before .before .pre .least,
+      omega (arith, p .0, p .1, c .before .before .before .before .before .before .before .before .before .pre .room-fits),
+    )
 
 put-result-requires : tie.Need-put-result-requires
 put-result-requires c κs =
@@ -90,7 +95,8 @@ put-header-requires c κs =
 
 same-length : tie.Need-same-length
 same-length c =
-    c .before .before .put-header .kept .1 .1 .1 .0 ∙ c .before .before .before .before .before .before .put-proxies .kept .1 .1 .0 ∙ (six (c .before .before .before .before .before .before .before .before .before .before)) .1
+    c .before .before .put-header .kept .1 .1 .1 .0 ∙ c .before .before .before .before .before .before .put-proxies .kept .1 .1 .0
+    ∙ (six (c .before .before .before .before .before .before .before .before .before .before)) .1
 
 returns : tie.Need-returns
 unfolding answerBody
@@ -114,11 +120,14 @@ returns c =
     let all =
     written-seven room (w1 .last .1 .0) (w2 .last .1 .1 .0) (w3 .last .1 .1 .0) (w4 .last .0) (w5 .last .0) (w6 .last .1 .1 .1 .0) (w7 .last .1 .1 .0)
     20 (w1 .result) (w2 .result) (w3 .result) (w4 .result) (w5 .result) (w6 .result) (w7 .result)
-    (sessionAvp m) (authAvps m (codeFrom k n)) (resultAvp (codeFrom k n)) (avpBytes 264 host) (avpBytes 296 realm) (subscriptionAvp m (codeFrom k n)) (proxyAvps m)
-    (w1 .ensures) (rw (auth-from m k n) at (w2 .ensures)) (w3 .ensures) (w4 .ensures) (w5 .ensures) (rw (subscription-from m k n) at (w6 .ensures)) (w7 .ensures)
+    (sessionAvp m) (authAvps m (codeFrom k n)) (resultAvp (codeFrom k n)) (avpBytes 264 host) (avpBytes 296 realm) (subscriptionAvp m (codeFrom k n))
+    (proxyAvps m)
+    (w1 .ensures) (rw (auth-from m k n) at (w2 .ensures)) (w3 .ensures) (w4 .ensures) (w5 .ensures) (rw (subscription-from m k n) at (w6 .ensures))
+    (w7 .ensures)
     (omega (arith, fits, length-body m host realm (codeFrom k n))) in
-    answer-put m host realm (codeFrom k n) room (w7 .last .1 .1 .0) (c .before .before .put-header .last .1 .1 .1 .0) (w7 .result) (s .pre .least) fits all
-    (rw (head-from m k n (w7 .result)) at (c .before .before .put-header .ensures))
+    answer-put m host realm (codeFrom k n) room (w7 .last .1 .1 .0) (c .before .before .put-header .last .1 .1 .1 .0) (w7 .result) (s .pre .least)
+    fits all
+    (c .before .before .put-header .ensures ∙ ap (put (w7 .last .1 .1 .0) 0) (head-from m k n (w7 .result)))
 
 pub answer-spec : {M : Type 1} → statement M
 answer-spec =

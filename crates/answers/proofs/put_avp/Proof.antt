@@ -52,7 +52,12 @@ returns c =
     let v = a .value .now in
     record {
       place = rw (length-avp (a .code) v) (omega arith);
-      bytes-put = rw (c .before .before .put-zeros .ensures, c .before .before .before .before .before .before .put-bytes .ensures, c .before .before .before .before .before .before .before .before .before .before .put-head .ensures) (avp-put (a .room .now) (a .at) (a .code) v (omega arith));
+      bytes-put = rw (
+        c .before .before .put-zeros .ensures,
+        c .before .before .before .before .before .before .put-bytes .ensures,
+        c .before .before .before .before .before .before .before .before .before .before .put-head .ensures,
+      )
+          (avp-put (a .room .now) (a .at) (a .code) v (omega arith));
     }
 
 pub put-avp-spec : {M : Type 1} → statement M

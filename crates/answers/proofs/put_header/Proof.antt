@@ -53,7 +53,12 @@ returns c =
     let m = a .m .now in
     let five : List ℕ = 1 ∷ in24 (a .n) ++ (answerFlags m (plain (a .code)) ∷ []) in
     c .before .before .put-bytes2 .ensures
-    ∙ rw (c .before .before .before .before .before .before .before .put-bytes .ensures, c .before .before .before .before .before .before .before .before .before .before .answer-flags .ensures) (put-then (a .room .now) 0 five (part m 5 15) 5 refl (omega (arith, c .before .before .before .before .before .before .before .before .before .before .before .before .before .pre .1)))
+    ∙ rw (
+      c .before .before .before .before .before .before .before .put-bytes .ensures,
+      c .before .before .before .before .before .before .before .before .before .before .answer-flags .ensures,
+    )
+    (put-then (a .room .now) 0 five (part m 5 15) 5 refl
+    (omega (arith, c .before .before .before .before .before .before .before .before .before .before .before .before .before .pre .1)))
 
 pub put-header-spec : {M : Type 1} → statement M
 put-header-spec =

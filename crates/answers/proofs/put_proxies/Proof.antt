@@ -21,12 +21,14 @@ abbrev μ-loop : tie.MeasureT-loop
 returns : tie.Need-returns Inv-loop μ-loop
 returns c =
     let a = c .before .before .before .args in
-    written-none (a .room .now) (a .at) (proxyAvps (a .m .now)) (proxies-none (a .m .now) (sym (not-true (a .proxies) (c .if1 .taken)) ∙ c .before .before .before .pre .2))
+    written-none (a .room .now) (a .at) (proxyAvps (a .m .now))
+    (proxies-none (a .m .now) (sym (not-true (a .proxies) (c .if1 .taken)) ∙ c .before .before .before .pre .2))
 
 loop-holds : tie.Need-loop-holds Inv-loop μ-loop
 loop-holds c =
     let a = c .before .before .before .args in
-    copied-none (a .m .now) (a .room .now) (a .at) (sym (not-false (a .proxies) (c .if1 .left)) ∙ c .before .before .before .pre .2) (c .before .before .before .pre .0) (c .before .before .before .pre .1)
+    copied-none (a .m .now) (a .room .now) (a .at) (sym (not-false (a .proxies) (c .if1 .left)) ∙ c .before .before .before .pre .2)
+    (c .before .before .before .pre .0) (c .before .before .before .pre .1)
 
 head-at-requires : tie.Need-head-at-requires Inv-loop μ-loop
 head-at-requires c κs = c .before .loop .inv .inside
@@ -44,31 +46,39 @@ returns-2 : tie.Need-returns-2 Inv-loop μ-loop
 returns-2 c =
     let l = c .before .before .before .before .loop in
     let a = c .before .before .before .before .before .before .before .before .args in
-    copied-stop (a .m .now) (a .room .now) (l .room) (a .at) (l .to) (l .from) (c .enum-told .given .0 .0) (l .inv) (c .before .before .before .loop-test .taken) (sym (c .before .before .head-at .ensures) ∙ c .enum-told .given .1)
+    copied-stop (a .m .now) (a .room .now) (l .room) (a .at) (l .to) (l .from) (c .enum-told .given .0 .0) (l .inv)
+    (c .before .before .before .loop-test .taken) (sym (c .before .before .head-at .ensures) ∙ c .enum-told .given .1)
 
 sub-put-bytes : tie.Need-sub-put-bytes Inv-loop μ-loop
 sub-put-bytes c =
     let l = c .before .before .before .before .before .before .before .before .loop in
-    let n = next-place (c .before .before .before .before .before .before .before .before .before .before .before .before .args .m .now) (l .from) (c .before .before .before .before .h .given .0 .0) (l .inv .inside) (sym (c .before .before .before .before .before .before .head-at .ensures) ∙ c .before .before .before .before .h .given .1) in
+    let n = next-place (c .before .before .before .before .before .before .before .before .before .before .before .before .args .m .now) (l .from)
+    (c .before .before .before .before .h .given .0 .0) (l .inv .inside)
+    (sym (c .before .before .before .before .before .before .head-at .ensures) ∙ c .before .before .before .before .h .given .1) in
     omega (arith, n .0)
 
 part-put-bytes-start : tie.Need-part-put-bytes-start Inv-loop μ-loop
 part-put-bytes-start c =
     let l = c .before .before .before .before .before .before .before .before .loop in
-    let n = next-place (c .before .before .before .before .before .before .before .before .before .before .before .before .args .m .now) (l .from) (c .before .before .before .before .h .given .0 .0) (l .inv .inside) (sym (c .before .before .before .before .before .before .head-at .ensures) ∙ c .before .before .before .before .h .given .1) in
+    let n = next-place (c .before .before .before .before .before .before .before .before .before .before .before .before .args .m .now) (l .from)
+    (c .before .before .before .before .h .given .0 .0) (l .inv .inside)
+    (sym (c .before .before .before .before .before .before .head-at .ensures) ∙ c .before .before .before .before .h .given .1) in
     omega (arith, n .0)
 
 part-put-bytes-end : tie.Need-part-put-bytes-end Inv-loop μ-loop
 part-put-bytes-end c =
     let l = c .before .before .before .before .before .before .before .before .loop in
-    (next-place (c .before .before .before .before .before .before .before .before .before .before .before .before .args .m .now) (l .from) (c .before .before .before .before .h .given .0 .0) (l .inv .inside) (sym (c .before .before .before .before .before .before .head-at .ensures) ∙ c .before .before .before .before .h .given .1)) .1
+    (next-place (c .before .before .before .before .before .before .before .before .before .before .before .before .args .m .now) (l .from)
+    (c .before .before .before .before .h .given .0 .0) (l .inv .inside)
+    (sym (c .before .before .before .before .before .before .head-at .ensures) ∙ c .before .before .before .before .h .given .1)) .1
 
 put-bytes-requires : tie.Need-put-bytes-requires Inv-loop μ-loop
 put-bytes-requires c κs =
     let l = c .before .before .before .before .before .before .before .before .before .loop in
     let m = c .before .before .before .before .before .before .before .before .before .before .before .before .before .args .m .now in
     let a = c .before .before .before .before .before .h .given .0 .0 in
-    let n = next-place m (l .from) a (l .inv .inside) (sym (c .before .before .before .before .before .before .before .head-at .ensures) ∙ c .before .before .before .before .before .h .given .1) in
+    let n = next-place m (l .from) a (l .inv .inside)
+    (sym (c .before .before .before .before .before .before .before .head-at .ensures) ∙ c .before .before .before .before .before .h .given .1) in
     omega (arith, n .0, n .1, length-part m (l .from) (a .next - l .from) (omega (arith, n .0, n .1)), l .inv .fits, l .inv .same)
 
 sub-to : tie.Need-sub-to Inv-loop μ-loop
@@ -93,19 +103,26 @@ loop-again : tie.Need-loop-again Inv-loop μ-loop
 loop-again c =
     let l = c .before .before .before .before .before .before .before .before .before .before .before .before .loop in
     let a = c .before .before .before .before .before .before .before .before .before .before .before .before .before .before .before .before .args in
-    copied-one (a .m .now) (a .room .now) (l .room) (a .at) (l .to) (l .from) (c .before .before .before .before .before .before .before .before .h .given .0 .0) (l .inv) (sym (c .before .before .before .before .before .before .before .before .before .before .head-at .ensures) ∙ c .before .before .before .before .before .before .before .before .h .given .1) (c .before .before .put-bytes .last .0) (c .before .before .before .before .before .if2 .taken) (c .before .before .put-bytes .ensures)
+    copied-one (a .m .now) (a .room .now) (l .room) (a .at) (l .to) (l .from)
+    (c .before .before .before .before .before .before .before .before .h .given .0 .0) (l .inv)
+    (sym (c .before .before .before .before .before .before .before .before .before .before .head-at .ensures)
+    ∙ c .before .before .before .before .before .before .before .before .h .given .1) (c .before .before .put-bytes .last .0)
+    (c .before .before .before .before .before .if2 .taken) (c .before .before .put-bytes .ensures)
 
 loop-less-2 : tie.Need-loop-less-2 Inv-loop μ-loop
 loop-less-2 c =
     let l = c .before .before .before .before .before .before .before .loop in
-    let n = next-place (c .before .before .before .before .before .before .before .before .before .before .before .args .m .now) (l .from) (c .before .before .before .h .given .0 .0) (l .inv .inside) (sym (c .before .before .before .before .before .head-at .ensures) ∙ c .before .before .before .h .given .1) in
+    let n = next-place (c .before .before .before .before .before .before .before .before .before .before .before .args .m .now) (l .from)
+    (c .before .before .before .h .given .0 .0) (l .inv .inside)
+    (sym (c .before .before .before .before .before .head-at .ensures) ∙ c .before .before .before .h .given .1) in
     omega (arith, n .0, n .1)
 
 loop-again-2 : tie.Need-loop-again-2 Inv-loop μ-loop
 loop-again-2 c =
     let l = c .before .before .before .before .before .before .before .loop in
     let a = c .before .before .before .before .before .before .before .before .before .before .before .args in
-    copied-over (a .m .now) (a .room .now) (l .room) (a .at) (l .to) (l .from) (c .before .before .before .h .given .0 .0) (l .inv) (sym (c .before .before .before .before .before .head-at .ensures) ∙ c .before .before .before .h .given .1) (c .if2 .left)
+    copied-over (a .m .now) (a .room .now) (l .room) (a .at) (l .to) (l .from) (c .before .before .before .h .given .0 .0) (l .inv)
+    (sym (c .before .before .before .before .before .head-at .ensures) ∙ c .before .before .before .h .given .1) (c .if2 .left)
 
 same-length-2 : tie.Need-same-length-2 Inv-loop μ-loop
 same-length-2 c = c .before .loop .inv .same

@@ -36,7 +36,14 @@ put-number-requires-2 c κs = search needs
 put-number-requires-3 : tie.Need-put-number-requires-3
 put-number-requires-3 c κs =
     let p = c .before .before .before .put-number2 in
-    omega (arith, p .ensures .place, length-number 266 10415, p .kept .0, c .before .before .before .before .before .before .before .put-head .kept .0, c .before .before .before .before .before .before .before .before .before .before .before .before .pre)
+    omega (
+      arith,
+      p .ensures .place,
+      length-number 266 10415,
+      p .kept .0,
+      c .before .before .before .before .before .before .before .put-head .kept .0,
+      c .before .before .before .before .before .before .before .before .before .before .before .before .pre,
+    )
 
 returns : tie.Need-returns
 unfolding resultAvp codeFrom
@@ -61,10 +68,26 @@ returns-3 c =
     let h = c .before .before .before .before .before .before .before .before .before .before .put-head in
     let p = c .before .before .before .before .before .before .put-number2 in
     let q = c .before .before .put-number3 in
-    let l : length (avpBytes 266 (in32 10415) ++ avpBytes 298 (in32 (a .code))) ≡ 24 = rw (length-append (avpBytes 266 (in32 10415)) (avpBytes 298 (in32 (a .code))), length-number 266 10415, length-number 298 (a .code)) in
+    let l : length (avpBytes 266 (in32 10415) ++ avpBytes 298 (in32 (a .code))) ≡ 24 = rw (
+      length-append (avpBytes 266 (in32 10415))
+          (avpBytes 298 (in32 (a .code))),
+      length-number 266 10415,
+      length-number 298 (a .code),
+    ) in
     rw (c .before .before .before .before .before .before .before .before .before .before .before .before .enum-told3 .given .1)
-    (group-put (a .room .now) (h .last .0) (q .last .0) (a .at) (q .result) 297 32 (avpBytes 266 (in32 10415) ++ avpBytes 298 (in32 (a .code))) (h .ensures) (rw l) (rw l) (omega (arith, c .before .before .before .before .before .before .before .before .before .before .before .before .before .before .before .pre))
-    (written-then (h .last .0) (p .last .0) (q .last .0) (a .at + 8) (p .result) (q .result) (avpBytes 266 (in32 10415)) (avpBytes 298 (in32 (a .code))) (p .ensures) (q .ensures) (omega (arith, length-number 266 10415, h .kept .0, c .before .before .before .before .before .before .before .before .before .before .before .before .before .before .before .pre))))
+    (group-put (a .room .now) (h .last .0) (q .last .0) (a .at) (q .result) 297 32 (avpBytes 266 (in32 10415) ++ avpBytes 298 (in32 (a .code)))
+    (h .ensures) (rw l) (rw l) (omega (
+      arith,
+      c .before .before .before .before .before .before .before .before .before .before .before .before .before .before .before .pre,
+    ))
+    (written-then (h .last .0) (p .last .0) (q .last .0) (a .at + 8) (p .result) (q .result) (avpBytes 266 (in32 10415))
+    (avpBytes 298 (in32 (a .code))) (p .ensures) (q .ensures)
+    (omega (
+      arith,
+      length-number 266 10415,
+      h .kept .0,
+      c .before .before .before .before .before .before .before .before .before .before .before .before .before .before .before .pre,
+    ))))
 
 pub put-result-spec : {M : Type 1} → statement M
 put-result-spec =

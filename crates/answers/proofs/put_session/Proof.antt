@@ -21,29 +21,41 @@ enum-told c = search needs
 returns : tie.Need-returns
 returns c =
     let a = c .before .before .before .before .before .args in
-    written-none (a .room .now) 20 (sessionAvp (a .m .now)) (session-bad (a .m .now) (c .enum-told .given .0 .0) (sym (c .before .before .head-at .ensures) ∙ c .enum-told .given .1))
+    written-none (a .room .now) 20 (sessionAvp (a .m .now))
+    (session-bad (a .m .now) (c .enum-told .given .0 .0) (sym (c .before .before .head-at .ensures) ∙ c .enum-told .given .1))
 
 returns-2 : tie.Need-returns-2
 returns-2 c =
     let a = c .before .before .before .before .before .before .before .before .args in
-    written-none (a .room .now) 20 (sessionAvp (a .m .now)) (session-other (a .m .now) (c .before .before .before .h .given .0 .0) (sym (c .before .before .before .before .before .head-at .ensures) ∙ c .before .before .before .h .given .1) (c .if1 .taken))
+    written-none (a .room .now) 20 (sessionAvp (a .m .now))
+    (session-other (a .m .now) (c .before .before .before .h .given .0 .0)
+    (sym (c .before .before .before .before .before .head-at .ensures) ∙ c .before .before .before .h .given .1) (c .if1 .taken))
 
 read24-requires : tie.Need-read24-requires
 read24-requires c κs =
     let a = c .before .before .before .before .before .before .before .before .args in
-    past-first (a .m .now) (c .before .before .before .h .given .0 .0) (sym (c .before .before .before .before .before .head-at .ensures) ∙ c .before .before .before .h .given .1) (c .before .before .before .before .before .before .before .before .pre .0)
+    past-first (a .m .now) (c .before .before .before .h .given .0 .0)
+    (sym (c .before .before .before .before .before .head-at .ensures) ∙ c .before .before .before .h .given .1)
+    (c .before .before .before .before .before .before .before .before .pre .0)
 
 returns-3 : tie.Need-returns-3
 returns-3 c =
     let a = c .before .before .before .before .before .before .before .before .before .before .args in
     written-none (a .room .now) 20 (sessionAvp (a .m .now))
-    (session-short (a .m .now) (c .before .before .before .before .before .h .given .0 .0) (sym (c .before .before .before .before .before .before .before .head-at .ensures) ∙ c .before .before .before .before .before .h .given .1) (c .before .before .if1 .left) (c .before .before .before .before .before .before .before .before .before .before .pre .0) (omega (arith, c .before .read24 .ensures .0, c .if2 .taken)))
+    (session-short (a .m .now) (c .before .before .before .before .before .h .given .0 .0)
+    (sym (c .before .before .before .before .before .before .before .head-at .ensures) ∙ c .before .before .before .before .before .h .given .1)
+    (c .before .before .if1 .left) (c .before .before .before .before .before .before .before .before .before .before .pre .0)
+    (omega (arith, c .before .read24 .ensures .0, c .if2 .taken)))
 
 returns-4 : tie.Need-returns-4
 returns-4 c =
     let a = c .before .before .before .before .before .before .before .before .before .before .before .args in
     written-none (a .room .now) 20 (sessionAvp (a .m .now))
-    (session-long (a .m .now) (c .before .before .before .before .before .before .h .given .0 .0) (sym (c .before .before .before .before .before .before .before .before .head-at .ensures) ∙ c .before .before .before .before .before .before .h .given .1) (c .before .before .before .if1 .left) (c .before .before .before .before .before .before .before .before .before .before .before .pre .0) (omega (arith, c .before .before .read24 .ensures .0, c .if3 .taken)))
+    (session-long (a .m .now) (c .before .before .before .before .before .before .h .given .0 .0)
+    (sym (c .before .before .before .before .before .before .before .before .head-at .ensures)
+    ∙ c .before .before .before .before .before .before .h .given .1) (c .before .before .before .if1 .left)
+    (c .before .before .before .before .before .before .before .before .before .before .before .pre .0)
+    (omega (arith, c .before .before .read24 .ensures .0, c .if3 .taken)))
 
 add-e : tie.Need-add-e
 add-e c = search needs
@@ -57,7 +69,15 @@ part-put-avp-start c = search needs
 part-put-avp-end : tie.Need-part-put-avp-end
 part-put-avp-end c =
     let a = c .before .before .before .before .before .before .before .before .before .before .before .before .args in
-    omega (arith, c .before .before .before .read24 .ensures .0, session-end (a .m .now) (c .before .before .before .before .before .before .before .h .given .0 .0) (sym (c .before .before .before .before .before .before .before .before .before .head-at .ensures) ∙ c .before .before .before .before .before .before .before .h .given .1) (c .before .before .before .before .if1 .left) (c .before .before .before .before .before .before .before .before .before .before .before .before .pre .0))
+    omega (
+      arith,
+      c .before .before .before .read24 .ensures .0,
+      session-end (a .m .now)
+          (c .before .before .before .before .before .before .before .h .given .0 .0)
+          (sym (c .before .before .before .before .before .before .before .before .before .head-at .ensures)
+          ∙ c .before .before .before .before .before .before .before .h .given .1) (c .before .before .before .before .if1 .left)
+          (c .before .before .before .before .before .before .before .before .before .before .before .before .pre .0),
+    )
 
 put-avp-requires : tie.Need-put-avp-requires
 put-avp-requires c κs = search needs
@@ -70,8 +90,15 @@ returns-5 c =
     let a = c .before .before .before .before .before .before .before .before .before .before .before .before .before .before .before .before .args in
     let m = a .m .now in
     let n = c .before .before .before .before .before .before .before .read24 .ensures .0 in
-    let e : 20 + c .before .before .before .before .before .before .before .read24 .result - 28 ≡ net24 m 25 - 8 = omega (arith, n, c .before .before .before .before .before .before .if2 .left) in
-    rw (session-is m (c .before .before .before .before .before .before .before .before .before .before .before .h .given .0 .0) (sym (c .before .before .before .before .before .before .before .before .before .before .before .before .before .head-at .ensures) ∙ c .before .before .before .before .before .before .before .before .before .before .before .h .given .1) (c .before .before .before .before .before .before .before .before .if1 .left) (c .before .before .before .before .before .before .before .before .before .before .before .before .before .before .before .before .pre .0) (omega (arith, n, c .before .before .before .before .before .before .if2 .left)) (omega (arith, n, c .before .before .before .before .before .if3 .left)))
+    let e : 20 + c .before .before .before .before .before .before .before .read24 .result - 28 ≡ net24 m
+    25 - 8 = omega (arith, n, c .before .before .before .before .before .before .if2 .left) in
+    rw (session-is m (c .before .before .before .before .before .before .before .before .before .before .before .h .given .0 .0)
+    (sym (c .before .before .before .before .before .before .before .before .before .before .before .before .before .head-at .ensures)
+    ∙ c .before .before .before .before .before .before .before .before .before .before .before .h .given .1)
+    (c .before .before .before .before .before .before .before .before .if1 .left)
+    (c .before .before .before .before .before .before .before .before .before .before .before .before .before .before .before .before .pre .0)
+    (omega (arith, n, c .before .before .before .before .before .before .if2 .left))
+    (omega (arith, n, c .before .before .before .before .before .if3 .left)))
     (rw e at (c .before .before .put-avp .ensures))
 
 pub put-session-spec : {M : Type 1} → statement M

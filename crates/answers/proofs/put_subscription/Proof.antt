@@ -28,7 +28,8 @@ read24-requires c κs = search needs
 returns : tie.Need-returns
 returns c =
     let a = c .before .before .before .before .args in
-    written-none (a .room .now) (a .at) (subscriptionAvp (a .m .now) (plain (a .code))) (subscription-other (a .m .now) (a .code) (λ z. c .if1 .taken (c .before .read24 .ensures .0 ∙ z)))
+    written-none (a .room .now) (a .at) (subscriptionAvp (a .m .now) (plain (a .code)))
+    (subscription-other (a .m .now) (a .code) (λ z. c .if1 .taken (c .before .read24 .ensures .0 ∙ z)))
 
 returns-2 : tie.Need-returns-2
 returns-2 c =
@@ -55,7 +56,11 @@ add-put-number c = omega (arith, c .before .before .before .before .before .befo
 
 put-number-requires : tie.Need-put-number-requires
 put-number-requires c κs =
-    omega (arith, c .before .before .before .put-head .kept .0, c .before .before .before .before .before .before .before .before .before .before .pre .1)
+    omega (
+      arith,
+      c .before .before .before .put-head .kept .0,
+      c .before .before .before .before .before .before .before .before .before .before .pre .1,
+    )
 
 sub-put-avp : tie.Need-sub-put-avp
 sub-put-avp c = search needs
@@ -72,7 +77,16 @@ put-avp-requires c κs =
     let m = c .before .before .before .before .before .before .before .before .before .before .before .before .before .before .before .args .m .now in
     let e : u .at + u .len - u .at ≡ u .len = omega arith in
     let l = length-part m (u .at) (u .len) ((named (c .before .before .before .before .before .before .before .before .before .before)) .inside) in
-    rw e (omega (arith, l, short (c .before .before .before .before .before .before .before .before .before .before), c .before .before .before .before .put-number .ensures .place, length-number 450 1, c .before .before .before .before .put-number .kept .0, c .before .before .before .before .before .before .before .before .put-head .kept .0, c .before .before .before .before .before .before .before .before .before .before .before .before .before .before .before .pre .1))
+    rw e (omega (
+      arith,
+      l,
+      short (c .before .before .before .before .before .before .before .before .before .before),
+      c .before .before .before .before .put-number .ensures .place,
+      length-number 450 1,
+      c .before .before .before .before .put-number .kept .0,
+      c .before .before .before .before .before .before .before .before .put-head .kept .0,
+      c .before .before .before .before .before .before .before .before .before .before .before .before .before .before .before .pre .1,
+    ))
 
 same-length : tie.Need-same-length
 same-length c = search needs
@@ -85,16 +99,25 @@ returns-3 c =
     let u = a .user in
     let v = part m (u .at) (u .len) in
     let e : u .at + u .len - u .at ≡ u .len = omega arith in
-    let l : length v ≡ u .len = length-part m (u .at) (u .len) ((named (c .before .before .before .before .before .before .before .before .before .before .before .before .before)) .inside) in
+    let l : length v ≡ u .len = length-part m (u .at) (u .len)
+    ((named (c .before .before .before .before .before .before .before .before .before .before .before .before .before)) .inside) in
     let k = subscription-length v in
     let h = c .before .before .before .before .before .before .before .before .before .before .before .put-head in
     let p = c .before .before .before .before .before .before .before .put-number in
     let q = c .before .before .put-avp in
     let inner = rw e at (q .ensures) in
     rw (subscription-is m (a .code) (sym (c .before .before .before .before .before .before .before .before .before .before .before .before .before .before .before .read24 .ensures .0) ∙ c .before .before .before .before .before .before .before .before .before .before .before .before .before .before .if1 .left) (c .before .before .before .before .before .before .before .before .before .before .before .before .before .if2 .left), ← (named (c .before .before .before .before .before .before .before .before .before .before .before .before .before)) .value)
-    (group-put (a .room .now) (h .last .0) (q .last .0) (a .at) (q .result) 443 (28 + (u .len + 3) / 4 * 4) (avpBytes 450 (in32 1) ++ avpBytes 444 v) (h .ensures)
-    (omega (arith, k, l)) (rw k (up4-twice (length v))) (omega (arith, c .before .before .before .before .before .before .before .before .before .before .before .before .before .before .before .before .before .before .pre .1))
-    (written-then (h .last .0) (p .last .0) (q .last .0) (a .at + 8) (p .result) (q .result) (avpBytes 450 (in32 1)) (avpBytes 444 v) (p .ensures) inner (omega (arith, length-number 450 1, h .kept .0, c .before .before .before .before .before .before .before .before .before .before .before .before .before .before .before .before .before .before .pre .1))))
+    (group-put (a .room .now) (h .last .0) (q .last .0) (a .at) (q .result) 443 (28 + (u .len + 3) / 4 * 4) (avpBytes 450 (in32 1) ++ avpBytes 444 v)
+    (h .ensures)
+    (omega (arith, k, l)) (rw k (up4-twice (length v)))
+    (omega (arith, c .before .before .before .before .before .before .before .before .before .before .before .before .before .before .before .before .before .before .pre .1))
+    (written-then (h .last .0) (p .last .0) (q .last .0) (a .at + 8) (p .result) (q .result) (avpBytes 450 (in32 1)) (avpBytes 444 v) (p .ensures)
+    inner (omega (
+      arith,
+      length-number 450 1,
+      h .kept .0,
+      c .before .before .before .before .before .before .before .before .before .before .before .before .before .before .before .before .before .before .pre .1,
+    ))))
 
 pub put-subscription-spec : {M : Type 1} → statement M
 put-subscription-spec =

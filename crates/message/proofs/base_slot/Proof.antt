@@ -12,7 +12,20 @@ none-base : (k : ℕ) → (k ≡ 263 → ⊥) → (k ≡ 258 → ⊥) → (k ≡
     → (k ≡ 293 → ⊥) → (k ≡ 1 → ⊥) → (k ≡ 295 → ⊥) → (k ≡ 284 → ⊥) → 14 ≡ slotOf (base k)
 unfolding names slotIn slotOf sameName pick
 none-base k n0 n1 n2 n3 n4 n5 n6 n7 n8 n9 =
-    simp (ne-eqb 263 k (λ e. n0 (sym e)), ne-eqb 258 k (λ e. n1 (sym e)), ne-eqb 264 k (λ e. n2 (sym e)), ne-eqb 296 k (λ e. n3 (sym e)), ne-eqb 283 k (λ e. n4 (sym e)), ne-eqb 274 k (λ e. n5 (sym e)), ne-eqb 293 k (λ e. n6 (sym e)), ne-eqb 1 k (λ e. n7 (sym e)), ne-eqb 295 k (λ e. n8 (sym e)), ne-eqb 284 k (λ e. n9 (sym e)))
+    simp (
+      ne-eqb 263 k (λ e. n0 (sym e)),
+      ne-eqb 258 k (λ e. n1 (sym e)),
+      ne-eqb 264 k (λ e. n2 (sym e)),
+      ne-eqb 296 k (λ e. n3 (sym e)),
+      ne-eqb 283
+          k (λ e. n4 (sym e)),
+      ne-eqb 274 k (λ e. n5 (sym e)),
+      ne-eqb 293 k (λ e. n6 (sym e)),
+      ne-eqb 1 k (λ e. n7 (sym e)),
+      ne-eqb 295 k
+          (λ e. n8 (sym e)),
+      ne-eqb 284 k (λ e. n9 (sym e)),
+    )
 
 returns : tie.Need-returns
 unfolding names slotIn slotOf sameName pick
@@ -58,7 +71,8 @@ returns-11 : tie.Need-returns-11
 returns-11 c =
     let n = c .match .rest in
     let k = c .before .args .code in
-    none-base k (n .0 .0 .0 .0 .0 .0 .0 .0 .0 .1) (n .0 .0 .0 .0 .0 .0 .0 .0 .1) (n .0 .0 .0 .0 .0 .0 .0 .1) (n .0 .0 .0 .0 .0 .0 .1) (n .0 .0 .0 .0 .0 .1)
+    none-base k (n .0 .0 .0 .0 .0 .0 .0 .0 .0 .1) (n .0 .0 .0 .0 .0 .0 .0 .0 .1) (n .0 .0 .0 .0 .0 .0 .0 .1) (n .0 .0 .0 .0 .0 .0 .1)
+    (n .0 .0 .0 .0 .0 .1)
     (n .0 .0 .0 .0 .1) (n .0 .0 .0 .1) (n .0 .0 .1) (n .0 .1) (n .1)
 
 pub base-slot-spec : {M : Type 1} → statement M

@@ -30,37 +30,43 @@ first : (p : tie.Else1) → bothCode (avps (p .before .before .before .before .a
 unfolding bothCode require forBoth
 first p =
     let m = p .before .before .before .before .args .m .now in
-    first-go (require (startsWith sessionId (avps m)) 5005) (map (fieldCode (avps m)) forBoth) (rw (sym (p .before .starts .ensures) ∙ not-false (p .before .starts .result) (p .if1 .left)))
+    first-go (require (startsWith sessionId (avps m)) 5005) (map (fieldCode (avps m)) forBoth)
+    (rw (sym (p .before .starts .ensures) ∙ not-false (p .before .starts .result) (p .if1 .left)))
 
 one : (p : tie.After-known-told) → bothCode (avps (p .before .before .before .before .before .before .before .before .args .m .now)) ≡ firstOf (behind1 (avps (p .before .before .before .before .before .before .before .before .args .m .now)))
 unfolding textField bytesField nameAt names
 one p =
     let m = p .before .before .before .before .before .before .before .before .args .m .now in
-    first (p .before .before .before .before) ∙ go-on m (textField sessionId true) (behind1 (avps m)) (p .before .before .before .text-field .result) (p .before .g1 .given .0 .0) (p .before .before .before .text-field .ensures true) (p .before .g1 .given .1)
+    first (p .before .before .before .before) ∙ go-on m (textField sessionId true) (behind1 (avps m)) (p .before .before .before .text-field .result)
+    (p .before .g1 .given .0 .0) (p .before .before .before .text-field .ensures true) (p .before .g1 .given .1)
 
 two : (p : tie.After-enum-told) → bothCode (avps (p .before .before .before .before .before .before .before .before .before .before .before .args .m .now)) ≡ firstOf (behind2 (avps (p .before .before .before .before .before .before .before .before .before .before .before .args .m .now)))
 unfolding numberField nameAt names
 two p =
     let m = p .before .before .before .before .before .before .before .before .before .before .before .args .m .now in
-    one (p .before .before .before) ∙ go-on m (numberField authApplicationId 1 1) (behind2 (avps m)) (p .before .before .number-field .result) (p .enum-told .given .0 .0) (p .before .before .number-field .ensures) (p .enum-told .given .1)
+    one (p .before .before .before) ∙ go-on m (numberField authApplicationId 1 1) (behind2 (avps m)) (p .before .before .number-field .result)
+    (p .enum-told .given .0 .0) (p .before .before .number-field .ensures) (p .enum-told .given .1)
 
 three : (p : tie.After-known-told2) → bothCode (avps (p .before .before .before .before .before .before .before .before .before .before .before .before .before .before .before .args .m .now)) ≡ firstOf (behind3 (avps (p .before .before .before .before .before .before .before .before .before .before .before .before .before .before .before .args .m .now)))
 unfolding textField bytesField nameAt names
 three p =
     let m = p .before .before .before .before .before .before .before .before .before .before .before .before .before .before .before .args .m .now in
-    two (p .before .before .before .before) ∙ go-on m (textField originHost true) (behind3 (avps m)) (p .before .before .before .text-field2 .result) (p .before .g3 .given .0 .0) (p .before .before .before .text-field2 .ensures true) (p .before .g3 .given .1)
+    two (p .before .before .before .before) ∙ go-on m (textField originHost true) (behind3 (avps m)) (p .before .before .before .text-field2 .result)
+    (p .before .g3 .given .0 .0) (p .before .before .before .text-field2 .ensures true) (p .before .g3 .given .1)
 
 four : (p : tie.After-enum-told2) → bothCode (avps (p .before .before .before .before .before .before .before .before .before .before .before .before .before .before .before .before .before .before .args .m .now)) ≡ firstOf (behind4 (avps (p .before .before .before .before .before .before .before .before .before .before .before .before .before .before .before .before .before .before .args .m .now)))
 unfolding textField bytesField nameAt names
 four p =
     let m = p .before .before .before .before .before .before .before .before .before .before .before .before .before .before .before .before .before .before .args .m .now in
-    three (p .before .before .before) ∙ go-on m (textField originRealm true) (behind4 (avps m)) (p .before .before .text-field3 .result) (p .enum-told2 .given .0 .0) (p .before .before .text-field3 .ensures true) (p .enum-told2 .given .1)
+    three (p .before .before .before) ∙ go-on m (textField originRealm true) (behind4 (avps m)) (p .before .before .text-field3 .result)
+    (p .enum-told2 .given .0 .0) (p .before .before .text-field3 .ensures true) (p .enum-told2 .given .1)
 
 five : (p : tie.After-enum-told3) → bothCode (avps (p .before .before .before .before .before .before .before .before .before .before .before .before .before .before .before .before .before .before .before .before .before .args .m .now)) ≡ 0
 unfolding textField bytesField nameAt names firstOf
 five p =
     let m = p .before .before .before .before .before .before .before .before .before .before .before .before .before .before .before .before .before .before .before .before .before .args .m .now in
-    four (p .before .before .before) ∙ go-on m (textField destinationRealm true) [] (p .before .before .text-field4 .result) (p .enum-told3 .given .0 .0) (p .before .before .text-field4 .ensures true) (p .enum-told3 .given .1)
+    four (p .before .before .before) ∙ go-on m (textField destinationRealm true) [] (p .before .before .text-field4 .result)
+    (p .enum-told3 .given .0 .0) (p .before .before .text-field4 .ensures true) (p .enum-told3 .given .1)
 
 starts-requires : tie.Need-starts-requires
 starts-requires c κs = search needs
@@ -70,7 +76,8 @@ unfolding bothCode require
 returns c =
     let m = c .before .before .before .before .args .m .now in
     both-failed m 5005
-    (first-stop (require (startsWith sessionId (avps m)) 5005) 5005 (map (fieldCode (avps m)) forBoth) (rw (sym (c .before .starts .ensures) ∙ not-true (c .before .starts .result) (c .if1 .taken))) (omega arith)) (omega arith)
+    (first-stop (require (startsWith sessionId (avps m)) 5005) 5005 (map (fieldCode (avps m)) forBoth)
+    (rw (sym (c .before .starts .ensures) ∙ not-true (c .before .starts .result) (c .if1 .taken))) (omega arith)) (omega arith)
 
 text-field-requires : tie.Need-text-field-requires
 text-field-requires c κs = search needs
@@ -85,7 +92,8 @@ returns-2 : tie.Need-returns-2
 unfolding textField bytesField nameAt names
 returns-2 c =
     let m = c .before .before .before .before .before .before .before .args .m .now in
-    let st = stop m (textField sessionId true) (behind1 (avps m)) (c .before .before .text-field .result) (c .refusal .result) (c .before .before .text-field .ensures true) refl (c .before .match .keys2) (c .refusal .ensures) in
+    let st = stop m (textField sessionId true) (behind1 (avps m)) (c .before .before .text-field .result) (c .refusal .result)
+    (c .before .before .text-field .ensures true) refl (c .before .match .keys2) (c .refusal .ensures) in
     both-failed m (c .refusal .result) (first (c .before .before .before) ∙ st .0) (st .1)
 
 number-field-requires : tie.Need-number-field-requires
@@ -101,7 +109,8 @@ returns-3 : tie.Need-returns-3
 unfolding numberField nameAt names
 returns-3 c =
     let m = c .before .before .before .before .before .before .before .before .before .before .before .args .m .now in
-    let st = stop m (numberField authApplicationId 1 1) (behind2 (avps m)) (c .before .before .number-field .result) (c .refusal2 .result) (c .before .before .number-field .ensures) refl (c .before .match2 .keys2) (c .refusal2 .ensures) in
+    let st = stop m (numberField authApplicationId 1 1) (behind2 (avps m)) (c .before .before .number-field .result) (c .refusal2 .result)
+    (c .before .before .number-field .ensures) refl (c .before .match2 .keys2) (c .refusal2 .ensures) in
     both-failed m (c .refusal2 .result) (one (c .before .before .before) ∙ st .0) (st .1)
 
 text-field-requires-2 : tie.Need-text-field-requires-2
@@ -117,7 +126,8 @@ returns-4 : tie.Need-returns-4
 unfolding textField bytesField nameAt names
 returns-4 c =
     let m = c .before .before .before .before .before .before .before .before .before .before .before .before .before .before .args .m .now in
-    let st = stop m (textField originHost true) (behind3 (avps m)) (c .before .before .text-field2 .result) (c .refusal3 .result) (c .before .before .text-field2 .ensures true) refl (c .before .match3 .keys2) (c .refusal3 .ensures) in
+    let st = stop m (textField originHost true) (behind3 (avps m)) (c .before .before .text-field2 .result) (c .refusal3 .result)
+    (c .before .before .text-field2 .ensures true) refl (c .before .match3 .keys2) (c .refusal3 .ensures) in
     both-failed m (c .refusal3 .result) (two (c .before .before .before) ∙ st .0) (st .1)
 
 text-field-requires-3 : tie.Need-text-field-requires-3
@@ -133,7 +143,8 @@ returns-5 : tie.Need-returns-5
 unfolding textField bytesField nameAt names
 returns-5 c =
     let m = c .before .before .before .before .before .before .before .before .before .before .before .before .before .before .before .before .before .before .args .m .now in
-    let st = stop m (textField originRealm true) (behind4 (avps m)) (c .before .before .text-field3 .result) (c .refusal4 .result) (c .before .before .text-field3 .ensures true) refl (c .before .match4 .keys2) (c .refusal4 .ensures) in
+    let st = stop m (textField originRealm true) (behind4 (avps m)) (c .before .before .text-field3 .result) (c .refusal4 .result)
+    (c .before .before .text-field3 .ensures true) refl (c .before .match4 .keys2) (c .refusal4 .ensures) in
     both-failed m (c .refusal4 .result) (three (c .before .before .before) ∙ st .0) (st .1)
 
 text-field-requires-4 : tie.Need-text-field-requires-4
@@ -150,7 +161,8 @@ returns-6 : tie.Need-returns-6
 unfolding textField bytesField nameAt names
 returns-6 c =
     let m = c .before .before .before .before .before .before .before .before .before .before .before .before .before .before .before .before .before .before .before .before .before .args .m .now in
-    let st = stop m (textField destinationRealm true) [] (c .before .before .text-field4 .result) (c .refusal5 .result) (c .before .before .text-field4 .ensures true) refl (c .before .match5 .keys2) (c .refusal5 .ensures) in
+    let st = stop m (textField destinationRealm true) [] (c .before .before .text-field4 .result) (c .refusal5 .result)
+    (c .before .before .text-field4 .ensures true) refl (c .before .match5 .keys2) (c .refusal5 .ensures) in
     both-failed m (c .refusal5 .result) (four (c .before .before .before) ∙ st .0) (st .1)
 
 returns-7 : tie.Need-returns-7
@@ -161,7 +173,8 @@ returns-7 c =
     let host = c .before .before .before .before .before .before .before .g3 .given .0 .0 in
     both-held m session host (five c)
     (c .before .before .before .before .before .before .before .before .before .before .before .before .before .before .before .before .text-field .ensures true .found session (c .before .before .before .before .before .before .before .before .before .before .before .before .before .before .g1 .given .1))
-    (c .before .before .before .before .before .before .before .before .before .text-field2 .ensures true .found host (c .before .before .before .before .before .before .before .g3 .given .1))
+    (c .before .before .before .before .before .before .before .before .before .text-field2 .ensures true .found host
+    (c .before .before .before .before .before .before .before .g3 .given .1))
 
 pub first-five-spec : {M : Type 1} → statement M
 first-five-spec =

@@ -44,7 +44,8 @@ loop-less : tie.Need-loop-less Inv-loop μ-loop Inv-walk μ-walk
 loop-less c =
     let l = c .before .before .before .before .before .before .before in
     let m = l .before .before .before .before .args .m .now in
-    let n = next-place m (l .loop .at) (c .before .before .before .h2 .given .0 .0) (l .loop .inv .1 .inside) (sym (c .before .before .before .before .before .head-at .ensures) ∙ c .before .before .before .h2 .given .1) in
+    let n = next-place m (l .loop .at) (c .before .before .before .h2 .given .0 .0) (l .loop .inv .1 .inside)
+    (sym (c .before .before .before .before .before .head-at .ensures) ∙ c .before .before .before .h2 .given .1) in
     omega (arith, n .0, n .1)
 
 loop-again : tie.Need-loop-again Inv-loop μ-loop Inv-walk μ-walk
@@ -52,7 +53,8 @@ loop-again c =
     let l = c .before .before .before .before .before .before .before in
     let m = l .before .before .before .before .args .m .now in
     let a = c .before .before .before .h2 .given .0 .0 in
-    let o : headAt m (l .loop .at) ≡ One a = sym (c .before .before .before .before .before .head-at .ensures) ∙ c .before .before .before .h2 .given .1 in
+    let o : headAt m (l .loop .at) ≡ One a = sym (c .before .before .before .before .before .head-at .ensures)
+    ∙ c .before .before .before .h2 .given .1 in
     let n = next-place m (l .loop .at) a (l .loop .inv .1 .inside) o in
     (omega (arith, n .0, l .loop .inv .0), stepped-over m (l .before .walk .index) (l .loop .at) a (l .loop .inv .1) o (c .if2 .left))
 
@@ -83,7 +85,8 @@ walk-less : tie.Need-walk-less Inv-loop μ-loop Inv-walk μ-walk
 walk-less c =
     let l = c .before .before .before .before .before .before .before .before .before in
     let m = l .before .before .before .before .args .m .now in
-    let n = next-place m (l .loop .at) (c .before .before .before .before .before .h2 .given .0 .0) (l .loop .inv .1 .inside) (sym (c .before .before .before .before .before .before .before .head-at .ensures) ∙ c .before .before .before .before .before .h2 .given .1) in
+    let n = next-place m (l .loop .at) (c .before .before .before .before .before .h2 .given .0 .0) (l .loop .inv .1 .inside)
+    (sym (c .before .before .before .before .before .before .before .head-at .ensures) ∙ c .before .before .before .before .before .h2 .given .1) in
     omega (arith, n .0, n .1, l .loop .inv .0)
 
 walk-again : tie.Need-walk-again Inv-loop μ-loop Inv-walk μ-walk
@@ -91,13 +94,16 @@ walk-again c =
     let l = c .before .before .before .before .before .before .before .before .before in
     let m = l .before .before .before .before .args .m .now in
     let a = c .before .before .before .before .before .h2 .given .0 .0 in
-    noted-first m (l .before .walk .index) (l .loop .at) a (l .loop .inv .1) (sym (c .before .before .before .before .before .before .before .head-at .ensures) ∙ c .before .before .before .before .before .h2 .given .1) (c .before .before .if2 .taken) (c .if3 .taken)
+    noted-first m (l .before .walk .index) (l .loop .at) a (l .loop .inv .1)
+    (sym (c .before .before .before .before .before .before .before .head-at .ensures) ∙ c .before .before .before .before .before .h2 .given .1)
+    (c .before .before .if2 .taken) (c .if3 .taken)
 
 walk-less-2 : tie.Need-walk-less-2 Inv-loop μ-loop Inv-walk μ-walk
 walk-less-2 c =
     let l = c .before .before .before .before .before .before .before .before .before in
     let m = l .before .before .before .before .args .m .now in
-    let n = next-place m (l .loop .at) (c .before .before .before .before .before .h2 .given .0 .0) (l .loop .inv .1 .inside) (sym (c .before .before .before .before .before .before .before .head-at .ensures) ∙ c .before .before .before .before .before .h2 .given .1) in
+    let n = next-place m (l .loop .at) (c .before .before .before .before .before .h2 .given .0 .0) (l .loop .inv .1 .inside)
+    (sym (c .before .before .before .before .before .before .before .head-at .ensures) ∙ c .before .before .before .before .before .h2 .given .1) in
     omega (arith, n .0, n .1, l .loop .inv .0)
 
 walk-again-2 : tie.Need-walk-again-2 Inv-loop μ-loop Inv-walk μ-walk
@@ -105,7 +111,9 @@ walk-again-2 c =
     let l = c .before .before .before .before .before .before .before .before .before in
     let m = l .before .before .before .before .args .m .now in
     let a = c .before .before .before .before .before .h2 .given .0 .0 in
-    noted-again m (l .before .walk .index) (l .loop .at) a (l .loop .inv .1) (sym (c .before .before .before .before .before .before .before .head-at .ensures) ∙ c .before .before .before .before .before .h2 .given .1) (c .before .before .if2 .taken) (c .if3 .left)
+    noted-again m (l .before .walk .index) (l .loop .at) a (l .loop .inv .1)
+    (sym (c .before .before .before .before .before .before .before .head-at .ensures) ∙ c .before .before .before .before .before .h2 .given .1)
+    (c .before .before .if2 .taken) (c .if3 .left)
 
 same-length : tie.Need-same-length Inv-loop μ-loop Inv-walk μ-walk
 same-length c =
@@ -113,15 +121,25 @@ same-length c =
 
 returns : tie.Need-returns Inv-loop μ-loop Inv-walk μ-walk
 returns c =
-    at-end (c .before .before .before .before .before .args .m .now) (c .before .before .walk .index) (c .before .loop .at) (c .before .loop .inv .1) (c .if1 .taken)
+    at-end (c .before .before .before .before .before .args .m .now) (c .before .before .walk .index) (c .before .loop .at) (c .before .loop .inv .1)
+    (c .if1 .taken)
 
 same-length-2 : tie.Need-same-length-2 Inv-loop μ-loop Inv-walk μ-walk
 same-length-2 c =
-    omega (arith, c .before .before .before .before .before .loop .inv .1 .size, ap length (c .before .before .before .before .before .before .before .before .before .pre .1), length-zeros 14)
+    omega (
+      arith,
+      c .before .before .before .before .before .loop .inv .1 .size,
+      ap length
+          (c .before .before .before .before .before .before .before .before .before .pre .1),
+      length-zeros 14,
+    )
 
 returns-2 : tie.Need-returns-2 Inv-loop μ-loop Inv-walk μ-walk
 returns-2 c =
-    at-bad (c .before .before .before .before .before .before .before .before .before .args .m .now) (c .before .before .before .before .before .before .walk .index) (c .before .before .before .before .before .loop .at) (c .before .h .given .0 .0) (c .before .before .before .before .before .loop .inv .1) (c .before .before .before .before .if1 .left) (sym (c .before .before .before .head-at .ensures) ∙ c .before .h .given .1)
+    at-bad (c .before .before .before .before .before .before .before .before .before .args .m .now)
+    (c .before .before .before .before .before .before .walk .index) (c .before .before .before .before .before .loop .at)
+    (c .before .h .given .0 .0) (c .before .before .before .before .before .loop .inv .1) (c .before .before .before .before .if1 .left)
+    (sym (c .before .before .before .head-at .ensures) ∙ c .before .h .given .1)
 
 pub gather-spec : {M : Type 1} → statement M
 gather-spec =

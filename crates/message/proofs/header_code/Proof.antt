@@ -25,13 +25,15 @@ returns-3 : tie.Need-returns-3
 returns-3 c =
     let s = c .before .before .before .before in
     let m = s .before .before .before .before .args .m .now in
-    sym (header-265 m (s .before .if1 .left) (s .if2 .left) (sym (c .before .before .before .read24 .ensures .0) ∙ c .before .if3 .taken) (sym (c .before .before .read32 .ensures) ∙ c .if4 .taken))
+    sym (header-265 m (s .before .if1 .left) (s .if2 .left) (sym (c .before .before .before .read24 .ensures .0) ∙ c .before .if3 .taken)
+    (sym (c .before .before .read32 .ensures) ∙ c .if4 .taken))
 
 returns-4 : tie.Need-returns-4
 returns-4 c =
     let s = c .before .before .before .before in
     let m = s .before .before .before .before .args .m .now in
-    sym (header-265-other m (s .before .if1 .left) (s .if2 .left) (sym (c .before .before .before .read24 .ensures .0) ∙ c .before .if3 .taken) (λ z. c .if4 .left (c .before .before .read32 .ensures ∙ z)))
+    sym (header-265-other m (s .before .if1 .left) (s .if2 .left) (sym (c .before .before .before .read24 .ensures .0) ∙ c .before .if3 .taken)
+    (λ z. c .if4 .left (c .before .before .read32 .ensures ∙ z)))
 
 returns-5 : tie.Need-returns-5
 returns-5 c =

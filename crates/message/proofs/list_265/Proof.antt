@@ -40,31 +40,37 @@ one : (p : tie.After-enum-told) → restCode 265 (avps (p .before .before .befor
 unfolding numberField nameAt names
 one p =
     let m = p .before .before .before .before .before .args .m .now in
-    all m ∙ go-on m (numberField authRequestType 2 2) (behind1 (avps m)) (p .before .before .number-field .result) (p .enum-told .given .0 .0) (p .before .before .number-field .ensures) (p .enum-told .given .1)
+    all m ∙ go-on m (numberField authRequestType 2 2) (behind1 (avps m)) (p .before .before .number-field .result) (p .enum-told .given .0 .0)
+    (p .before .before .number-field .ensures) (p .enum-told .given .1)
 
 two : (p : tie.After-enum-told2) → restCode 265 (avps (p .before .before .before .before .before .before .before .before .args .m .now)) ≡ firstOf (behind2 (avps (p .before .before .before .before .before .before .before .before .args .m .now)))
 unfolding textField bytesField nameAt names
 two p =
     let m = p .before .before .before .before .before .before .before .before .args .m .now in
-    one (p .before .before .before) ∙ go-on m (textField destinationHost true) (behind2 (avps m)) (p .before .before .text-field .result) (p .enum-told2 .given .0 .0) (p .before .before .text-field .ensures true) (p .enum-told2 .given .1)
+    one (p .before .before .before) ∙ go-on m (textField destinationHost true) (behind2 (avps m)) (p .before .before .text-field .result)
+    (p .enum-told2 .given .0 .0) (p .before .before .text-field .ensures true) (p .enum-told2 .given .1)
 
 three : (p : tie.After-known-told) → restCode 265 (avps (p .before .before .before .before .before .before .before .before .before .before .before .before .args .m .now)) ≡ firstOf (behind3 (avps (p .before .before .before .before .before .before .before .before .before .before .before .before .args .m .now)))
 unfolding textField bytesField nameAt names
 three p =
     let m = p .before .before .before .before .before .before .before .before .before .before .before .before .args .m .now in
-    two (p .before .before .before .before) ∙ go-on m (textField userName true) (behind3 (avps m)) (p .before .before .before .text-field2 .result) (p .before .g3 .given .0 .0) (p .before .before .before .text-field2 .ensures true) (p .before .g3 .given .1)
+    two (p .before .before .before .before) ∙ go-on m (textField userName true) (behind3 (avps m)) (p .before .before .before .text-field2 .result)
+    (p .before .g3 .given .0 .0) (p .before .before .before .text-field2 .ensures true) (p .before .g3 .given .1)
 
 four : (p : tie.After-known-told2) → restCode 265 (avps (p .before .before .before .before .before .before .before .before .before .before .before .before .before .before .before .before .args .m .now)) ≡ firstOf (behind4 (avps (p .before .before .before .before .before .before .before .before .before .before .before .before .before .before .before .before .args .m .now)))
 unfolding numberField nameAt names
 four p =
     let m = p .before .before .before .before .before .before .before .before .before .before .before .before .before .before .before .before .args .m .now in
-    three (p .before .before .before .before) ∙ go-on m (numberField sessionRequestType 0 1) (behind4 (avps m)) (p .before .before .before .number-field2 .result) (p .before .g4 .given .0 .0) (p .before .before .before .number-field2 .ensures) (p .before .g4 .given .1)
+    three (p .before .before .before .before) ∙ go-on m (numberField sessionRequestType 0 1) (behind4 (avps m))
+    (p .before .before .before .number-field2 .result) (p .before .g4 .given .0 .0) (p .before .before .before .number-field2 .ensures)
+    (p .before .g4 .given .1)
 
 five : (p : tie.At-match5-keys2) → restCode 265 (avps (p .before .before .before .before .before .before .before .before .before .before .before .before .before .before .before .before .before .before .args .m .now)) ≡ firstOf (lastTwo (avps (p .before .before .before .before .before .before .before .before .before .before .before .before .before .before .before .before .before .before .args .m .now)))
 unfolding textField bytesField nameAt names
 five p =
     let m = p .before .before .before .before .before .before .before .before .before .before .before .before .before .before .before .before .before .before .args .m .now in
-    four (p .before .before) ∙ may-go m (textField visitedNetwork false) (lastTwo (avps m)) (p .before .text-field3 .result) (p .before .text-field3 .ensures false) refl (p .match5 .keys2)
+    four (p .before .before) ∙ may-go m (textField visitedNetwork false) (lastTwo (avps m)) (p .before .text-field3 .result)
+    (p .before .text-field3 .ensures false) refl (p .match5 .keys2)
 
 -- the spans of User-Name and of the type
 user : (p : tie.After-known-told) → Holds (p .before .before .before .before .before .before .before .before .before .before .before .before .args .m .now) userName (p .before .g3 .given .0 .0)
@@ -94,7 +100,8 @@ returns : tie.Need-returns
 unfolding numberField nameAt names
 returns c =
     let m = c .before .before .before .before .before .args .m .now in
-    let st = stop m (numberField authRequestType 2 2) (behind1 (avps m)) (c .before .before .number-field .result) (c .refusal .result) (c .before .before .number-field .ensures) refl (c .before .match .keys2) (c .refusal .ensures) in
+    let st = stop m (numberField authRequestType 2 2) (behind1 (avps m)) (c .before .before .number-field .result) (c .refusal .result)
+    (c .before .before .number-field .ensures) refl (c .before .match .keys2) (c .refusal .ensures) in
     listed-refused m (restCode 265 (avps m)) (requestOf 265 (avps m)) (c .refusal .result) (all m ∙ st .0) (st .1)
 
 text-field-requires : tie.Need-text-field-requires
@@ -110,7 +117,8 @@ returns-2 : tie.Need-returns-2
 unfolding textField bytesField nameAt names
 returns-2 c =
     let m = c .before .before .before .before .before .before .before .before .args .m .now in
-    let st = stop m (textField destinationHost true) (behind2 (avps m)) (c .before .before .text-field .result) (c .refusal2 .result) (c .before .before .text-field .ensures true) refl (c .before .match2 .keys2) (c .refusal2 .ensures) in
+    let st = stop m (textField destinationHost true) (behind2 (avps m)) (c .before .before .text-field .result) (c .refusal2 .result)
+    (c .before .before .text-field .ensures true) refl (c .before .match2 .keys2) (c .refusal2 .ensures) in
     listed-refused m (restCode 265 (avps m)) (requestOf 265 (avps m)) (c .refusal2 .result) (one (c .before .before .before) ∙ st .0) (st .1)
 
 text-field-requires-2 : tie.Need-text-field-requires-2
@@ -126,7 +134,8 @@ returns-3 : tie.Need-returns-3
 unfolding textField bytesField nameAt names
 returns-3 c =
     let m = c .before .before .before .before .before .before .before .before .before .before .before .args .m .now in
-    let st = stop m (textField userName true) (behind3 (avps m)) (c .before .before .text-field2 .result) (c .refusal3 .result) (c .before .before .text-field2 .ensures true) refl (c .before .match3 .keys2) (c .refusal3 .ensures) in
+    let st = stop m (textField userName true) (behind3 (avps m)) (c .before .before .text-field2 .result) (c .refusal3 .result)
+    (c .before .before .text-field2 .ensures true) refl (c .before .match3 .keys2) (c .refusal3 .ensures) in
     listed-refused m (restCode 265 (avps m)) (requestOf 265 (avps m)) (c .refusal3 .result) (two (c .before .before .before) ∙ st .0) (st .1)
 
 number-field-requires-2 : tie.Need-number-field-requires-2
@@ -142,7 +151,8 @@ returns-4 : tie.Need-returns-4
 unfolding numberField nameAt names
 returns-4 c =
     let m = c .before .before .before .before .before .before .before .before .before .before .before .before .before .before .before .args .m .now in
-    let st = stop m (numberField sessionRequestType 0 1) (behind4 (avps m)) (c .before .before .number-field2 .result) (c .refusal4 .result) (c .before .before .number-field2 .ensures) refl (c .before .match4 .keys2) (c .refusal4 .ensures) in
+    let st = stop m (numberField sessionRequestType 0 1) (behind4 (avps m)) (c .before .before .number-field2 .result) (c .refusal4 .result)
+    (c .before .before .number-field2 .ensures) refl (c .before .match4 .keys2) (c .refusal4 .ensures) in
     listed-refused m (restCode 265 (avps m)) (requestOf 265 (avps m)) (c .refusal4 .result) (three (c .before .before .before) ∙ st .0) (st .1)
 
 text-field-requires-3 : tie.Need-text-field-requires-3
@@ -156,13 +166,18 @@ unfolding textField bytesField nameAt names
 returns-5 c =
     let m = c .before .before .before .before .before .before .before .before .before .before .before .before .before .before .before .before .before .before .before .before .args .m .now in
     let n = c .before .g5 .given .0 .0 in
-    let st = may-stop m (textField visitedNetwork false) (lastTwo (avps m)) (c .before .before .before .text-field3 .result) n (c .before .before .before .text-field3 .ensures false) (c .before .g5 .given .1) in
+    let st = may-stop m (textField visitedNetwork false) (lastTwo (avps m)) (c .before .before .before .text-field3 .result) n
+    (c .before .before .before .text-field3 .ensures false) (c .before .g5 .given .1) in
     listed-refused m (restCode 265 (avps m)) (requestOf 265 (avps m)) n (four (c .before .before .before .before) ∙ st .0) (st .1)
 
 add-e : tie.Need-add-e
 add-e c =
     let m = c .before .before .before .before .before .before .before .before .before .before .before .before .before .before .before .before .before .before .before .args .m .now in
-    omega (arith, (kind (c .before .before .before)) .inside, c .before .before .before .before .before .before .before .before .before .before .before .before .before .before .before .before .before .before .before .good .0)
+    omega (
+      arith,
+      (kind (c .before .before .before)) .inside,
+      c .before .before .before .before .before .before .before .before .before .before .before .before .before .before .before .before .before .before .before .good .0,
+    )
 
 sub-value32 : tie.Need-sub-value32
 sub-value32 c = search needs
@@ -180,7 +195,12 @@ value32-requires c κs =
     let m = c .before .before .before .before .before .before .before .before .before .before .before .before .before .before .before .before .before .before .before .before .args .m .now in
     let r = c .before .before .before .before .before .before .before .number-field2 .ensures in
     let e : s .at + s .len - s .at ≡ s .len = omega arith in
-    rw e (omega (arith, r .sized s (c .before .before .before .before .before .g4 .given .1) .0, length-part m (s .at) (s .len) ((kind (c .before .before .before .before)) .inside)))
+    rw e (omega (
+      arith,
+      r .sized s (c .before .before .before .before .before .g4 .given .1) .0,
+      length-part m (s .at) (s .len)
+          ((kind (c .before .before .before .before)) .inside),
+    ))
 
 is-found-requires : tie.Need-is-found-requires
 is-found-requires c κs = search needs
@@ -194,8 +214,12 @@ returns-6 : tie.Need-returns-6
 unfolding textField bytesField nameAt names
 returns-6 c =
     let m = c .before .before .before .before .before .before .before .before .before .before .before .before .before .before .before .before .before .before .before .before .before .before .before .before .args .m .now in
-    let visited = c .before .is-found .ensures ∙ found-there m (textField visitedNetwork false) (c .before .before .before .before .before .before .before .text-field3 .result) (c .before .before .before .before .before .before .before .text-field3 .ensures false) (c .before .before .before .before .before .before .match5 .keys2) in
-    of-type-0 m (c .tunnel-end .result) (c .before .is-found .result) (five (c .before .before .before .before .before .before)) (sym (type (c .before .before .before)) ∙ c .before .before .if1 .taken) visited (c .tunnel-end .ensures)
+    let visited = c .before .is-found .ensures ∙ found-there m (textField visitedNetwork false)
+    (c .before .before .before .before .before .before .before .text-field3 .result)
+    (c .before .before .before .before .before .before .before .text-field3 .ensures false)
+    (c .before .before .before .before .before .before .match5 .keys2) in
+    of-type-0 m (c .tunnel-end .result) (c .before .is-found .result) (five (c .before .before .before .before .before .before))
+    (sym (type (c .before .before .before)) ∙ c .before .before .if1 .taken) visited (c .tunnel-end .ensures)
 
 policy-end-requires : tie.Need-policy-end-requires
 policy-end-requires c κs =
@@ -207,9 +231,12 @@ unfolding numberField nameAt names
 returns-7 c =
     let m = c .before .before .before .before .before .before .before .before .before .before .before .before .before .before .before .before .before .before .before .before .before .before .before .args .m .now in
     let g = c .before .before .before .before .before .before .before .before .g4 .given in
-    let most : typeOf (avps m) ≤ 1 = within-high 0 1 (typeOf (avps m)) (number-in m sessionRequestType 0 1 (c .before .before .before .before .before .before .before .before .before .before .number-field2 .result) (g .0 .0) (c .before .before .before .before .before .before .before .before .before .before .number-field2 .ensures) (g .1)) in
+    let most : typeOf (avps m) ≤ 1 = within-high 0 1 (typeOf (avps m))
+    (number-in m sessionRequestType 0 1 (c .before .before .before .before .before .before .before .before .before .before .number-field2 .result)
+    (g .0 .0) (c .before .before .before .before .before .before .before .before .before .before .number-field2 .ensures) (g .1)) in
     let t = type (c .before .before) in
-    of-type-1 m (c .policy-end .result) (five (c .before .before .before .before .before)) (is-one (typeOf (avps m)) (λ z. c .before .if1 .left (t ∙ z)) most) (c .policy-end .ensures)
+    of-type-1 m (c .policy-end .result) (five (c .before .before .before .before .before))
+    (is-one (typeOf (avps m)) (λ z. c .before .if1 .left (t ∙ z)) most) (c .policy-end .ensures)
 
 pub list-265-spec : {M : Type 1} → statement M
 list-265-spec =

@@ -22,8 +22,12 @@ read24-requires c κs = search needs
 list-265-requires : tie.Need-list-265-requires
 list-265-requires c κs =
     let b = c .before .before .before .b2 .given in
-    let r = c .before .before .before .before .before .first-five .ensures in
-    (c .before .before .before .before .before .before .before .before .pre .3, r .session (b .0 .0) (b .0 .1 .0) (b .1), r .host (b .0 .0) (b .0 .1 .0) (b .1))
+    let r = c .before .before .before .before .before .first-five .ensures in (
+      c .before .before .before .before .before .before .before .before .pre .3,
+      r .session (b .0 .0) (b .0 .1 .0) (b .1),
+      r .host (b .0 .0)
+          (b .0 .1 .0) (b .1),
+    )
 
 list-275-requires : tie.Need-list-275-requires
 list-275-requires c κs =
@@ -48,7 +52,9 @@ returns-2 c =
     let s = c .before .before .before .before .before .before .before .before .before in
     let m = s .args .m .now in
     let e = sym (c .before .before .read24 .ensures .0) ∙ c .before .if1 .taken in
-    let z = lists-rest m (s .pre .1) (s .pre .2) (c .before .before .before .before .before .before .first-five .ensures .code ∙ ap failedWith (c .before .before .before .before .b2 .given .1)) in
+    let z = lists-rest m (s .pre .1) (s .pre .2)
+    (c .before .before .before .before .before .before .first-five .ensures .code ∙ ap failedWith
+    (c .before .before .before .before .b2 .given .1)) in
     rw (z, e) (c .list-265 .ensures)
 
 returns-3 : tie.Need-returns-3
@@ -57,7 +63,9 @@ returns-3 c =
     let s = c .before .before .before .before .before .before .before .before .before in
     let m = s .args .m .now in
     let e = other-command m (s .pre .1) (λ q. c .before .if1 .left (c .before .before .read24 .ensures .0 ∙ q)) in
-    let z = lists-rest m (s .pre .1) (s .pre .2) (c .before .before .before .before .before .before .first-five .ensures .code ∙ ap failedWith (c .before .before .before .before .b2 .given .1)) in
+    let z = lists-rest m (s .pre .1) (s .pre .2)
+    (c .before .before .before .before .before .before .first-five .ensures .code ∙ ap failedWith
+    (c .before .before .before .before .b2 .given .1)) in
     rw (z, e) (c .list-275 .ensures)
 
 pub lists-spec : {M : Type 1} → statement M

@@ -42,14 +42,16 @@ returns-6 c =
     let m = c .before .before .before .before .before .before .before .before .before .before .args .m .now in
     let e = c .before .before .before .before .read24 .ensures .0 in
     let left = c .before .before .before .if4 .left in
-    sym (number-answer m (omega arith) (omega arith) (c .before .before .before .before .before .if3 .left) (sym e ∙ left) (c .before .before .if5 .left) (omega arith))
+    sym (number-answer m (omega arith) (omega arith) (c .before .before .before .before .before .if3 .left) (sym e ∙ left)
+    (c .before .before .if5 .left) (omega arith))
 
 returns-7 : tie.Need-returns-7
 returns-7 c =
     let m = c .before .before .before .before .before .before .before .before .before .before .args .m .now in
     let e = c .before .before .before .before .read24 .ensures .0 in
     let left = c .before .before .before .if4 .left in
-    sym (number-none m (omega arith) (omega arith) (c .before .before .before .before .before .if3 .left) (sym e ∙ left) (c .before .before .if5 .left) (omega arith))
+    sym (number-none m (omega arith) (omega arith) (c .before .before .before .before .before .if3 .left) (sym e ∙ left)
+    (c .before .before .if5 .left) (omega arith))
 
 pub number-spec : {M : Type 1} → statement M
 number-spec =

@@ -25,7 +25,8 @@ enum-known-g c = search needs
 returns : tie.Need-returns
 returns c =
     let a = c .before .before .before .before .args in
-    number-not (a .m .now) (nameAt (a .slot)) (a .low) (a .high) (c .before .text-field .result) (c .before .text-field .ensures true) (c .match .keys2)
+    number-not (a .m .now) (nameAt (a .slot)) (a .low) (a .high) (c .before .text-field .result) (c .before .text-field .ensures true)
+    (c .match .keys2)
 
 add-e : tie.Need-add-e
 unfolding bytesField
@@ -54,7 +55,12 @@ value32-requires c κs =
     let m = c .before .before .before .before .before .before .before .before .args .m .now in
     let r = c .before .before .before .before .before .text-field .ensures true in
     let e : s .at + s .len - s .at ≡ s .len = omega arith in
-    rw e (omega (arith, r .sized s (c .before .before .before .g .given .1) .0, length-part m (s .at) (s .len) (r .found s (c .before .before .before .g .given .1) .inside)))
+    rw e (omega (
+      arith,
+      r .sized s (c .before .before .before .g .given .1) .0,
+      length-part m (s .at) (s .len)
+          (r .found s (c .before .before .before .g .given .1) .inside),
+    ))
 
 returns-2 : tie.Need-returns-2
 unfolding within
@@ -64,7 +70,8 @@ returns-2 c =
     let r = c .before .before .before .before .before .before .before .text-field .ensures true in
     let e : s .at + s .len - s .at ≡ s .len = omega arith in
     let n = rw e at (c .before .value32 .ensures) in
-    number-wrong (a .m .now) (nameAt (a .slot)) (a .low) (a .high) (c .before .before .before .before .before .before .before .text-field .result) r s (c .before .before .before .before .before .g .given .1)
+    number-wrong (a .m .now) (nameAt (a .slot)) (a .low) (a .high) (c .before .before .before .before .before .before .before .text-field .result) r
+    s (c .before .before .before .before .before .g .given .1)
     (rw (lt-leb (a .low) (net32 (part (a .m .now) (s .at) (s .len)) 0) (omega (arith, n, c .if1 .taken))))
 
 returns-3 : tie.Need-returns-3
@@ -75,8 +82,14 @@ returns-3 c =
     let r = c .before .before .before .before .before .before .before .before .text-field .ensures true in
     let e : s .at + s .len - s .at ≡ s .len = omega arith in
     let n = rw e at (c .before .before .value32 .ensures) in
-    number-wrong (a .m .now) (nameAt (a .slot)) (a .low) (a .high) (c .before .before .before .before .before .before .before .before .text-field .result) r s (c .before .before .before .before .before .before .g .given .1)
-    (rw (le-leb (a .low) (net32 (part (a .m .now) (s .at) (s .len)) 0) (omega (arith, n, c .before .if1 .left)), lt-leb (net32 (part (a .m .now) (s .at) (s .len)) 0) (a .high) (omega (arith, n, c .if2 .taken))))
+    number-wrong (a .m .now) (nameAt (a .slot)) (a .low) (a .high)
+    (c .before .before .before .before .before .before .before .before .text-field .result) r s
+    (c .before .before .before .before .before .before .g .given .1)
+    (rw (
+      le-leb (a .low) (net32 (part (a .m .now) (s .at) (s .len)) 0) (omega (arith, n, c .before .if1 .left)),
+      lt-leb
+          (net32 (part (a .m .now) (s .at) (s .len)) 0) (a .high) (omega (arith, n, c .if2 .taken)),
+    ))
 
 returns-4 : tie.Need-returns-4
 returns-4 c =
@@ -86,8 +99,11 @@ returns-4 c =
     let e : s .at + s .len - s .at ≡ s .len = omega arith in
     let n = rw e at (c .before .before .value32 .ensures) in
     rw (c .before .before .before .before .before .before .g .given .1) at
-    (number-right (a .m .now) (nameAt (a .slot)) (a .low) (a .high) (c .before .before .before .before .before .before .before .before .text-field .result) r s (c .before .before .before .before .before .before .g .given .1)
-    (in-within (a .low) (a .high) (net32 (part (a .m .now) (s .at) (s .len)) 0) (omega (arith, n, c .before .if1 .left)) (omega (arith, n, c .if2 .left))))
+    (number-right (a .m .now) (nameAt (a .slot)) (a .low) (a .high)
+    (c .before .before .before .before .before .before .before .before .text-field .result) r s
+    (c .before .before .before .before .before .before .g .given .1)
+    (in-within (a .low) (a .high) (net32 (part (a .m .now) (s .at) (s .len)) 0) (omega (arith, n, c .before .if1 .left))
+    (omega (arith, n, c .if2 .left))))
 
 pub number-field-spec : {M : Type 1} → statement M
 number-field-spec =

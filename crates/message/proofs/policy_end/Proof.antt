@@ -19,7 +19,8 @@ labelled : (p : tie.At-match-keys2) → policyCode (avps (p .before .before .bef
 unfolding policyCode labelField bytesField nameAt names
 labelled p =
     let m = p .before .before .before .before .args .m .now in
-    may-go m (labelField wlanApnId false) (behindLabel (avps m)) (p .before .text-field .result) (p .before .text-field .ensures false) refl (p .match .keys2)
+    may-go m (labelField wlanApnId false) (behindLabel (avps m)) (p .before .text-field .result) (p .before .text-field .ensures false) refl
+    (p .match .keys2)
 
 text-field-requires : tie.Need-text-field-requires
 text-field-requires c κs = search needs
@@ -31,7 +32,8 @@ returns : tie.Need-returns
 unfolding policyCode labelField bytesField nameAt names
 returns c =
     let m = c .before .before .before .before .before .before .args .m .now in
-    let st = may-stop m (labelField wlanApnId false) (behindLabel (avps m)) (c .before .before .before .text-field .result) (c .before .g1 .given .0 .0) (c .before .before .before .text-field .ensures false) (c .before .g1 .given .1) in
+    let st = may-stop m (labelField wlanApnId false) (behindLabel (avps m)) (c .before .before .before .text-field .result)
+    (c .before .g1 .given .0 .0) (c .before .before .before .text-field .ensures false) (c .before .g1 .given .1) in
     listed-refused m (policyCode (avps m)) (policyOf (avps m)) (c .before .g1 .given .0 .0) (st .0) (st .1)
 
 text-field-requires-2 : tie.Need-text-field-requires-2
@@ -47,7 +49,8 @@ returns-2 : tie.Need-returns-2
 unfolding textField bytesField nameAt names
 returns-2 c =
     let m = c .before .before .before .before .before .before .before .args .m .now in
-    let st = stop m (textField routingPolicy true) [] (c .before .before .text-field2 .result) (c .refusal .result) (c .before .before .text-field2 .ensures true) refl (c .before .match2 .keys2) (c .refusal .ensures) in
+    let st = stop m (textField routingPolicy true) [] (c .before .before .text-field2 .result) (c .refusal .result)
+    (c .before .before .text-field2 .ensures true) refl (c .before .match2 .keys2) (c .refusal .ensures) in
     listed-refused m (policyCode (avps m)) (policyOf (avps m)) (c .refusal .result) (labelled (c .before .before .before) ∙ st .0) (st .1)
 
 returns-3 : tie.Need-returns-3
@@ -59,7 +62,8 @@ returns-3 c =
     let route = c .before .g2 .given .0 .0 in
     told-policy m (a .user) (a .session) route (s .pre .1) (s .pre .2)
     (c .before .before .before .text-field2 .ensures true .found route (c .before .g2 .given .1))
-    (labelled (c .before .before .before .before) ∙ go-on m (textField routingPolicy true) [] (c .before .before .before .text-field2 .result) route (c .before .before .before .text-field2 .ensures true) (c .before .g2 .given .1))
+    (labelled (c .before .before .before .before) ∙ go-on m (textField routingPolicy true) [] (c .before .before .before .text-field2 .result) route
+    (c .before .before .before .text-field2 .ensures true) (c .before .g2 .given .1))
 
 pub policy-end-spec : {M : Type 1} → statement M
 policy-end-spec =

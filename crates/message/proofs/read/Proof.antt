@@ -22,7 +22,9 @@ gather-requires c κs = (c .before .before .before .before .pre, refl)
 
 returns-2 : tie.Need-returns-2
 returns-2 c =
-    heard-walk (c .before .before .before .before .before .before .before .args .m .now) (c .before .before .gather .result) (sym (c .before .before .before .before .before .header-code .ensures) ∙ c .before .before .before .before .if1 .left) (sym (c .before .before .gather .ensures .0)) (c .if2 .taken)
+    heard-walk (c .before .before .before .before .before .before .before .args .m .now) (c .before .before .gather .result)
+    (sym (c .before .before .before .before .before .header-code .ensures) ∙ c .before .before .before .before .if1 .left)
+    (sym (c .before .before .gather .ensures .0)) (c .if2 .taken)
 
 array-read-proxies : tie.Need-array-read-proxies
 array-read-proxies c = search needs
@@ -31,12 +33,20 @@ slice-aggregate-lists : tie.Need-slice-aggregate-lists
 slice-aggregate-lists c = search needs
 
 lists-requires : tie.Need-lists-requires
-lists-requires c κs =
-    (c .before .before .before .before .before .before .before .before .pre, sym (c .before .before .before .before .before .before .header-code .ensures) ∙ c .before .before .before .before .before .if1 .left, sym (c .before .before .before .gather .ensures .0) ∙ c .before .if2 .left, c .before .before .before .gather .ensures .1)
+lists-requires c κs = (
+  c .before .before .before .before .before .before .before .before .pre,
+  sym (c .before .before .before .before .before .before .header-code .ensures) ∙ c .before .before .before .before .before .if1 .left,
+  sym (c .before .before .before .gather .ensures .0) ∙ c .before .if2 .left,
+  c .before .before .before .gather .ensures .1,
+)
 
 returns-3 : tie.Need-returns-3
 returns-3 c =
-    heard-lists (c .before .before .before .before .before .before .before .before .before .args .m .now) (c .before .before .before .before .gather .last .1 .0) (c .lists .result) (c .before .before .before .before .gather .ensures .1) (sym (c .before .before .before .before .before .before .before .header-code .ensures) ∙ c .before .before .before .before .before .before .if1 .left) (sym (c .before .before .before .before .gather .ensures .0) ∙ c .before .before .if2 .left) (c .lists .ensures)
+    heard-lists (c .before .before .before .before .before .before .before .before .before .args .m .now)
+    (c .before .before .before .before .gather .last .1 .0) (c .lists .result) (c .before .before .before .before .gather .ensures .1)
+    (sym (c .before .before .before .before .before .before .before .header-code .ensures)
+    ∙ c .before .before .before .before .before .before .if1 .left)
+    (sym (c .before .before .before .before .gather .ensures .0) ∙ c .before .before .if2 .left) (c .lists .ensures)
 
 pub read-spec : {M : Type 1} → statement M
 read-spec =

@@ -43,7 +43,8 @@ returns-3 c =
     let m = s .args .m .now in
     rw (c .read32 .ensures)
     (eqb-sym (net32 m 20) 263
-    ∙ sym (starts-one m sessionId (c .before .before .before .if1 .left) (s .pre .1) ∙ rw (name-base (drop 20 m) (rw getD-drop (c .before .if2 .left)), net32-drop 20 0 m)))
+    ∙ sym (starts-one m sessionId (c .before .before .before .if1 .left) (s .pre .1)
+    ∙ rw (name-base (drop 20 m) (rw getD-drop (c .before .if2 .left)), net32-drop 20 0 m)))
 
 pub starts-spec : {M : Type 1} → statement M
 starts-spec =

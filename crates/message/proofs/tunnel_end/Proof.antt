@@ -19,7 +19,8 @@ labelled : (p : tie.After-known-told) → tunnelCode (avps (p .before .before .b
 unfolding tunnelCode labelField bytesField nameAt names
 labelled p =
     let m = p .before .before .before .before .before .before .args .m .now in
-    go-on m (labelField wlanApnId true) (behindLabel (avps m)) (p .before .before .before .text-field .result) (p .before .g1 .given .0 .0) (p .before .before .before .text-field .ensures true) (p .before .g1 .given .1)
+    go-on m (labelField wlanApnId true) (behindLabel (avps m)) (p .before .before .before .text-field .result) (p .before .g1 .given .0 .0)
+    (p .before .before .before .text-field .ensures true) (p .before .g1 .given .1)
 
 text-field-requires : tie.Need-text-field-requires
 text-field-requires c κs = search needs
@@ -34,8 +35,10 @@ returns : tie.Need-returns
 unfolding tunnelCode labelField bytesField nameAt names
 returns c =
     let m = c .before .before .before .before .before .args .m .now in
-    let st = stop m (labelField wlanApnId true) (behindLabel (avps m)) (c .before .before .text-field .result) (c .refusal .result) (c .before .before .text-field .ensures true) refl (c .before .match .keys2) (c .refusal .ensures) in
-    listed-refused m (tunnelCode (avps m)) (tunnelOf (c .before .before .before .before .before .args .visited) (avps m)) (c .refusal .result) (st .0) (st .1)
+    let st = stop m (labelField wlanApnId true) (behindLabel (avps m)) (c .before .before .text-field .result) (c .refusal .result)
+    (c .before .before .text-field .ensures true) refl (c .before .match .keys2) (c .refusal .ensures) in
+    listed-refused m (tunnelCode (avps m)) (tunnelOf (c .before .before .before .before .before .args .visited) (avps m)) (c .refusal .result)
+    (st .0) (st .1)
 
 text-field-requires-2 : tie.Need-text-field-requires-2
 text-field-requires-2 c κs = search needs
@@ -47,8 +50,11 @@ returns-2 : tie.Need-returns-2
 unfolding textField bytesField nameAt names
 returns-2 c =
     let m = c .before .before .before .before .before .before .before .before .before .before .args .m .now in
-    let st = may-stop m (textField routingPolicy false) [] (c .before .before .before .text-field2 .result) (c .before .g2 .given .0 .0) (c .before .before .before .text-field2 .ensures false) (c .before .g2 .given .1) in
-    listed-refused m (tunnelCode (avps m)) (tunnelOf (c .before .before .before .before .before .before .before .before .before .before .args .visited) (avps m)) (c .before .g2 .given .0 .0) (labelled (c .before .before .before .before) ∙ st .0) (st .1)
+    let st = may-stop m (textField routingPolicy false) [] (c .before .before .before .text-field2 .result) (c .before .g2 .given .0 .0)
+    (c .before .before .before .text-field2 .ensures false) (c .before .g2 .given .1) in
+    listed-refused m (tunnelCode (avps m)) (tunnelOf
+    (c .before .before .before .before .before .before .before .before .before .before .args .visited) (avps m)) (c .before .g2 .given .0 .0)
+    (labelled (c .before .before .before .before) ∙ st .0) (st .1)
 
 returns-3 : tie.Need-returns-3
 unfolding textField labelField bytesField nameAt names firstOf
@@ -59,7 +65,8 @@ returns-3 c =
     let label = c .before .before .before .g1 .given .0 .0 in
     told-tunnel m (a .user) (a .session) (a .host) label (a .visited) (s .pre .1) (s .pre .2) (s .pre .3)
     (c .before .before .before .before .before .text-field .ensures true .found label (c .before .before .before .g1 .given .1))
-    (labelled (c .before .before) ∙ may-go m (textField routingPolicy false) [] (c .before .text-field2 .result) (c .before .text-field2 .ensures false) refl (c .match2 .keys2))
+    (labelled (c .before .before) ∙ may-go m (textField routingPolicy false) [] (c .before .text-field2 .result)
+    (c .before .text-field2 .ensures false) refl (c .match2 .keys2))
 
 pub tunnel-end-spec : {M : Type 1} → statement M
 tunnel-end-spec =

@@ -1,0 +1,128 @@
+-- From what a request brings and what was carried out to the reply: lengths, codes, and the result in numbers.
+use mathlib.Core.Path.{_≡_, refl, sym, ap, _∙_}
+use mathlib.Core.Bool.{Bool, true, false, _&&_}
+use mathlib.Core.List.{List, [], _∷_}
+use Prim.Native.Nat.{ℕ, _+_, _-_, _≤_, _<_}
+use native.Mathlib.Omega.{arith}
+use borrow.Author.Tests.{leb-true}
+use lib.Dec.{eqb, leb}
+use lib.ListN.{length}
+use Rattle.octets.specs.Choice.{pick, within}
+use Rattle.octets.specs.Texts.{part}
+use Rattle.octets.proofs.Lists.{by-test, both, within-high}
+use Rattle.octets.proofs.Texts.{length-part}
+use Rattle.message.specs.Codes.{Code, none, plain, experimental, numberOf, kindOf}
+use Rattle.message.specs.Kinds.{codeFrom}
+use Rattle.message.specs.ReadingAMessage.{Ask, tunnel, policy, termination, Request, request, read, avps, userName, valueOf, requestOf}
+use Rattle.message.specs.Spans.{Holds, asks, bytesOf, isInside}
+use Rattle.message.specs.declared.Span.{Span}
+use Rattle.message.specs.declared.Kind.{Kind}
+use Rattle.message.specs.declared.Kind.the-variants.{NoAnswer, Plain, Experimental}
+use Rattle.message.specs.declared.Asked.{Asked}
+use Rattle.message.specs.declared.Asked.the-variants.{Tunnel, Policy, Termination}
+use Rattle.message.proofs.Lengths.{passing, user-length, tunnel-lengths, policy-lengths, termination-lengths}
+use Rattle.table.specs.TheTable.{Access, Subscriber}
+use Rattle.decision.specs.declared.Plan.{Plan}
+use Rattle.decision.specs.declared.Plan.the-variants.{NotSubscribed, Barred, RoamingNotAllowed, UnableToComply, UnusedByUser, Open, Route, Free}
+use Rattle.message.specs.WritingTheAnswer.{answer, answerRoom}
+use Rattle.decision.specs.declared.Outcome.{Outcome}
+use Rattle.decision.specs.declared.Done.{Done}
+use Rattle.decision.specs.Deciding.{Verdict, refuse, grant, openOn}
+use Rattle.decision.specs.Plans.{planned, cutFor, doneFor, tableAfter}
+use Rattle.decision.specs.Calls.{resultOf, noticeRoom, reply, settled}
+use Rattle.decision.specs.Outcomes.{cutMade, cutSession, cutHost, resultSaid, planKind, planCode, sessionText, hostText, fitting, leaves, callOf}
+
+-- CODES
+
+pub number-from : (k : Kind) (n : ℕ) → numberOf (codeFrom k n) ≡ n
+unfolding codeFrom numberOf
+number-from NoAnswer n = refl
+number-from Plain n = refl
+number-from Experimental n = refl
+
+-- the result in numbers
+pub result-is : (k : Kind) (n size place : ℕ) (cut : List Access)
+    → resultSaid (record { code = n; kind = k; length = size; place = place; cut = cutFor cut }) ≡ resultOf size place (codeFrom k n) cut
+unfolding resultSaid resultOf cutFor cutMade cutSession cutHost
+result-is k n size place [] = rw (number-from k n)
+result-is k n size place (a ∷ others) = rw (number-from k n)
+
+-- the code of a plan is that of its verdict
+pub plan-code : (session host route : List ℕ) (p : Plan) (s : Subscriber) → (planned session host route p s) .code ≡ codeFrom (planKind p) (planCode p)
+unfolding planned planKind planCode codeFrom refuse grant openOn pick
+plan-code session host route NotSubscribed s = refl
+plan-code session host route Barred s = refl
+plan-code session host route RoamingNotAllowed s = refl
+plan-code session host route UnableToComply s = refl
+plan-code session host route UnusedByUser s = refl
+plan-code session host route (Open n k) s = by-test (eqb k 0) (λ e. rw e) (λ e. rw e)
+plan-code session host route (Route k) s = refl
+plan-code session host route (Free k) s = refl
+
+-- LENGTHS
+
+ask-fits : (m : List ℕ) (q : Request) (a : Ask) → read m ≡ request q → q .ask ≡ a → fitting a ≡ true
+unfolding fitting
+ask-fits m q (tunnel s h l v) e i = let t = tunnel-lengths m q s h l v e i in both (t .0) (t .1)
+ask-fits m q (policy s r) e i = policy-lengths m q s r e i .1
+ask-fits m q (termination s l) e i = refl
+
+pub request-fits : (m : List ℕ) (q : Request) → read m ≡ request q → fitting (q .ask) ≡ true
+request-fits m q e = ask-fits m q (q .ask) e refl
+
+module _ (m : List ℕ) (u : List ℕ) where
+  pub session-short : (a : Asked) → read m ≡ request (record { user = u; ask = asks m a }) → length (sessionText m a) ≤ 128
+  unfolding asks sessionText
+  session-short (Tunnel s h l v) e = within-high 1 128 _ (tunnel-lengths m (record { user = u; ask = asks m (Tunnel s h l v) }) (bytesOf m s) (bytesOf m h) (bytesOf m l) v e refl .0)
+  session-short (Policy s r) e = within-high 1 128 _ (policy-lengths m (record { user = u; ask = asks m (Policy s r) }) (bytesOf m s) (bytesOf m r) e refl .0)
+  session-short (Termination s l) e = within-high 1 128 _ (termination-lengths m (record { user = u; ask = asks m (Termination s l) }) (bytesOf m s) (bytesOf m l) e refl .0)
+
+  pub host-short : (a : Asked) → read m ≡ request (record { user = u; ask = asks m a }) → length (hostText m a) ≤ 128
+  unfolding asks hostText
+  host-short (Tunnel s h l v) e = within-high 1 128 _ (tunnel-lengths m (record { user = u; ask = asks m (Tunnel s h l v) }) (bytesOf m s) (bytesOf m h) (bytesOf m l) v e refl .1)
+  host-short (Policy s r) e = omega arith
+  host-short (Termination s l) e = omega arith
+
+-- THE USER
+
+module _ (m : List ℕ) (u : Span) (inside : isInside m u ≡ true) (a : Ask) (e : read m ≡ request (record { user = bytesOf m u; ask = a })) where
+  fits : u .at + u .len ≤ length m
+  unfolding isInside
+  fits = leb-true (u .at + u .len) (length m) inside
+
+  pub user-holds : Holds m userName u
+  unfolding bytesOf requestOf
+  user-holds = record { inside = fits; value = ap (λ (q : Request). q .user) (passing m _ e .asked) }
+
+  pub user-short : u .len ≤ 128
+  unfolding bytesOf
+  user-short = omega (arith, within-high 1 128 _ (user-length m _ e), length-part m (u .at) (u .len) fits)
+
+-- THE REPLY
+
+-- an outcome and its rooms, from what was written
+pub answered-is : (k : Kind) (n : ℕ) (m host realm room notice : List ℕ) (wag : Bool) (place : ℕ) (cut : List Access) (o : Outcome) (t a u : List ℕ)
+    → a ≡ answerRoom m host realm (codeFrom k n) room
+    → o ≡ record { code = n; kind = k; length = length (answer m host realm (codeFrom k n)); place = place; cut = cutFor cut }
+    → u ≡ noticeRoom cut notice
+    → leaves o t a u ≡ record { reply = reply (callOf m host realm room notice wag) (codeFrom k n) place cut; table = t }
+unfolding leaves reply callOf
+answered-is k n m host realm room notice wag place cut o t a u ea eo eu =
+    let r : resultSaid o ≡ resultOf (length (answer m host realm (codeFrom k n))) place (codeFrom k n) cut =
+    ap resultSaid eo ∙ result-is k n (length (answer m host realm (codeFrom k n))) place cut in
+    λ i. record { reply = record { result = r i; answer = ea i; notice = eu i }; table = t }
+
+pub settled-is : (t : List ℕ) (i : ℕ) (m host realm room notice : List ℕ) (wag : Bool) (v : Verdict) (k : Kind) (n : ℕ) (d : Done) (o : Outcome) (t′ a u : List ℕ)
+    → v .code ≡ codeFrom k n
+    → t′ ≡ tableAfter t i v
+    → u ≡ noticeRoom (v .cut) notice
+    → d ≡ doneFor v
+    → a ≡ answerRoom m host realm (codeFrom k n) room
+    → o ≡ record { code = n; kind = k; length = length (answer m host realm (codeFrom k n)); place = d .place; cut = d .cut }
+    → leaves o t′ a u ≡ settled t (callOf m host realm room notice wag) i v
+unfolding settled tableAfter doneFor
+settled-is t i m host realm room notice wag v k n d o t′ a u ec et eu ed ea eo =
+    let eo′ : o ≡ record { code = n; kind = k; length = length (answer m host realm (codeFrom k n)); place = v .place; cut = cutFor (v .cut) } =
+    eo ∙ ap (λ (x : Done). record { code = n; kind = k; length = length (answer m host realm (codeFrom k n)); place = x .place; cut = x .cut }) ed in
+    answered-is k n m host realm room notice wag (v .place) (v .cut) o t′ a u ea eo′ eu
+    ∙ (λ j. record { reply = reply (callOf m host realm room notice wag) (sym ec j) (v .place) (v .cut); table = et j })

@@ -1,0 +1,112 @@
+-- The numbers of a call, test by test.
+use mathlib.Core.Path.{_≡_, refl, sym, ap, _∙_}
+use mathlib.Core.Bool.{Bool, true, false, _&&_}
+use mathlib.Core.List.{List, [], _∷_}
+use Prim.Native.Nat.{ℕ, suc, _≤_, _<_}
+use native.Mathlib.Omega.{arith}
+use borrow.Author.Tests.{eq-eqb, ne-eqb, le-leb, lt-leb, leb-true, eqb-true}
+use lib.Dec.{eqb, leb}
+use lib.ListN.{length}
+use Rattle.octets.specs.Choice.{pick, require, firstOf, within}
+use Rattle.octets.proofs.Lists.{and-left, and-right, by-test, within-high}
+use Rattle.octets.proofs.Choice.{first-passes, others-pass, passed}
+use Rattle.message.specs.Codes.{kindOf}
+use Rattle.message.specs.Kinds.{codeFrom}
+use Rattle.message.specs.ReadingAMessage.{read}
+use Rattle.message.specs.declared.Kind.the-variants.{NoAnswer}
+use Rattle.message.proofs.Callers.{message-length}
+use Rattle.decision.specs.declared.Cut.the-variants.{NoCut}
+use Rattle.message.specs.CallsThatGetNoAnswer.{messageNumber}
+use Rattle.table.specs.TheTable.{tableNumber}
+use Rattle.decision.specs.Calls.{Call, callNumber, handle, onReading, silent}
+use Rattle.decision.specs.Outcomes.{callOf, cutHost, cutMade, cutSession, leaves, resultSaid, Ready}
+
+module _ (t : List ℕ) (c : Call) where
+  pub number-table : (tableNumber t ≡ 0 → ⊥) → callNumber t c ≡ tableNumber t
+  unfolding callNumber firstOf pick
+  number-table h = rw (ne-eqb (tableNumber t) 0 h)
+
+  module _ (z : tableNumber t ≡ 0) where
+    pub number-host : within 1 128 (length (c .host)) ≡ false → callNumber t c ≡ 2
+    unfolding callNumber firstOf require pick
+    number-host h = rw (z, h)
+
+    module _ (hh : within 1 128 (length (c .host)) ≡ true) where
+      pub number-realm : within 1 128 (length (c .realm)) ≡ false → callNumber t c ≡ 2
+      unfolding callNumber firstOf require pick
+      number-realm h = rw (z, hh, h)
+
+      module _ (hr : within 1 128 (length (c .realm)) ≡ true) where
+        pub number-answer : length (c .answer) < 5120 → callNumber t c ≡ 3
+        unfolding callNumber firstOf require pick
+        number-answer h = rw (z, hh, hr, lt-leb 5120 (length (c .answer)) h)
+
+        module _ (ha : 5120 ≤ length (c .answer)) where
+          pub number-notice : length (c .notice) < 256 → callNumber t c ≡ 4
+          unfolding callNumber firstOf require pick
+          number-notice h = rw (z, hh, hr, le-leb 5120 (length (c .answer)) ha, lt-leb 256 (length (c .notice)) h)
+
+          pub number-message : 256 ≤ length (c .notice) → callNumber t c ≡ messageNumber (c .message)
+          unfolding callNumber firstOf require pick
+          number-message h =
+              rw (z, hh, hr, le-leb 5120 (length (c .answer)) ha, le-leb 256 (length (c .notice)) h)
+              (by-test (eqb (messageNumber (c .message)) 0)
+              (λ e. rw e (sym (eqb-true (messageNumber (c .message)) 0 e)))
+              (λ e. rw e))
+
+-- A CALL THAT IS ANSWERED
+
+-- what lent things are like where no number is given
+module _ (t m host realm room notice : List ℕ) (wag : Bool) (z : callNumber t (callOf m host realm room notice wag) ≡ 0) where
+  names : Bool
+  names = within 1 128 (length host) && within 1 128 (length realm)
+
+  others : List ℕ
+  others = require (leb 5120 (length room)) 3 ∷ require (leb 256 (length notice)) 4 ∷ messageNumber m ∷ []
+
+  pub table-right : tableNumber t ≡ 0
+  unfolding callNumber callOf
+  table-right = first-passes (tableNumber t) _ z
+
+  after-table : firstOf (require names 2 ∷ others) ≡ 0
+  unfolding callNumber callOf names others
+  after-table = others-pass (tableNumber t) _ z
+
+  names-fit : names ≡ true
+  names-fit = passed names 2 (omega arith) (first-passes (require names 2) others after-table)
+
+  after-names : firstOf others ≡ 0
+  after-names = others-pass (require names 2) others after-table
+
+  pub notice-fits : 256 ≤ length notice
+  unfolding others
+  notice-fits = leb-true 256 (length notice) (passed (leb 256 (length notice)) 4 (omega arith) (first-passes _ _ (others-pass (require (leb 5120 (length room)) 3) _ after-names)))
+
+  pub message-right : messageNumber m ≡ 0
+  unfolding others
+  message-right = first-passes (messageNumber m) [] (others-pass (require (leb 256 (length notice)) 4) _ (others-pass (require (leb 5120 (length room)) 3) _ after-names))
+
+  pub is-ready : Ready m host realm room
+  unfolding names others
+  is-ready =
+      record {
+        least = message-length m message-right .0;
+        most = message-length m message-right .1;
+        host-fits = within-high 1 128 (length host) (and-left (within 1 128 (length host)) (within 1 128 (length realm)) names-fit);
+        realm-fits = within-high 1 128 (length realm) (and-right (within 1 128 (length host)) (within 1 128 (length realm)) names-fit);
+        room-fits = leb-true 5120 (length room) (passed (leb 5120 (length room)) 3 (omega arith) (first-passes (require (leb 5120 (length room)) 3) _ after-names));
+      }
+
+module _ (t : List ℕ) (c : Call) where
+  pub handled : callNumber t c ≡ 0 → handle t c ≡ onReading t c (read (c .message))
+  unfolding handle pick
+  handled z = rw (eq-eqb (callNumber t c) 0 z)
+
+  pub unanswered : (n : ℕ) → n ≡ callNumber t c → (n ≡ 0 → ⊥) → silent t c n ≡ handle t c
+  unfolding handle pick
+  unanswered n e nz = rw (ne-eqb (callNumber t c) 0 (λ z. nz (e ∙ z)), e)
+
+pub silent-is : (t m host realm room notice : List ℕ) (wag : Bool) (n : ℕ)
+    → leaves (record { code = n; kind = NoAnswer; length = 0; place = 0; cut = NoCut }) t room notice ≡ silent t (callOf m host realm room notice wag) n
+unfolding leaves resultSaid silent callOf codeFrom kindOf cutMade cutSession cutHost
+silent-is t m host realm room notice wag n = refl

@@ -1,0 +1,30 @@
+use mathlib.Core.Path.{_≡_, refl, sym, ap, _∙_}
+use mathlib.Core.Bool.{Bool, true, false, _&&_}
+use mathlib.Core.List.{List, [], _∷_, _++_}
+use Prim.Native.Nat.{ℕ, _+_, _-_, _*_, _<_, _≤_}
+use native.Mathlib.Omega.{arith}
+use lib.ListN.{length, take, drop}
+use borrow.Author.Needs.{needs}
+use Rattle.decision.proofs.handling.answer_call.Statement.{statement}
+use Rattle.decision.proofs.handling.answer_call.Tie as tie
+use Rattle.decision.proofs.handling.answer_call.Reads as reads
+use Rattle.decision.proofs.handling.answer_call.Lts as lts
+use Rattle.answers.proofs.answer.Reads as answer-reads
+
+-- src/handling.rt:106:9
+answer-requires : tie.Need-answer-requires
+answer-requires c κs = search needs
+
+-- src/handling.rt:91:1
+same-length : tie.Need-same-length
+same-length c = search needs
+
+-- src/handling.rt:91:1
+returns : tie.Need-returns
+returns c =
+    let done = c .before .before .answer .ensures in
+    let a = c .before .before .before .before .before .before .before .before .args in
+    (done .room-is, λ j. record { code = a .code; kind = a .kind; length = done .length-is j; place = a .done .place; cut = a .done .cut })
+
+pub answer-call-spec : {M : Type 1} → statement M
+answer-call-spec = tie.close (tie.spec answer-requires same-length returns)

@@ -1,0 +1,190 @@
+use mathlib.Core.Path.{_≡_, refl, sym, ap, _∙_}
+use mathlib.Core.Bool.{Bool, true, false, _&&_}
+use mathlib.Core.List.{List, [], _∷_, _++_}
+use Prim.Native.Nat.{ℕ, _+_, _-_, _*_, _<_, _≤_}
+use native.Mathlib.Omega.{arith}
+use lib.ListN.{length, take, drop}
+use Rattle.octets.specs.Lists.{every}
+use Rattle.octets.proofs.Lists.{and-left, and-right}
+use Rattle.message.specs.Kinds.{codeFrom}
+use Rattle.message.specs.ReadingAMessage.{read, refused, request}
+use Rattle.message.specs.Spans.{asks, bytesOf, isInside, says, spans, spansIn}
+use Rattle.message.proofs.Callers.{never-2001}
+use Rattle.decision.specs.Calls.{callNumber, onReading}
+use Rattle.decision.specs.Outcomes.{callOf}
+use Rattle.decision.proofs.Numbers.{handled, is-ready, notice-fits, silent-is, table-right, unanswered}
+use borrow.Author.Needs.{needs}
+use Rattle.decision.proofs.handling.handle.Statement.{statement}
+use Rattle.decision.proofs.handling.handle.Tie as tie
+use Rattle.decision.proofs.handling.handle.Reads as reads
+use Rattle.decision.proofs.handling.handle.Lts as lts
+use Rattle.decision.proofs.handling.call_number.Reads as call-number-reads
+use Rattle.decision.proofs.handling.on_request.Reads as on-request-reads
+use Rattle.decision.proofs.handling.refuse.Reads as refuse-reads
+use Rattle.message.proofs.read.Reads as read-reads
+
+-- src/handling.rt:274:9
+call-number-requires : tie.Need-call-number-requires
+call-number-requires c κs = search needs
+
+-- src/handling.rt:276:9
+same-length : tie.Need-same-length
+same-length c = search needs
+
+-- src/handling.rt:276:9
+same-length-2 : tie.Need-same-length-2
+same-length-2 c = search needs
+
+-- src/handling.rt:276:9
+same-length-3 : tie.Need-same-length-3
+same-length-3 c = search needs
+
+-- src/handling.rt:276:9
+returns : tie.Need-returns
+returns c =
+    let a = c .before .before .before .before .before .before .before .before .before .before .before .args in
+    let t = a .table .now in
+    silent-is t (a .message .now) (a .host .now) (a .realm .now) (a .answer .now) (a .notice .now) (a .wag) (c .before .call-number .result)
+    ∙ unanswered t (callOf (a .message .now) (a .host .now) (a .realm .now) (a .answer .now) (a .notice .now) (a .wag)) (c .before .call-number .result) (c .before .call-number .ensures (a .wag)) (c .if1 .taken)
+
+-- src/handling.rt:284:9
+read-requires : tie.Need-read-requires
+read-requires c κs =
+    let start = c .before .before .before .before .before .before .before .before .before .before .before in
+    let a = start .args in
+    let t = a .table .now in
+    let m = a .message .now in
+    let z : callNumber t (callOf m (a .host .now) (a .realm .now) (a .answer .now) (a .notice .now) (a .wag)) ≡ 0 = sym (c .before .call-number .ensures (a .wag)) ∙ c .if1 .left in
+    let ready = is-ready t m (a .host .now) (a .realm .now) (a .answer .now) (a .notice .now) (a .wag) z in
+    ready .least
+
+-- src/handling.rt:288:23
+enum-known-told : tie.Need-enum-known-told
+enum-known-told c = search needs
+
+-- src/handling.rt:289:13
+refuse-requires : tie.Need-refuse-requires
+unfolding says
+refuse-requires c κs =
+    let start = c .before .before .before .before .before .before .before .before .before .before .before .before .before .before .before .before in
+    let a = start .args in
+    let t = a .table .now in
+    let m = a .message .now in
+    let z : callNumber t (callOf m (a .host .now) (a .realm .now) (a .answer .now) (a .notice .now) (a .wag)) ≡ 0 = sym (c .before .before .before .before .before .before .call-number .ensures (a .wag)) ∙ c .before .before .before .before .before .if1 .left in
+    let ready = is-ready t m (a .host .now) (a .realm .now) (a .answer .now) (a .notice .now) (a .wag) z in
+    let heard = c .before .before .before .before .read .ensures in
+    let is = c .before .before .told .given .1 in
+    let code = c .before .before .told .given .0 .0 in
+    let refused-is : read m ≡ refused code = sym (heard .reading) ∙ rw is in
+    (ready, heard .proxies, never-2001 m code refused-is)
+
+-- src/handling.rt:289:13
+same-length-4 : tie.Need-same-length-4
+same-length-4 c = search needs
+
+-- src/handling.rt:289:13
+same-length-5 : tie.Need-same-length-5
+same-length-5 c = search needs
+
+-- src/handling.rt:289:13
+same-length-6 : tie.Need-same-length-6
+same-length-6 c = search needs
+
+-- src/handling.rt:289:13
+returns-2 : tie.Need-returns-2
+unfolding says onReading codeFrom callOf
+returns-2 c =
+    let start = c .before .before .before .before .before .before .before .before .before .before .before .before .before .before .before .before .before .before .before in
+    let a = start .args in
+    let t = a .table .now in
+    let m = a .message .now in
+    let z : callNumber t (callOf m (a .host .now) (a .realm .now) (a .answer .now) (a .notice .now) (a .wag)) ≡ 0 = sym (c .before .before .before .before .before .before .before .before .before .call-number .ensures (a .wag)) ∙ c .before .before .before .before .before .before .before .before .if1 .left in
+    let ready = is-ready t m (a .host .now) (a .realm .now) (a .answer .now) (a .notice .now) (a .wag) z in
+    let heard = c .before .before .before .before .before .before .before .read .ensures in
+    let is = c .before .before .before .before .before .told .given .1 in
+    let code = c .before .before .before .before .before .told .given .0 .0 in
+    let refused-is : read m ≡ refused code = sym (heard .reading) ∙ rw is in
+    c .before .before .refuse .ensures t (a .notice .now) (a .wag)
+    ∙ sym (handled t (callOf m (a .host .now) (a .realm .now) (a .answer .now) (a .notice .now) (a .wag)) z ∙ ap (onReading t (callOf m (a .host .now) (a .realm .now) (a .answer .now) (a .notice .now) (a .wag))) refused-is)
+
+-- src/handling.rt:291:23
+enum-known-told-2 : tie.Need-enum-known-told-2
+enum-known-told-2 c = search needs
+
+-- src/handling.rt:292:13
+on-request-requires : tie.Need-on-request-requires
+unfolding says spans every
+on-request-requires c κs =
+    let start = c .before .before .before .before .before .before .before .before .before .before .before .before .before .before .before .before .before .before in
+    let a = start .args in
+    let t = a .table .now in
+    let m = a .message .now in
+    let z : callNumber t (callOf m (a .host .now) (a .realm .now) (a .answer .now) (a .notice .now) (a .wag)) ≡ 0 = sym (c .before .before .before .before .before .before .before .before .call-number .ensures (a .wag)) ∙ c .before .before .before .before .before .before .before .if1 .left in
+    let ready = is-ready t m (a .host .now) (a .realm .now) (a .answer .now) (a .notice .now) (a .wag) z in
+    let heard = c .before .before .before .before .before .before .read .ensures in
+    let is = c .before .before .before .before .told2 .given .1 in
+    let user = c .before .before .before .before .told2 .given .0 .0 in
+    let asked = c .before .before .before .before .told2 .given .0 .1 .0 in
+    let read-is : read m ≡ request (record { user = bytesOf m user; ask = asks m asked }) = sym (heard .reading) ∙ rw is in
+    let all : isInside m user && every (isInside m) (spansIn asked) ≡ true = rw is at (heard .inside) in (
+      ready,
+      notice-fits t m (a .host .now) (a .realm .now) (a .answer .now) (a .notice .now) (a .wag) z,
+      table-right t m (a .host .now) (a .realm .now) (a .answer .now) (a .notice .now) (a .wag) z,
+      and-right (isInside m user) _ all,
+      and-left (isInside m user) _ all,
+      heard .proxies,
+      read-is,
+    )
+
+-- src/handling.rt:292:13
+same-length-7 : tie.Need-same-length-7
+same-length-7 c = search needs
+
+-- src/handling.rt:292:13
+same-length-8 : tie.Need-same-length-8
+same-length-8 c = search needs
+
+-- src/handling.rt:292:13
+same-length-9 : tie.Need-same-length-9
+same-length-9 c = search needs
+
+-- src/handling.rt:292:13
+returns-3 : tie.Need-returns-3
+unfolding says onReading callOf
+returns-3 c =
+    let start = c .before .before .before .before .before .before .before .before .before .before .before .before .before .before .before .before .before .before .before .before .before .before .before .before .before in
+    let a = start .args in
+    let t = a .table .now in
+    let m = a .message .now in
+    let z : callNumber t (callOf m (a .host .now) (a .realm .now) (a .answer .now) (a .notice .now) (a .wag)) ≡ 0 = sym (c .before .before .before .before .before .before .before .before .before .before .before .before .before .before .before .call-number .ensures (a .wag)) ∙ c .before .before .before .before .before .before .before .before .before .before .before .before .before .before .if1 .left in
+    let ready = is-ready t m (a .host .now) (a .realm .now) (a .answer .now) (a .notice .now) (a .wag) z in
+    let heard = c .before .before .before .before .before .before .before .before .before .before .before .before .before .read .ensures in
+    let is = c .before .before .before .before .before .before .before .before .before .before .before .told2 .given .1 in
+    let user = c .before .before .before .before .before .before .before .before .before .before .before .told2 .given .0 .0 in
+    let asked = c .before .before .before .before .before .before .before .before .before .before .before .told2 .given .0 .1 .0 in
+    let read-is : read m ≡ request (record { user = bytesOf m user; ask = asks m asked }) = sym (heard .reading) ∙ rw is in
+    c .before .before .before .before .before .before .on-request .ensures
+    ∙ sym (handled t (callOf m (a .host .now) (a .realm .now) (a .answer .now) (a .notice .now) (a .wag)) z ∙ ap (onReading t (callOf m (a .host .now) (a .realm .now) (a .answer .now) (a .notice .now) (a .wag))) read-is)
+
+pub handle-spec : {M : Type 1} → statement M
+handle-spec =
+    tie.close
+    (tie.spec
+    call-number-requires
+    same-length
+    same-length-2
+    same-length-3
+    returns
+    read-requires
+    enum-known-told
+    refuse-requires
+    same-length-4
+    same-length-5
+    same-length-6
+    returns-2
+    enum-known-told-2
+    on-request-requires
+    same-length-7
+    same-length-8
+    same-length-9
+    returns-3)

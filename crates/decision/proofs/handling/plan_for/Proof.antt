@@ -1,0 +1,160 @@
+use mathlib.Core.Path.{_≡_, refl, sym, ap, _∙_}
+use mathlib.Core.Bool.{Bool, true, false, _&&_}
+use mathlib.Core.List.{List, [], _∷_, _++_}
+use Prim.Native.Nat.{ℕ, _+_, _-_, _*_, _<_, _≤_}
+use native.Mathlib.Omega.{arith}
+use lib.ListN.{length, take, drop}
+use Rattle.octets.specs.Lists.{every}
+use Rattle.octets.proofs.Lists.{and-left, and-right}
+use Rattle.message.specs.Spans.{asks, bytesOf, spansIn, isInside}
+use Rattle.table.specs.TheTable.{readRow}
+use Rattle.decision.specs.Deciding.{decide, type0, type1, terminate}
+use Rattle.decision.specs.Plans.{planned, fitPlan}
+use Rattle.decision.specs.Outcomes.{sessionText, hostText, routeText, fitting}
+use borrow.Author.Needs.{needs}
+use Rattle.decision.proofs.handling.plan_for.Statement.{statement}
+use Rattle.decision.proofs.handling.plan_for.Tie as tie
+use Rattle.decision.proofs.handling.plan_for.Reads as reads
+use Rattle.decision.proofs.handling.plan_for.Lts as lts
+use Rattle.decision.proofs.deciding.plan_policy.Reads as plan-policy-reads
+use Rattle.decision.proofs.deciding.plan_termination.Reads as plan-termination-reads
+use Rattle.decision.proofs.deciding.plan_tunnel.Reads as plan-tunnel-reads
+use Rattle.decision.proofs.handling.text.Reads as text-reads
+
+-- src/handling.rt:171:25
+enum-known-asked : tie.Need-enum-known-asked
+enum-known-asked c = search needs
+
+-- src/handling.rt:172:47
+text-requires : tie.Need-text-requires
+unfolding every spansIn
+text-requires c κs =
+    let start = c .before .before .before .before .before in
+    let m = start .args .m .now in
+    let is = c .before .asked .given .1 in
+    let given = c .before .asked .given .0 in
+    let all : every (isInside m) (spansIn (start .args .asked)) ≡ true = start .pre .1 in
+    and-left (isInside m (given .0)) _ (rw is at all)
+
+-- src/handling.rt:172:65
+text-requires-2 : tie.Need-text-requires-2
+unfolding every spansIn
+text-requires-2 c κs =
+    let start = c .before .before .before .before .before .before in
+    let m = start .args .m .now in
+    let is = c .before .before .asked .given .1 in
+    let given = c .before .before .asked .given .0 in
+    let all : every (isInside m) (spansIn (start .args .asked)) ≡ true = start .pre .1 in
+    and-left (isInside m (given .1 .1 .0)) _ (and-right (isInside m (given .1 .0)) _ (and-right (isInside m (given .0)) _ (rw is at all)))
+
+-- src/handling.rt:172:13
+plan-tunnel-requires : tie.Need-plan-tunnel-requires
+plan-tunnel-requires c κs = search needs
+
+-- src/handling.rt:172:13
+returns : tie.Need-returns
+unfolding sessionText hostText routeText asks decide fitting
+returns c =
+    let start = c .before .before .before .before .before .before .before .before in
+    let a = start .args in
+    let m = a .m .now in
+    let s = readRow (a .row .now) in
+    let given = c .before .before .before .before .asked .given .0 in
+    let session : c .before .before .text .result .now ≡ bytesOf m (given .0) = c .before .before .text .ensures in
+    let label : c .before .text2 .result .now ≡ bytesOf m (given .1 .1 .0) = c .before .text2 .ensures in
+    let is = c .before .before .before .before .asked .given .1 in
+    let ens = c .plan-tunnel .ensures in
+    rw is (rw (session, label) at (ens .0 (bytesOf m (given .1 .0)) []), λ f. ens .1 [])
+
+-- src/handling.rt:174:25
+enum-known-asked-2 : tie.Need-enum-known-asked-2
+enum-known-asked-2 c = search needs
+
+-- src/handling.rt:175:47
+text-requires-3 : tie.Need-text-requires-3
+unfolding every spansIn
+text-requires-3 c κs =
+    let start = c .before .before .before .before .before in
+    let m = start .args .m .now in
+    let is = c .before .asked2 .given .1 in
+    let given = c .before .asked2 .given .0 in
+    let all : every (isInside m) (spansIn (start .args .asked)) ≡ true = start .pre .1 in
+    and-left (isInside m (given .0)) _ (rw is at all)
+
+-- src/handling.rt:175:13
+plan-policy-requires : tie.Need-plan-policy-requires
+plan-policy-requires c κs = search needs
+
+-- src/handling.rt:175:13
+returns-2 : tie.Need-returns-2
+unfolding sessionText hostText routeText asks decide fitting
+returns-2 c =
+    let start = c .before .before .before .before .before .before .before in
+    let m = start .args .m .now in
+    let given = c .before .before .before .asked2 .given .0 in
+    let is = c .before .before .before .asked2 .given .1 in
+    let session : c .before .text3 .result .now ≡ bytesOf m (given .0) = c .before .text3 .ensures in
+    let ens = c .plan-policy .ensures in
+    rw is (rw session at (ens .0 [] (bytesOf m (given .1 .0))), λ f. ens .1 (bytesOf m (given .1 .0)) f)
+
+-- src/handling.rt:177:30
+enum-known-asked-3 : tie.Need-enum-known-asked-3
+enum-known-asked-3 c = search needs
+
+-- src/handling.rt:178:52
+text-requires-4 : tie.Need-text-requires-4
+unfolding every spansIn
+text-requires-4 c κs =
+    let start = c .before .before .before .before .before in
+    let m = start .args .m .now in
+    let is = c .before .asked3 .given .1 in
+    let given = c .before .asked3 .given .0 in
+    let all : every (isInside m) (spansIn (start .args .asked)) ≡ true = start .pre .1 in
+    and-left (isInside m (given .0)) _ (rw is at all)
+
+-- src/handling.rt:178:70
+text-requires-5 : tie.Need-text-requires-5
+unfolding every spansIn
+text-requires-5 c κs =
+    let start = c .before .before .before .before .before .before in
+    let m = start .args .m .now in
+    let is = c .before .before .asked3 .given .1 in
+    let given = c .before .before .asked3 .given .0 in
+    let all : every (isInside m) (spansIn (start .args .asked)) ≡ true = start .pre .1 in
+    and-left (isInside m (given .1 .0)) _ (and-right (isInside m (given .0)) _ (rw is at all))
+
+-- src/handling.rt:178:13
+plan-termination-requires : tie.Need-plan-termination-requires
+plan-termination-requires c κs = search needs
+
+-- src/handling.rt:178:13
+returns-3 : tie.Need-returns-3
+unfolding sessionText hostText routeText asks decide fitting
+returns-3 c =
+    let start = c .before .before .before .before .before .before .before .before in
+    let m = start .args .m .now in
+    let given = c .before .before .before .before .asked3 .given .0 in
+    let is = c .before .before .before .before .asked3 .given .1 in
+    let session : c .before .before .text4 .result .now ≡ bytesOf m (given .0) = c .before .before .text4 .ensures in
+    let label : c .before .text5 .result .now ≡ bytesOf m (given .1 .0) = c .before .text5 .ensures in
+    let ens = c .plan-termination .ensures in
+    rw is (rw (session, label) at (ens .0 [] []), λ f. ens .1 [])
+
+pub plan-for-spec : {M : Type 1} → statement M
+plan-for-spec =
+    tie.close
+    (tie.spec
+    enum-known-asked
+    text-requires
+    text-requires-2
+    plan-tunnel-requires
+    returns
+    enum-known-asked-2
+    text-requires-3
+    plan-policy-requires
+    returns-2
+    enum-known-asked-3
+    text-requires-4
+    text-requires-5
+    plan-termination-requires
+    returns-3)

@@ -1,0 +1,196 @@
+use Rattle.message.specs.Kinds.{codeFrom}
+use Rattle.decision.specs.Deciding.{Verdict, decide}
+use Rattle.decision.specs.Plans.{planned, fitPlan, doneFor, tableAfter}
+use Rattle.decision.specs.Calls.{noticeRoom}
+use Rattle.decision.specs.Outcomes.{sessionText, hostText, routeText}
+use mathlib.Core.Path.{_≡_, refl, sym, ap, _∙_}
+use mathlib.Core.Bool.{Bool, true, false, _&&_}
+use mathlib.Core.List.{List, [], _∷_, _++_}
+use Prim.Native.Nat.{ℕ, _+_, _-_, _*_, _<_, _≤_}
+use native.Mathlib.Omega.{arith}
+use lib.ListN.{length, take, drop}
+use Rattle.message.specs.Spans.{asks}
+use Rattle.table.specs.TheTable.{rowAt, readRow}
+use Rattle.table.specs.Soundness.{sound}
+use Rattle.table.proofs.Rows.{lent-row}
+use Rattle.decision.proofs.Answered.{request-fits, user-holds, user-short, session-short, host-short, plan-code, settled-is}
+use borrow.Author.Needs.{needs}
+use Rattle.decision.proofs.handling.settle.Statement.{statement}
+use Rattle.decision.proofs.handling.settle.Tie as tie
+use Rattle.decision.proofs.handling.settle.Reads as reads
+use Rattle.decision.proofs.handling.settle.Lts as lts
+use Rattle.decision.proofs.carrying.carry.Reads as carry-reads
+use Rattle.decision.proofs.handling.answer_call.Reads as answer-call-reads
+use Rattle.decision.proofs.handling.code_of.Reads as code-of-reads
+use Rattle.decision.proofs.handling.host_span.Reads as host-span-reads
+use Rattle.decision.proofs.handling.kind_of.Reads as kind-of-reads
+use Rattle.decision.proofs.handling.plan_for.Reads as plan-for-reads
+use Rattle.decision.proofs.handling.route_span.Reads as route-span-reads
+use Rattle.decision.proofs.handling.session_span.Reads as session-span-reads
+use Rattle.decision.proofs.handling.text.Reads as text-reads
+
+-- src/handling.rt:218:13
+mul-a : tie.Need-mul-a
+mul-a c = search needs
+
+-- src/handling.rt:219:13
+add-e : tie.Need-add-e
+add-e c = search needs
+
+-- src/handling.rt:220:25
+sub-plan-for : tie.Need-sub-plan-for
+sub-plan-for c = search needs
+
+-- src/handling.rt:220:25
+part-plan-for-start : tie.Need-part-plan-for-start
+part-plan-for-start c = search needs
+
+-- src/handling.rt:220:25
+part-plan-for-end : tie.Need-part-plan-for-end
+part-plan-for-end c = search needs
+
+-- src/handling.rt:220:9
+plan-for-requires : tie.Need-plan-for-requires
+plan-for-requires c κs =
+    let start = c .before .before .before .before .before .before .before .before in
+    let a = start .args in
+    (ap sound (lent-row (a .table .now) (4608 * a .i) (a .i) refl) ∙ start .pre .3, start .pre .4)
+
+-- src/handling.rt:221:27
+session-span-requires : tie.Need-session-span-requires
+session-span-requires c κs = search needs
+
+-- src/handling.rt:221:9
+text-requires : tie.Need-text-requires
+text-requires c κs =
+    let start = c .before .before .before .before .before .before .before .before .before .before in
+    c .session-span .ensures (start .args .m .now) .1 (start .pre .4)
+
+-- src/handling.rt:222:27
+host-span-requires : tie.Need-host-span-requires
+host-span-requires c κs = search needs
+
+-- src/handling.rt:222:9
+text-requires-2 : tie.Need-text-requires-2
+text-requires-2 c κs =
+    let start = c .before .before .before .before .before .before .before .before .before .before .before .before in
+    c .host-span .ensures (start .args .m .now) .1 (start .pre .4)
+
+-- src/handling.rt:223:25
+route-span-requires : tie.Need-route-span-requires
+route-span-requires c κs = search needs
+
+-- src/handling.rt:223:9
+text-requires-3 : tie.Need-text-requires-3
+text-requires-3 c κs =
+    let start = c .before .before .before .before .before .before .before .before .before .before .before .before .before .before in
+    c .route-span .ensures (start .args .m .now) .1 (start .pre .4)
+
+-- src/handling.rt:224:9
+carry-requires : tie.Need-carry-requires
+carry-requires c κs =
+    let start = c .before .before .before .before .before .before .before .before .before .before .before .before .before .before .before .before .before in
+    let a = start .args in
+    let m = a .m .now in
+    let session = c .before .before .before .before .before .before .text .ensures ∙ c .before .before .before .before .before .before .before .session-span .ensures m .0 in
+    let gateway = c .before .before .before .before .text2 .ensures ∙ c .before .before .before .before .before .host-span .ensures m .0 in
+    let route = c .before .before .text3 .ensures ∙ c .before .before .before .route-span .ensures m .0 in
+    let row = lent-row (a .table .now) (4608 * a .i) (a .i) refl in
+    let fit = c .before .before .before .before .before .before .before .before .plan-for .ensures .1 (request-fits m _ (start .pre .7)) in
+    let fits : fitPlan (c .before .before .text3 .result .now) (c .before .before .before .before .before .before .before .before .plan-for .result) (rowAt (a .table .now) (a .i)) ≡ true = rw (← route, row) at fit in (
+      start .pre .1,
+      start .pre .2,
+      start .pre .3,
+      fits,
+      omega (arith, ap length session, session-short m _ (a .asked) (start .pre .7)),
+      omega (arith, ap length gateway, host-short m _ (a .asked) (start .pre .7)),
+    )
+
+-- src/handling.rt:225:33
+kind-of-requires : tie.Need-kind-of-requires
+kind-of-requires c κs = search needs
+
+-- src/handling.rt:225:48
+code-of-requires : tie.Need-code-of-requires
+code-of-requires c κs = search needs
+
+-- src/handling.rt:225:5
+answer-call-requires : tie.Need-answer-call-requires
+answer-call-requires c κs =
+    let start = c .before .before .before .before .before .before .before .before .before .before .before .before .before .before .before .before .before .before .before .before .before .before .before .before .before in
+    let a = start .args in
+    let m = a .m .now in
+    let ready = start .pre .0 in
+    record {
+      least = ready .least;
+      most = ready .most;
+      host-fits = ready .host-fits;
+      realm-fits = ready .realm-fits;
+      room-fits = ready .room-fits;
+      named = λ x y. user-holds m (a .user) (start .pre .5) (asks m (a .asked)) (start .pre .7);
+      short = λ x y. user-short m (a .user) (start .pre .5) (asks m (a .asked)) (start .pre .7);
+      to-copy = start .pre .6;
+    }
+
+-- src/handling.rt:198:1
+same-length : tie.Need-same-length
+same-length c = search needs
+
+-- src/handling.rt:198:1
+same-length-2 : tie.Need-same-length-2
+same-length-2 c = search needs
+
+-- src/handling.rt:198:1
+same-length-3 : tie.Need-same-length-3
+same-length-3 c = search needs
+
+-- src/handling.rt:198:1
+returns : tie.Need-returns
+returns c =
+    let start = c .before .before .before .before .before .before .before .before .before .before .before .before .before .before .before .before .before .before .before .before .before .before .before .before .before .before .before .before in
+    let a = start .args in
+    let m = a .m .now in
+    let session = c .before .before .before .before .before .before .before .before .before .before .before .before .before .before .before .before .before .text .ensures ∙ c .before .before .before .before .before .before .before .before .before .before .before .before .before .before .before .before .before .before .session-span .ensures m .0 in
+    let gateway = c .before .before .before .before .before .before .before .before .before .before .before .before .before .before .before .text2 .ensures ∙ c .before .before .before .before .before .before .before .before .before .before .before .before .before .before .before .before .host-span .ensures m .0 in
+    let route = c .before .before .before .before .before .before .before .before .before .before .before .before .before .text3 .ensures ∙ c .before .before .before .before .before .before .before .before .before .before .before .before .before .before .route-span .ensures m .0 in
+    let row = lent-row (a .table .now) (4608 * a .i) (a .i) refl in
+    let plan = c .before .before .before .before .before .before .before .before .before .before .before .before .before .before .before .before .before .before .before .plan-for .result in
+    let s = readRow (rowAt (a .table .now) (a .i)) in
+    let v = decide (asks m (a .asked)) (a .wag) s in
+    let carried = c .before .before .before .before .before .before .before .before .before .before .carry .ensures in
+    let answered = c .before .before .answer-call .ensures in
+    let by : planned (sessionText m (a .asked)) (hostText m (a .asked)) (routeText m (a .asked)) plan s ≡ v = rw row at (c .before .before .before .before .before .before .before .before .before .before .before .before .before .before .before .before .before .before .before .plan-for .ensures .0) in
+    let is : planned (c .before .before .before .before .before .before .before .before .before .before .before .before .before .before .before .before .before .text .result .now) (c .before .before .before .before .before .before .before .before .before .before .before .before .before .before .before .text2 .result .now) (c .before .before .before .before .before .before .before .before .before .before .before .before .before .text3 .result .now) plan s ≡ v =
+    (λ j. planned (session j) (gateway j) (route j) plan s) ∙ by in
+    let kind = c .before .before .before .before .before .kind-of .ensures in
+    let code = c .before .before .before .before .code-of .ensures in
+    let coded : v .code ≡ codeFrom (c .before .before .before .before .before .kind-of .result) (c .before .before .before .before .code-of .result) =
+    ap (λ (x : Verdict). x .code) (sym by) ∙ plan-code (sessionText m (a .asked)) (hostText m (a .asked)) (routeText m (a .asked)) plan s ∙ (λ j. codeFrom (sym kind j) (sym code j)) in
+    settled-is (a .table .now) (a .i) m (a .host .now) (a .realm .now) (a .room .now) (a .notice .now) (a .wag) v (c .before .before .before .before .before .kind-of .result) (c .before .before .before .before .code-of .result) (c .before .before .before .before .before .before .before .before .before .before .carry .result) _ _ _ _
+    coded (carried .0 ∙ ap (tableAfter (a .table .now) (a .i)) is) (carried .1 ∙ ap (λ (x : Verdict). noticeRoom (x .cut) (a .notice .now)) is) (carried .2 ∙ ap doneFor is)
+    (answered .0) (answered .1)
+
+pub settle-spec : {M : Type 1} → statement M
+settle-spec =
+    tie.close
+    (tie.spec
+    mul-a
+    add-e
+    sub-plan-for
+    part-plan-for-start
+    part-plan-for-end
+    plan-for-requires
+    session-span-requires
+    text-requires
+    host-span-requires
+    text-requires-2
+    route-span-requires
+    text-requires-3
+    carry-requires
+    kind-of-requires
+    code-of-requires
+    answer-call-requires
+    same-length
+    same-length-2
+    same-length-3
+    returns)

@@ -1,0 +1,107 @@
+-- What the code's structs and enums say in the paper's numbers.
+use mathlib.Core.Bool.{Bool, true, _&&_}
+use mathlib.Core.List.{List, []}
+use Prim.Native.Nat.{ℕ, _≤_}
+use lib.ListN.{length}
+use Rattle.octets.specs.Choice.{within}
+use Rattle.message.specs.Codes.{kindOf}
+use Rattle.message.specs.Kinds.{codeFrom}
+use Rattle.message.specs.ReadingAMessage.{Ask, tunnel, policy, termination}
+use Rattle.message.specs.Spans.{bytesOf}
+use Rattle.message.specs.declared.Kind.{Kind}
+use Rattle.message.specs.declared.Kind.the-variants.{Plain, Experimental}
+use Rattle.message.specs.declared.Asked.{Asked}
+use Rattle.message.specs.declared.Asked.the-variants.{Tunnel, Policy, Termination}
+use Rattle.decision.specs.declared.Plan.{Plan}
+use Rattle.decision.specs.declared.Plan.the-variants.{NotSubscribed, Barred, RoamingNotAllowed, UnableToComply, UnusedByUser, Open, Route, Free}
+use Rattle.decision.specs.declared.Cut.{Cut}
+use Rattle.decision.specs.declared.Cut.the-variants.{NoCut, Lengths}
+use Rattle.decision.specs.declared.Outcome.{Outcome}
+use Rattle.decision.specs.Calls.{Call, Result, Left}
+
+-- A cut: 1 with the lengths of its texts, or 0 and no lengths.
+unfoldable pub cutMade : Cut → ℕ
+cutMade NoCut = 0
+cutMade (Lengths s h) = 1
+
+unfoldable pub cutSession : Cut → ℕ
+cutSession NoCut = 0
+cutSession (Lengths s h) = s
+
+unfoldable pub cutHost : Cut → ℕ
+cutHost NoCut = 0
+cutHost (Lengths s h) = h
+
+-- The outcome of a call in the numbers that the paper has it return. `kindOf (codeFrom k c)` is 0, 1 or 2 for no answer,
+-- Result-Code and Experimental-Result.
+unfoldable pub resultSaid : Outcome → Result
+resultSaid o =
+    record {
+      length = o .length;
+      code = o .code;
+      kind = kindOf (codeFrom (o .kind) (o .code));
+      place = o .place;
+      cut = cutMade (o .cut);
+      cutSession = cutSession (o .cut);
+      cutHost = cutHost (o .cut);
+    }
+
+-- All that a call leaves: its outcome, and the full contents of table, answer room and notice room.
+unfoldable pub leaves : Outcome → (table answer notice : List ℕ) → Left
+leaves o table answer notice = record { reply = record { result = resultSaid o; answer = answer; notice = notice }; table = table }
+
+-- A call, from what is lent.
+unfoldable pub callOf : (message host realm answer notice : List ℕ) → (wag : Bool) → Call
+callOf message host realm answer notice wag =
+    record { message = message; host = host; realm = realm; answer = answer; notice = notice; wag = wag }
+
+-- The texts that a request brings for its change; none where it brings none.
+unfoldable pub sessionText : List ℕ → Asked → List ℕ
+sessionText m (Tunnel session host label visited) = bytesOf m session
+sessionText m (Policy session route) = bytesOf m session
+sessionText m (Termination session label) = bytesOf m session
+
+unfoldable pub hostText : List ℕ → Asked → List ℕ
+hostText m (Tunnel session host label visited) = bytesOf m host
+hostText m (Policy session route) = []
+hostText m (Termination session label) = []
+
+unfoldable pub routeText : List ℕ → Asked → List ℕ
+routeText m (Tunnel session host label visited) = []
+routeText m (Policy session route) = bytesOf m route
+routeText m (Termination session label) = []
+
+-- The number and kind of a plan's code: 2001 for a change.
+unfoldable pub planKind : Plan → Kind
+planKind NotSubscribed = Experimental
+planKind Barred = Plain
+planKind RoamingNotAllowed = Experimental
+planKind UnableToComply = Plain
+planKind UnusedByUser = Experimental
+planKind (Open n k) = Plain
+planKind (Route k) = Plain
+planKind (Free k) = Plain
+
+unfoldable pub planCode : Plan → ℕ
+planCode NotSubscribed = 5044
+planCode Barred = 5003
+planCode RoamingNotAllowed = 5004
+planCode UnableToComply = 5012
+planCode UnusedByUser = 5042
+planCode (Open n k) = 2001
+planCode (Route k) = 2001
+planCode (Free k) = 2001
+
+-- What the lists have tested of the texts that a change stores: Session-Id and host of 1 to 128 bytes, a policy of 1 to 128.
+unfoldable pub fitting : Ask → Bool
+fitting (tunnel session host label visited) = within 1 128 (length session) && within 1 128 (length host)
+fitting (policy session route) = within 1 128 (length route)
+fitting (termination session label) = true
+
+-- A call that gets an answer: the message has 20 to 4,096 bytes, the own names at most 128, and the answer room 5,120 or more.
+pub record Ready (m host realm room : List ℕ) : Type 0 where
+  pub least : 20 ≤ length m
+  pub most : length m ≤ 4096
+  pub host-fits : length host ≤ 128
+  pub realm-fits : length realm ≤ 128
+  pub room-fits : 5120 ≤ length room

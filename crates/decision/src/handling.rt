@@ -1,0 +1,373 @@
+// A whole call.
+use super::Cut;
+use super::Done;
+use super::Outcome;
+use super::Plan;
+use super::carrying;
+use super::deciding;
+use message::Asked;
+use message::Kind;
+use message::Span;
+use message::Told;
+use table::RowFound;
+ghost use mathlib.Core.Path.{_≡_};
+ghost use mathlib.Core.Bool.{Bool, true};
+ghost use mathlib.Core.List.{List, []};
+ghost use Prim.Native.Nat.{ℕ, _+_, _*_, _≤_};
+ghost use lib.ListN.{length};
+ghost use Rattle.octets.specs.Choice.{within};
+ghost use Rattle.octets.specs.Lists.{every};
+ghost use Rattle.message.specs.Kinds.{codeFrom};
+ghost use Rattle.message.specs.Spans.{asks, bytesOf, hasProxies, isInside, spansIn};
+ghost use Rattle.message.specs.WritingTheAnswer.{answer, answerRoom};
+ghost use Rattle.answers.specs.Answers.{Answerable};
+ghost use Rattle.decision.specs.Calls.{callNumber, handle, onRow, refusal, settled};
+ghost use Rattle.message.specs.ReadingAMessage.{read, request};
+ghost use Rattle.table.specs.TheTable.{lookup, readRow, rowAt, tableNumber};
+ghost use Rattle.table.specs.Soundness.{sound};
+ghost use Rattle.decision.specs.Deciding.{decide};
+ghost use Rattle.decision.specs.Plans.{planned, fitPlan};
+ghost use Rattle.decision.specs.Outcomes.{resultSaid, leaves, callOf, planKind, planCode, sessionText, hostText, routeText, fitting, Ready};
+
+// An own name of 1 to 128 bytes.
+fn name_fits(s: &[u8]) -> bool
+    ensures { λ r. ⌜ r ≡ within 1 128 (length (now (s .entry))) ⌝ }
+{
+    if s.len() < 1 {
+        return false;
+    }
+    s.len() <= 128
+}
+
+// The first of the numbers 1 to 8 that a call is refused with, 0 where none is.
+fn call_number(
+    table: &[u8],
+    host: &[u8],
+    realm: &[u8],
+    message: &[u8],
+    answer: &[u8],
+    notice: &[u8],
+) -> u32
+    ensures { λ r. ⌜ ((wag : Bool) → r ≡ callNumber (now (table .entry)) (callOf (now (message .entry)) (now (host .entry)) (now (realm .entry)) (now (answer .entry)) (now (notice .entry)) wag)) ⌝ }
+{
+    let n = table::table_number(table);
+    if n != 0 {
+        return n;
+    }
+    if !name_fits(host) {
+        return 2;
+    }
+    if !name_fits(realm) {
+        return 2;
+    }
+    if answer.len() < 5120 {
+        return 3;
+    }
+    if notice.len() < 256 {
+        return 4;
+    }
+    message::number(message)
+}
+
+// The kind and the number of a plan's code.
+fn kind_of(plan: Plan) -> Kind
+    ensures { λ r. ⌜ r ≡ planKind plan ⌝ }
+{
+    match plan {
+        Plan::NotSubscribed => Kind::Experimental,
+        Plan::Barred => Kind::Plain,
+        Plan::RoamingNotAllowed => Kind::Experimental,
+        Plan::UnableToComply => Kind::Plain,
+        Plan::UnusedByUser => Kind::Experimental,
+        Plan::Open(n, k) => Kind::Plain,
+        Plan::Route(k) => Kind::Plain,
+        Plan::Free(k) => Kind::Plain,
+    }
+}
+
+fn code_of(plan: Plan) -> u32
+    ensures { λ r. ⌜ r ≡ planCode plan ⌝ }
+{
+    match plan {
+        Plan::NotSubscribed => 5044,
+        Plan::Barred => 5003,
+        Plan::RoamingNotAllowed => 5004,
+        Plan::UnableToComply => 5012,
+        Plan::UnusedByUser => 5042,
+        Plan::Open(n, k) => 2001,
+        Plan::Route(k) => 2001,
+        Plan::Free(k) => 2001,
+    }
+}
+
+// The answer written, and what the call returns.
+fn answer_call(
+    m: &[u8],
+    host: &[u8],
+    realm: &[u8],
+    kind: Kind,
+    code: u32,
+    user: Span,
+    proxies: bool,
+    done: Done,
+    room: &mut [u8],
+) -> Outcome
+    requires { ⌜ Answerable (now m) (now host) (now realm) code user proxies (now room) ⌝ }
+    ensures { λ r. ⌜ (now (room .exit) ≡ answerRoom (now (m .entry)) (now (host .entry)) (now (realm .entry)) (codeFrom kind code) (now (room .entry)))
+        × (r ≡ record { code = code; kind = kind; length = length (answer (now (m .entry)) (now (host .entry)) (now (realm .entry)) (codeFrom kind code)); place = done .place; cut = done .cut }) ⌝ }
+{
+    let size = answers::answer(m, host, realm, kind, code, user, proxies, room);
+    let place = done.place;
+    let cut = done.cut;
+    Outcome {
+        code: code,
+        kind: kind,
+        length: size,
+        place: place,
+        cut: cut,
+    }
+}
+
+// The spans of the texts that a request brings for its change; an empty one where it brings none.
+fn session_span(asked: Asked) -> Span
+    ensures { λ r. ⌜ ((m : List ℕ) → (bytesOf m r ≡ sessionText m asked) × (every (isInside m) (spansIn asked) ≡ true → isInside m r ≡ true)) ⌝ }
+{
+    match asked {
+        Asked::Tunnel {
+            session,
+            host,
+            label,
+            visited,
+        } => session,
+        Asked::Policy { session, route } => session,
+        Asked::Termination { session, label } => session,
+    }
+}
+
+fn host_span(asked: Asked) -> Span
+    ensures { λ r. ⌜ ((m : List ℕ) → (bytesOf m r ≡ hostText m asked) × (every (isInside m) (spansIn asked) ≡ true → isInside m r ≡ true)) ⌝ }
+{
+    match asked {
+        Asked::Tunnel {
+            session,
+            host,
+            label,
+            visited,
+        } => host,
+        Asked::Policy { session, route } => Span { at: 0, len: 0 },
+        Asked::Termination { session, label } => Span { at: 0, len: 0 },
+    }
+}
+
+fn route_span(asked: Asked) -> Span
+    ensures { λ r. ⌜ ((m : List ℕ) → (bytesOf m r ≡ routeText m asked) × (every (isInside m) (spansIn asked) ≡ true → isInside m r ≡ true)) ⌝ }
+{
+    match asked {
+        Asked::Tunnel {
+            session,
+            host,
+            label,
+            visited,
+        } => Span { at: 0, len: 0 },
+        Asked::Policy { session, route } => route,
+        Asked::Termination { session, label } => Span { at: 0, len: 0 },
+    }
+}
+
+// A text of the message, lent as a part of it.
+fn text<'a>(m: &'a [u8], s: Span) -> &'a [u8]
+    requires { ⌜ isInside (now m) s ≡ true ⌝ }
+    ensures { λ r. ⌜ now r ≡ bytesOf (now (m .entry)) s ⌝ }
+{
+    let from = s.at;
+    let end = from + s.len;
+    &m[from..end]
+}
+
+// What is planned for a request on a sound row.
+fn plan_for(row: &[u8], m: &[u8], asked: Asked, wag: bool) -> Plan
+    requires { ⌜ (sound (now row) ≡ true) × (every (isInside (now m)) (spansIn asked) ≡ true) ⌝ }
+    ensures { λ r. ⌜ (planned (sessionText (now (m .entry)) asked) (hostText (now (m .entry)) asked) (routeText (now (m .entry)) asked) r (readRow (now (row .entry)))
+        ≡ decide (asks (now (m .entry)) asked) wag (readRow (now (row .entry))))
+        × (fitting (asks (now (m .entry)) asked) ≡ true → fitPlan (routeText (now (m .entry)) asked) r (now (row .entry)) ≡ true) ⌝ }
+{
+    match asked {
+        Asked::Tunnel {
+            session,
+            host,
+            label,
+            visited,
+        } => {
+            return deciding::plan_tunnel(row, text(m, session), text(m, label), visited);
+        }
+        Asked::Policy { session, route } => {
+            return deciding::plan_policy(row, text(m, session), wag);
+        }
+        Asked::Termination { session, label } => {
+            return deciding::plan_termination(row, text(m, session), text(m, label));
+        }
+    }
+}
+
+// A refusal: the answer is written, nothing else is changed.
+fn refuse(
+    m: &[u8],
+    host: &[u8],
+    realm: &[u8],
+    kind: Kind,
+    code: u32,
+    proxies: bool,
+    room: &mut [u8],
+) -> Outcome
+    requires { ⌜ Ready (now m) (now host) (now realm) (now room) × (proxies ≡ hasProxies (now m)) × (code ≡ 2001 → ⊥) ⌝ }
+    ensures { λ r. ⌜ ((table notice : List ℕ) (wag : Bool) → leaves r table (now (room .exit)) notice
+        ≡ refusal table (callOf (now (m .entry)) (now (host .entry)) (now (realm .entry)) (now (room .entry)) notice wag) (codeFrom kind code)) ⌝ }
+{
+    let none = Done {
+        place: 0,
+        cut: Cut::NoCut,
+    };
+    answer_call(
+        m,
+        host,
+        realm,
+        kind,
+        code,
+        Span { at: 0, len: 0 },
+        proxies,
+        none,
+        room,
+    )
+}
+
+// A request on row i, which is sound: what is decided is carried out and answered.
+fn settle(
+    table: &mut [u8],
+    i: usize,
+    m: &[u8],
+    host: &[u8],
+    realm: &[u8],
+    wag: bool,
+    user: Span,
+    asked: Asked,
+    proxies: bool,
+    room: &mut [u8],
+    notice: &mut [u8],
+) -> Outcome
+    requires { ⌜ Ready (now m) (now host) (now realm) (now room) × (256 ≤ length (now notice)) × (4608 * i + 4608 ≤ length (now table)) × (sound (rowAt (now table) i) ≡ true)
+        × (every (isInside (now m)) (spansIn asked) ≡ true) × (isInside (now m) user ≡ true) × (proxies ≡ hasProxies (now m))
+        × (read (now m) ≡ request (record { user = bytesOf (now m) user; ask = asks (now m) asked })) ⌝ }
+    ensures { λ r. ⌜ leaves r (now (table .exit)) (now (room .exit)) (now (notice .exit))
+        ≡ settled (now (table .entry)) (callOf (now (m .entry)) (now (host .entry)) (now (realm .entry)) (now (room .entry)) (now (notice .entry)) wag) i
+        (decide (asks (now (m .entry)) asked) wag (readRow (rowAt (now (table .entry)) i))) ⌝ }
+{
+    let a = 4608 * i;
+    let e = a + 4608;
+    let plan = plan_for(&table[a..e], m, asked, wag);
+    let session = text(m, session_span(asked));
+    let gateway = text(m, host_span(asked));
+    let route = text(m, route_span(asked));
+    let done = carrying::carry(table, i, plan, session, gateway, route, notice);
+    answer_call(
+        m,
+        host,
+        realm,
+        kind_of(plan),
+        code_of(plan),
+        user,
+        proxies,
+        done,
+        room,
+    )
+}
+
+// A request that was read: the user's row is found and tested, then the request is settled on it.
+fn on_request(
+    table: &mut [u8],
+    m: &[u8],
+    host: &[u8],
+    realm: &[u8],
+    wag: bool,
+    user: Span,
+    asked: Asked,
+    proxies: bool,
+    room: &mut [u8],
+    notice: &mut [u8],
+) -> Outcome
+    requires { ⌜ Ready (now m) (now host) (now realm) (now room) × (256 ≤ length (now notice)) × (tableNumber (now table) ≡ 0)
+        × (every (isInside (now m)) (spansIn asked) ≡ true) × (isInside (now m) user ≡ true) × (proxies ≡ hasProxies (now m))
+        × (read (now m) ≡ request (record { user = bytesOf (now m) user; ask = asks (now m) asked })) ⌝ }
+    ensures { λ r. ⌜ leaves r (now (table .exit)) (now (room .exit)) (now (notice .exit))
+        ≡ onRow (now (table .entry)) (callOf (now (m .entry)) (now (host .entry)) (now (realm .entry)) (now (room .entry)) (now (notice .entry)) wag)
+        (record { user = bytesOf (now (m .entry)) user; ask = asks (now (m .entry)) asked }) (lookup (now (table .entry)) (bytesOf (now (m .entry)) user)) ⌝ }
+{
+    let found = table::lookup(table, text(m, user));
+    let RowFound::At(i) = found else {
+        return refuse(m, host, realm, Kind::Experimental, 5001, proxies, room);
+    };
+    let a = 4608 * i;
+    let e = a + 4608;
+    if !table::row_sound(&table[a..e]) {
+        return refuse(m, host, realm, Kind::Plain, 5012, proxies, room);
+    }
+    settle(
+        table,
+        i,
+        m,
+        host,
+        realm,
+        wag,
+        user,
+        asked,
+        proxies,
+        room,
+        notice,
+    )
+}
+
+// One request: read, decided on and answered. Nothing is asked of what is lent; a bad table, name, room or message gets its number.
+pub fn handle(
+    table: &mut [u8],
+    host: &[u8],
+    realm: &[u8],
+    message: &[u8],
+    wag: bool,
+    answer: &mut [u8],
+    notice: &mut [u8],
+) -> Outcome
+    ensures { λ r. ⌜ leaves r (now (table .exit)) (now (answer .exit)) (now (notice .exit))
+        ≡ handle (now (table .entry)) (callOf (now (message .entry)) (now (host .entry)) (now (realm .entry)) (now (answer .entry)) (now (notice .entry)) wag) ⌝ }
+{
+    let n = call_number(table, host, realm, message, answer, notice);
+    if n != 0 {
+        return Outcome {
+            code: n,
+            kind: Kind::NoAnswer,
+            length: 0,
+            place: 0,
+            cut: Cut::NoCut,
+        };
+    }
+    let heard = message::read(message);
+    let told = heard.told;
+    let proxies = heard.proxies;
+    match told {
+        Told::Refused(code) => {
+            return refuse(message, host, realm, Kind::Plain, code, proxies, answer);
+        }
+        Told::Request(user, asked) => {
+            return on_request(
+                table,
+                message,
+                host,
+                realm,
+                wag,
+                user,
+                asked,
+                proxies,
+                answer,
+                notice,
+            );
+        }
+    }
+}

@@ -1,0 +1,133 @@
+-- What a caller of `read` and of `answer` asks: the lengths that the message's number promises, the user of a request,
+-- and that a message is never refused with 2001.
+use mathlib.Core.Path.{_≡_, refl, sym, ap, _∙_}
+use mathlib.Core.Bool.{Bool, true, false, _&&_, not}
+use mathlib.Core.List.{List, [], _∷_, map}
+use Prim.Native.Nat.{ℕ, zero, suc, _+_, _/_, _%_, _≤_}
+use native.Mathlib.Omega.{arith}
+use borrow.Author.Tests.{leb-true, eqb-true, eqb-false, eq-eqb, ne-eqb, not-true}
+use lib.Dec.{eqb, leb}
+use lib.ListN.{length, getD, drop}
+use Rattle.octets.specs.Choice.{pick, require, firstOf, within}
+use Rattle.octets.specs.Lists.{every}
+use Rattle.octets.specs.Texts.{part}
+use Rattle.octets.specs.Numbers.{up4}
+use Rattle.octets.proofs.Lists.{by-test, and-left, and-right, both, within-low, within-high, every-map, every-of}
+use Rattle.octets.proofs.Choice.{first-passes, passed}
+use Rattle.octets.proofs.Texts.{length-part}
+use Rattle.message.specs.CallsThatGetNoAnswer.{messageNumber}
+use Rattle.message.specs.ReadingAMessage.{headerCode, Avp, Field, Walk, behind, walkOne, walkUpTo, walk, avpLength, avpCode, avpOf, avps, walkCode, having, valueOf, testedAs, fieldCode, startsWith, fields, listCode, readingCode, sessionId, userName, command, Request, requestOf, refused, request, read}
+use Rattle.message.specs.declared.Span.{Span}
+use Rattle.message.specs.declared.Asked.{Asked}
+use Rattle.message.specs.declared.Told.{Told}
+use Rattle.message.specs.declared.Told.the-variants.{Refused, Request as Requested}
+use Rattle.message.specs.Spans.{Holds, bytesOf, asks, says, spansIn, spans, isInside}
+use Rattle.message.proofs.Lengths.{Passing, passing, user-length}
+
+-- THE MESSAGE
+
+-- a message with no number of its own has 20 to 4,096 bytes
+pub message-length : (m : List ℕ) → messageNumber m ≡ 0 → (20 ≤ length m) × (length m ≤ 4096)
+unfolding messageNumber
+message-length m e =
+    let w : within 20 4096 (length m) ≡ true = passed (within 20 4096 (length m)) 5 (omega arith) (first-passes (require (within 20 4096 (length m)) 5) _ e) in
+    (within-low 20 4096 (length m) w, within-high 20 4096 (length m) w)
+
+-- THE USER
+
+module _ (m : List ℕ) (t : Told) (u : Span) (a : Asked) (r : says m t ≡ read m) (i : every (isInside m) (spans t) ≡ true) (e : t ≡ Requested u a) where
+  -- the reading is a request of these bytes
+  pub asked-is : read m ≡ request (record { user = bytesOf m u; ask = asks m a })
+  unfolding says
+  asked-is = sym r ∙ ap (says m) e
+
+  pub user-inside : u .at + u .len ≤ length m
+  unfolding spans every isInside
+  user-inside =
+      let f = rw e at i in
+      leb-true (u .at + u .len) (length m) (and-left (leb (u .at + u .len) (length m)) (every (isInside m) (spansIn a)) f)
+
+  pub user-holds : Holds m userName u
+  unfolding bytesOf requestOf
+  user-holds =
+      let p = passing m (record { user = bytesOf m u; ask = asks m a }) asked-is in
+      record { inside = user-inside; value = ap (λ (x : Request). x .user) (p .asked) }
+
+  pub user-most : u .len ≤ 128
+  unfolding bytesOf
+  user-most =
+      let w = user-length m (record { user = bytesOf m u; ask = asks m a }) asked-is in
+      omega (arith, within-high 1 128 (length (part m (u .at) (u .len))) w, length-part m (u .at) (u .len) user-inside)
+
+-- REFUSALS
+
+-- a code that is not 2001
+other : ℕ → Bool
+other n = not (eqb n 2001)
+
+first-other : (cs : List ℕ) → every other cs ≡ true → other (firstOf cs) ≡ true
+unfolding firstOf pick every other
+first-other [] e = refl
+first-other (c ∷ cs) e =
+    by-test (eqb c 0)
+    (λ t. rw t (first-other cs (and-right (other c) (every other cs) e)))
+    (λ t. rw t (and-left (other c) (every other cs) e))
+
+require-other : (b : Bool) (c : ℕ) → other c ≡ true → other (require b c) ≡ true
+unfolding require other
+require-other true c e = refl
+require-other false c e = e
+
+tested-other : (f : Field) (xs : List Avp) → other (testedAs f xs) ≡ true
+unfolding testedAs every other
+tested-other f [] = require-other (not (f .required)) 5005 refl
+tested-other f (a ∷ []) =
+    first-other _ (both (require-other (within (f .low) (f .high) (length (a .value))) 5014 refl) (both (require-other (f .allowed (a .value)) 5004 refl) refl))
+tested-other f (a ∷ (b ∷ xs)) = refl
+
+field-other : (xs : List Avp) (f : Field) → other (fieldCode xs f) ≡ true
+unfolding fieldCode
+field-other xs f = tested-other f (having (f .name) xs)
+
+header-other : (m : List ℕ) → other (headerCode m) ≡ true
+unfolding headerCode every other
+header-other m =
+    first-other _ (both (require-other _ 5013 refl) (both (require-other _ 3008 refl) (both (require-other _ 3001 refl) (both (require-other _ 3007 refl) refl))))
+
+avp-other : (s : List ℕ) → other (avpCode s) ≡ true
+unfolding avpCode every other
+avp-other s =
+    first-other _ (both (require-other _ 5014 refl) (both (require-other _ 3009 refl) (both (require-other _ 5014 refl) (both (require-other _ 5014 refl) refl))))
+
+walk-other : (k : ℕ) (s : List ℕ) → other ((walkUpTo k s) .code) ≡ true
+unfolding walkUpTo walkOne pick behind other
+walk-other zero s = refl
+walk-other (suc k) s =
+    by-test (eqb (length s) 0)
+    (λ z. rw z)
+    (λ z.
+    by-test (eqb (avpCode s) 0)
+    (λ t. rw (z, t) (walk-other k (drop (up4 (avpLength s)) s)))
+    (λ t. rw (z, t) (avp-other s)))
+
+list-other : (c : ℕ) (xs : List Avp) → other (listCode c xs) ≡ true
+unfolding listCode every other
+list-other c xs =
+    first-other (require (startsWith sessionId xs) 5005 ∷ map (fieldCode xs) (fields c xs))
+    (both (require-other (startsWith sessionId xs) 5005 refl) (rw every-map (every-of (λ f. other (fieldCode xs f)) (λ f. field-other xs f) (fields c xs))))
+
+reading-other : (m : List ℕ) → other (readingCode m) ≡ true
+unfolding readingCode every walkCode walk other
+reading-other m =
+    first-other (headerCode m ∷ walkCode m ∷ listCode (command m) (avps m) ∷ [])
+    (both (header-other m) (both (walk-other (suc (length (drop 20 m))) (drop 20 m)) (both (list-other (command m) (avps m)) refl)))
+
+pub never-2001 : (m : List ℕ) (n : ℕ) → read m ≡ refused n → n ≡ 2001 → ⊥
+unfolding read pick other
+never-2001 m n e z =
+    by-test (eqb (readingCode m) 0)
+    (λ t. let f = rw t at e in let q : _≡_ {A = ℕ} 0 1 = cc in omega arith)
+    (λ t.
+    let f = rw t at e in
+    let q : readingCode m ≡ n = cc in
+    eqb-false (readingCode m) 2001 (not-true (eqb (readingCode m) 2001) (reading-other m)) (q ∙ z))

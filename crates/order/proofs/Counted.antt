@@ -1,0 +1,148 @@
+-- Demand 3 for a subscriber's calls together with refused ones that are counted as that subscriber's.
+use mathlib.Core.Path.{_≡_, refl, sym, ap, _∙_}
+use mathlib.Core.Bool.{Bool, true, false}
+use mathlib.Core.List.{List, [], _∷_, map}
+use Prim.Native.Nat.{ℕ, zero, suc, _/_}
+use native.Mathlib.Omega.{arith}
+use borrow.Author.Tests.{eqb-true, eq-eqb}
+use lib.Dec.{eqb}
+use lib.ListN.{length, take}
+use Rattle.octets.specs.Choice.{pick, firstOf}
+use Rattle.octets.specs.Lists.{keep}
+use Rattle.octets.proofs.Choice.{first-passes, others-pass}
+use Rattle.octets.proofs.Lists.{by-test}
+use Rattle.message.specs.ReadingAMessage.{read, readingCode, listCode, command, avps, userName, valueOf, requestOf}
+use Rattle.table.specs.TheTable.{cutInRows, rowLength, tableNumber}
+use Rattle.decision.specs.Calls.{Call, Reply, run}
+use Rattle.order.specs.Demand3.{Subject, nobody, subscriber, sameSubject, subject, sentBy, isOf, callsOf, recordOf, ownNumber, Counting, nameRead, sender, isBy, callsBy, repliesBy}
+use Rattle.order.specs.Demand3.{SubjectCounts, SenderCounts, NoSender, RepliesAloneBy, RecordAloneBy, SameTableBy, SameRepliesBy}
+use Rattle.order.proofs.Finding.{subject-eq, subject-refl}
+use Rattle.order.proofs.Handling.{act, says, lost, stable, silence}
+use Rattle.order.proofs.Lists.{bad-replies, ran, record-alone, same-table}
+use Rattle.order.proofs.Alone as A
+
+-- a part of a part
+keep-inside : (f g : Call → Bool) → ((c : Call) → g c ≡ false → f c ≡ false) → (cs : List Call) → keep f (keep g cs) ≡ keep f cs
+unfolding keep pick
+keep-inside f g h [] = refl
+keep-inside f g h (c ∷ cs) =
+    by-test (g c)
+    (λ e. rw (e, keep-inside f g h cs))
+    (λ e. rw (e, h c e, keep-inside f g h cs))
+
+replies-map : (f : Call → Reply) (owner : Call → Subject) (who : Subject) (cs : List Call) → repliesBy owner who cs (map f cs) ≡ map f (callsBy owner who cs)
+unfolding repliesBy callsBy keep pick
+replies-map f owner who [] = refl
+replies-map f owner who (c ∷ cs) = by-test (isBy owner who c) (λ e. rw (e, replies-map f owner who cs)) (λ e. rw (e, replies-map f owner who cs))
+
+module _ (owner : Call → Subject) (counts : Counting owner) (name : List ℕ) where
+  abbrev who : Subject
+  who = subscriber name
+
+  -- each of the subscriber's calls is counted
+  all : (c : Call) → isBy owner who c ≡ false → sameSubject (subject c) who ≡ false
+  unfolding isBy
+  all c f =
+      by-test (sameSubject (subject c) who)
+      (λ e. let p : owner c ≡ who = counts c name (subject-eq (subject c) who e) in
+      let z : sameSubject (owner c) who ≡ true = rw p (subject-refl who) in
+      cc)
+      (λ e. e)
+
+  -- and beside them only nobody's
+  by-subject : (c : Call) (s : Subject) → subject c ≡ s → owner c ≡ who → sameSubject s who ≡ false → s ≡ nobody
+  by-subject c nobody e o f = refl
+  by-subject c (subscriber n) e o f =
+      let p : subscriber n ≡ who = sym (counts c n e) ∙ o in
+      let z : sameSubject (subscriber n) who ≡ true = rw p (subject-refl who) in
+      cc
+
+  others : (c : Call) → isBy owner who c ≡ true → sameSubject (subject c) who ≡ false → subject c ≡ nobody
+  unfolding isBy
+  others c f e = by-subject c (subject c) refl (subject-eq (owner c) who f) e
+
+  inside : (cs : List Call) → callsOf who (callsBy owner who cs) ≡ callsOf who cs
+  unfolding callsOf callsBy isOf
+  inside cs = keep-inside _ (isBy owner who) all cs
+
+  good-replies : (t : List ℕ) → tableNumber t ≡ 0 → (cs : List Call) → repliesBy owner who cs ((run t cs) .replies) ≡ (run t (callsBy owner who cs)) .replies
+  good-replies t good cs =
+      rw ((ran t good cs) .replies-are, (ran t good (callsBy owner who cs)) .replies-are)
+      (A.same-answers-by act says lost stable who owner all others cs (cutInRows (length t / rowLength) t) (cutInRows (length t / rowLength) t) refl)
+
+pub replies-alone-by : RepliesAloneBy
+replies-alone-by owner counts t cs name =
+    by-test (eqb (tableNumber t) 0)
+    (λ e. good-replies owner counts name t (eqb-true (tableNumber t) 0 e) cs)
+    (λ e. rw (bad-replies t e cs, bad-replies t e (callsBy owner (subscriber name) cs)) (replies-map (λ (c : Call). silence c (tableNumber t)) owner (subscriber name) cs))
+
+pub record-alone-by : RecordAloneBy
+record-alone-by owner counts t cs name =
+    record-alone t cs name
+    ∙ ap (λ (ds : List Call). recordOf name ((run t ds) .table)) (sym (inside owner counts name cs))
+    ∙ sym (record-alone t (callsBy owner (subscriber name) cs) name)
+
+pub same-table-by : SameTableBy
+same-table-by owner counts t cs ds h =
+    same-table t cs ds (λ name. sym (inside owner counts name cs) ∙ ap (callsOf (subscriber name)) (h name) ∙ inside owner counts name ds)
+
+pub same-replies-by : SameRepliesBy
+same-replies-by owner counts t cs ds name h =
+    replies-alone-by owner counts t cs name ∙ ap (λ (es : List Call). (run t es) .replies) h ∙ sym (replies-alone-by owner counts t ds name)
+
+-- THE TWO COUNTINGS
+
+pub subject-counts : SubjectCounts
+subject-counts c name h = h
+
+first-take : (n : ℕ) (cs : List ℕ) → firstOf cs ≡ 0 → firstOf (take n cs) ≡ 0
+unfolding firstOf pick
+first-take zero cs h = refl
+first-take (suc n) [] h = refl
+first-take (suc n) (c ∷ cs) h = let z : c ≡ 0 = first-passes c cs h in rw z (first-take n cs (others-pass c cs h))
+
+first-both : (c : ℕ) (cs : List ℕ) → c ≡ 0 → firstOf cs ≡ 0 → firstOf (c ∷ cs) ≡ 0
+unfolding firstOf pick
+first-both c cs h k = rw h k
+
+name-read : (m : List ℕ) → readingCode m ≡ 0 → nameRead m ≡ true
+unfolding readingCode listCode nameRead
+name-read m h =
+    let l : listCode (command m) (avps m) ≡ 0 = first-passes _ _ (others-pass _ _ (others-pass _ _ h)) in
+    eq-eqb _ 0 (first-both _ _ (first-passes _ _ h) (first-both _ _ (first-passes _ _ (others-pass _ _ h))
+    (first-both _ _ (first-passes _ _ l) (first-take 8 _ (others-pass _ _ l)))))
+
+read-passes : (m : List ℕ) (name : List ℕ) → sentBy (read m) ≡ subscriber name → readingCode m ≡ 0
+unfolding read sentBy pick
+read-passes m name h =
+    by-test (eqb (readingCode m) 0)
+    (λ e. eqb-true (readingCode m) 0 e)
+    (λ e. let z : nobody ≡ subscriber name = rw e at h in let y : _≡_ {A = ℕ} 0 1 = cc in absurd (omega arith))
+
+read-name : (m : List ℕ) → readingCode m ≡ 0 → sentBy (read m) ≡ subscriber (valueOf userName (avps m))
+unfolding read sentBy requestOf pick
+read-name m h = rw h
+
+own-passes : (c : Call) (name : List ℕ) → subject c ≡ subscriber name → eqb (ownNumber c) 0 ≡ true
+unfolding subject pick
+own-passes c name h =
+    by-test (eqb (ownNumber c) 0)
+    (λ e. e)
+    (λ e. let z : nobody ≡ subscriber name = rw e at h in cc)
+
+message-is : (c : Call) (name : List ℕ) → subject c ≡ subscriber name → sentBy (read (c .message)) ≡ subscriber name
+unfolding subject pick
+message-is c name h = rw (own-passes c name h) at h
+
+pub sender-counts : SenderCounts
+unfolding sender pick
+sender-counts c name h =
+    let r : readingCode (c .message) ≡ 0 = read-passes (c .message) name (message-is c name h) in
+    rw (own-passes c name h, name-read (c .message) r) (sym (read-name (c .message) r) ∙ message-is c name h)
+
+no-sender-by : (c : Call) (s : Subject) → subject c ≡ s → sender c ≡ nobody → s ≡ nobody
+no-sender-by c nobody e h = refl
+no-sender-by c (subscriber n) e h = sym (sender-counts c n e) ∙ h
+
+pub no-sender : NoSender
+no-sender c h = no-sender-by c (subject c) refl h

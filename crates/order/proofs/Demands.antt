@@ -1,0 +1,168 @@
+-- The demands, each a statement of specs/ with its proof, which stands in the file that is cited.
+use Rattle.order.specs.Demand2.{FirstFailingCheck, SuccessExactly, RefusedChangesNothing, UnansweredLeaves, RefusedLeaves, CutExactly, OneToCut, SuccessReply, SuccessFindsRow, SuccessReplacesRow, OtherRowsStay, SoundStaysSound, SoundStaysInList}
+use Rattle.order.specs.Demand3.{OneReplyEach, EachInTurn, LastTable, RepliesAlone, RecordAlone, LookupStays, SameTable, SameReplies, NobodysReply, NobodyChangesNothing, NobodysReplies, SubjectCounts, SenderCounts, NoSender, RepliesAloneBy, RecordAloneBy, SameTableBy, SameRepliesBy}
+use Rattle.order.specs.OpenedFirst.{OpenedInOrder, CutOpenedFirst}
+use Rattle.order.specs.NoSecondAnswer.{OneClearing, OneEntering, OneAdding, OneAnswer}
+use Rattle.order.specs.SettingUp.{ClearRefused, EnterRefused, AddRefused, ClearedZero, EnterWrites, EnteredFound, AddWrites}
+use Rattle.order.proofs.Checks as Checks
+use Rattle.order.proofs.Rest as Rest
+use Rattle.order.proofs.Opening as Opening
+use Rattle.order.proofs.Lists as Lists
+use Rattle.order.proofs.Counted as Counted
+use Rattle.order.proofs.Setting as Setting
+
+-- DEMAND 1: every input has a defined outcome, since `handle`, `clear`, `enter` and `add` are defined for all; and no second
+-- one meets what is promised.
+pub no-second-clearing : OneClearing
+no-second-clearing = Setting.one-clearing
+
+pub no-second-entering : OneEntering
+no-second-entering = Setting.one-entering
+
+pub no-second-adding : OneAdding
+no-second-adding = Setting.one-adding
+
+pub no-second-answer : OneAnswer
+no-second-answer = Setting.one-answer
+
+-- DEMAND 2
+
+-- the first failing check gives the code
+pub first-failing-check : FirstFailingCheck
+first-failing-check = Checks.first-failing-check
+
+-- success is given exactly when none fails
+pub success-exactly : SuccessExactly
+success-exactly = Checks.success-exactly
+
+-- a refused request changes no record and cuts nothing
+pub refused-changes-nothing : RefusedChangesNothing
+refused-changes-nothing = Checks.refused-changes-nothing
+
+-- all that a call leaves that gets no answer, or that is refused
+pub unanswered-leaves : UnansweredLeaves
+unanswered-leaves = Checks.unanswered-leaves
+
+pub refused-leaves : RefusedLeaves
+refused-leaves = Checks.refused-leaves
+
+-- a cut happens exactly when the new tunnel would exceed the limit on that access point name
+pub cut-exactly : CutExactly
+cut-exactly = Checks.cut-exactly
+
+-- there is then a tunnel to cut, and it is the one there that was opened first
+pub one-to-cut : OneToCut
+one-to-cut = Checks.one-to-cut
+
+pub success-reply : SuccessReply
+success-reply = Checks.success-reply
+
+-- the order line is the order of opening
+pub opened-in-order : OpenedInOrder
+opened-in-order = Opening.opened-in-order
+
+-- so that the tunnel that is cut is the one there that was opened first
+pub cut-opened-first : CutOpenedFirst
+cut-opened-first = Opening.cut-opened-first
+
+-- success finds a row, replaces that row, and no other
+pub success-finds-row : SuccessFindsRow
+success-finds-row = Checks.success-finds-row
+
+pub success-replaces-row : SuccessReplacesRow
+success-replaces-row = Rest.success-replaces-row
+
+pub other-rows-stay : OtherRowsStay
+other-rows-stay = Rest.other-rows-stay
+
+-- a sound row stays sound
+pub sound-stays-sound : SoundStaysSound
+sound-stays-sound = Rest.sound-stays-sound
+
+pub sound-stays-in-list : SoundStaysInList
+sound-stays-in-list = Rest.sound-stays-in-list
+
+-- a list of calls: one reply each, in turn
+pub one-reply-each : OneReplyEach
+one-reply-each = Lists.one-reply-each
+
+pub each-in-turn : EachInTurn
+each-in-turn = Lists.each-in-turn
+
+pub last-table : LastTable
+last-table = Lists.last-table
+
+-- DEMAND 3
+
+-- each subscriber's answers and cuts are those of its calls alone
+pub replies-alone : RepliesAlone
+replies-alone = Lists.replies-alone
+
+-- and so is its final record
+pub record-alone : RecordAlone
+record-alone = Lists.record-alone
+
+pub lookup-stays : LookupStays
+lookup-stays = Lists.lookup-stays
+
+-- two lists with the same calls, each subscriber's in order, end with the same table, and each call gets the same answer
+pub same-table : SameTable
+same-table = Lists.same-table
+
+pub same-replies : SameReplies
+same-replies = Lists.same-replies
+
+-- a message that belongs to nobody is answered by no record
+pub nobodys-reply : NobodysReply
+nobodys-reply = Lists.nobodys-reply
+
+pub nobody-changes-nothing : NobodyChangesNothing
+nobody-changes-nothing = Lists.nobody-changes-nothing
+
+pub nobodys-replies : NobodysReplies
+nobodys-replies = Lists.nobodys-replies
+
+-- the same where refused messages are counted as those of the User-Name that was read, and for any such counting
+pub subject-counts : SubjectCounts
+subject-counts = Counted.subject-counts
+
+pub sender-counts : SenderCounts
+sender-counts = Counted.sender-counts
+
+pub no-sender : NoSender
+no-sender = Counted.no-sender
+
+pub replies-alone-by : RepliesAloneBy
+replies-alone-by = Counted.replies-alone-by
+
+pub record-alone-by : RecordAloneBy
+record-alone-by = Counted.record-alone-by
+
+pub same-table-by : SameTableBy
+same-table-by = Counted.same-table-by
+
+pub same-replies-by : SameRepliesBy
+same-replies-by = Counted.same-replies-by
+
+-- SET-UP
+
+pub clear-refused : ClearRefused
+clear-refused = Setting.clear-refused
+
+pub cleared-zero : ClearedZero
+cleared-zero = Setting.cleared-zero
+
+pub enter-refused : EnterRefused
+enter-refused = Setting.enter-refused
+
+pub enter-writes : EnterWrites
+enter-writes = Setting.enter-writes
+
+pub entered-found : EnteredFound
+entered-found = Setting.entered-found
+
+pub add-refused : AddRefused
+add-refused = Setting.add-refused
+
+pub add-writes : AddWrites
+add-writes = Setting.add-writes
