@@ -1,3 +1,4 @@
+-- The loop keeps the largest byte; that it is zero and the rest is zero stays the same answer.
 use mathlib.Core.Logic.{⊎-elim}
 use mathlib.Core.Bool.{_&&_, true, and-true}
 use lib.Dec.{eqb}
@@ -21,23 +22,18 @@ Inv-loop s most₀ i₀ most i = (i ≤ length s) × (eqb most 0 && allZero (dro
 abbrev μ-loop : tie.MeasureT-loop
 μ-loop s most₀ i₀ most i = length s - i
 
--- src/lib.rt:60:5
 loop-holds : tie.Need-loop-holds Inv-loop μ-loop
 loop-holds c = search needs
 
--- src/lib.rt:61:17
 shared-slice-read-x : tie.Need-shared-slice-read-x Inv-loop μ-loop
 shared-slice-read-x c = search needs
 
--- src/lib.rt:65:9
 add-i : tie.Need-add-i Inv-loop μ-loop
 add-i c = search needs
 
--- src/lib.rt:60:5
 loop-less : tie.Need-loop-less Inv-loop μ-loop
 loop-less c = search needs
 
--- src/lib.rt:60:5
 loop-again : tie.Need-loop-again Inv-loop μ-loop
 loop-again c =
     let l = c .before .before .before in
@@ -53,7 +49,6 @@ loop-again c =
           (c .if1 .came),
     )
 
--- src/lib.rt:55:1
 returns : tie.Need-returns Inv-loop μ-loop
 returns c =
     let l = c .before in

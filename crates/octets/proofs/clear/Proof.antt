@@ -1,3 +1,4 @@
+-- After i turns the first i bytes are zero and the rest is as it was.
 use mathlib.Core.List.{append-nil}
 use lib.Seq.{drop-length}
 use borrow.Author.Fill.{fill-more}
@@ -20,24 +21,19 @@ Inv-loop s₀ i₀ s i = (i ≤ length s₀) × (length s ≡ length s₀) × (s
 abbrev μ-loop : tie.MeasureT-loop
 μ-loop s₀ i₀ s i = length s₀ - i
 
--- src/lib.rt:87:5
 loop-holds : tie.Need-loop-holds Inv-loop μ-loop
 unfolding zeros
 loop-holds c = (search needs, search needs, refl)
 
--- src/lib.rt:88:9
 slice-write-s : tie.Need-slice-write-s Inv-loop μ-loop
 slice-write-s c = search needs
 
--- src/lib.rt:89:9
 add-i : tie.Need-add-i Inv-loop μ-loop
 add-i c = search needs
 
--- src/lib.rt:87:5
 loop-less : tie.Need-loop-less Inv-loop μ-loop
 loop-less c = omega arith
 
--- src/lib.rt:87:5
 loop-again : tie.Need-loop-again Inv-loop μ-loop
 unfolding zeros
 loop-again c =
@@ -47,11 +43,9 @@ loop-again c =
       rw (l .loop .inv .2) (fill-more (l .loop .i) 0 (l .before .args .s .now) (omega arith)),
     )
 
--- src/lib.rt:83:1
 same-length : tie.Need-same-length Inv-loop μ-loop
 same-length c = search needs
 
--- src/lib.rt:83:1
 returns : tie.Need-returns Inv-loop μ-loop
 returns c =
     let l = c .before in

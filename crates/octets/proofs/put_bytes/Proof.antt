@@ -1,3 +1,4 @@
+-- After j turns the first j bytes of the source stand in the room.
 use lib.Seq.{paste, paste-zero, paste-suc}
 use Rattle.octets.proofs.Texts.{put-all}
 use mathlib.Core.Path.{_≡_, refl, sym, ap, _∙_}
@@ -18,31 +19,24 @@ Inv-loop room₀ at src j₀ room j = (j ≤ length src) × (length room ≡ len
 abbrev μ-loop : tie.MeasureT-loop
 μ-loop room₀ at src j₀ room j = length src - j
 
--- src/lib.rt:76:5
 loop-holds : tie.Need-loop-holds Inv-loop μ-loop
 loop-holds c = (search needs, search needs, paste-zero (c .args .room .now) (c .args .at) (c .args .src .now))
 
--- src/lib.rt:77:24
 shared-slice-read-room : tie.Need-shared-slice-read-room Inv-loop μ-loop
 shared-slice-read-room c = search needs
 
--- src/lib.rt:77:14
 add-room : tie.Need-add-room Inv-loop μ-loop
 add-room c = search needs
 
--- src/lib.rt:77:9
 slice-write-room : tie.Need-slice-write-room Inv-loop μ-loop
 slice-write-room c = search needs
 
--- src/lib.rt:78:9
 add-j : tie.Need-add-j Inv-loop μ-loop
 add-j c = search needs
 
--- src/lib.rt:76:5
 loop-less : tie.Need-loop-less Inv-loop μ-loop
 loop-less c = search needs
 
--- src/lib.rt:76:5
 loop-again : tie.Need-loop-again Inv-loop μ-loop
 loop-again c =
     let l = c .before .before in
@@ -53,11 +47,9 @@ loop-again c =
       rw (l .loop .inv .2, add-one) (paste-suc room (l .before .args .at) src (l .loop .j) 0 (omega arith) (omega arith)),
     )
 
--- src/lib.rt:71:1
 same-length : tie.Need-same-length Inv-loop μ-loop
 same-length c = search needs
 
--- src/lib.rt:71:1
 returns : tie.Need-returns Inv-loop μ-loop
 returns c =
     let l = c .before in

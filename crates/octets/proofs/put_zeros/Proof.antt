@@ -1,3 +1,4 @@
+-- A part of the room is lent and comes back as zeros.
 use Rattle.octets.specs.Texts.{put, zeros}
 use Rattle.octets.proofs.Texts.{length-zeros, length-part, back-put}
 use mathlib.Core.Path.{_≡_, refl, sym, ap, _∙_}
@@ -13,31 +14,24 @@ use Rattle.octets.proofs.put_zeros.Reads as reads
 use Rattle.octets.proofs.put_zeros.Lts as lts
 use Rattle.octets.proofs.clear.Reads as clear-reads
 
--- src/lib.rt:98:15
 add-end : tie.Need-add-end
 add-end c = search needs
 
--- src/lib.rt:99:11
 sub-clear : tie.Need-sub-clear
 sub-clear c = search needs
 
--- src/lib.rt:99:11
 part-clear-start : tie.Need-part-clear-start
 part-clear-start c = search needs
 
--- src/lib.rt:99:11
 part-clear-end : tie.Need-part-clear-end
 part-clear-end c = search needs
 
--- src/lib.rt:99:5
 clear-requires : tie.Need-clear-requires
 clear-requires c κs = search needs
 
--- src/lib.rt:94:1
 same-length : tie.Need-same-length
 same-length c = search needs
 
--- src/lib.rt:94:1
 returns : tie.Need-returns
 returns c =
     let d = c .before .before in

@@ -1,3 +1,4 @@
+-- Three bytes as a number, by the definition.
 use Rattle.octets.specs.Numbers.{net24, net32}
 use mathlib.Core.Path.{_≡_, refl, sym, ap, _∙_}
 use mathlib.Core.List.{List, [], _∷_, _++_}
@@ -12,55 +13,42 @@ use Rattle.octets.proofs.read24.Reads as reads
 use Rattle.octets.proofs.read24.Lts as lts
 use Rattle.octets.proofs.long.Reads as long-reads
 
--- src/lib.rt:26:10
 shared-slice-read-long : tie.Need-shared-slice-read-long
 shared-slice-read-long c = search needs
 
--- src/lib.rt:26:5
 long-requires : tie.Need-long-requires
 long-requires c κs = search needs
 
--- src/lib.rt:26:5
 mul-result : tie.Need-mul-result
 mul-result c = search needs
 
--- src/lib.rt:26:34
 add-long : tie.Need-add-long
 add-long c = search needs
 
--- src/lib.rt:26:32
 shared-slice-read-long-2 : tie.Need-shared-slice-read-long-2
 shared-slice-read-long-2 c = search needs
 
--- src/lib.rt:26:27
 long-requires-2 : tie.Need-long-requires-2
 long-requires-2 c κs = search needs
 
--- src/lib.rt:26:27
 mul-result-2 : tie.Need-mul-result-2
 mul-result-2 c = search needs
 
--- src/lib.rt:26:5
 add-result : tie.Need-add-result
 add-result c = search needs
 
--- src/lib.rt:26:58
 add-long-2 : tie.Need-add-long-2
 add-long-2 c = search needs
 
--- src/lib.rt:26:56
 shared-slice-read-long-3 : tie.Need-shared-slice-read-long-3
 shared-slice-read-long-3 c = search needs
 
--- src/lib.rt:26:51
 long-requires-3 : tie.Need-long-requires-3
 long-requires-3 c κs = search needs
 
--- src/lib.rt:26:5
 add-result-2 : tie.Need-add-result-2
 add-result-2 c = search needs
 
--- src/lib.rt:22:1
 returns : tie.Need-returns
 unfolding net24 net32
 returns c = search needs

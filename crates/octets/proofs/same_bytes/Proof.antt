@@ -1,3 +1,4 @@
+-- The rest of the two texts being the same stays the same answer.
 use Rattle.octets.specs.Texts.{same}
 use Rattle.octets.proofs.Texts.{same-step, same-differ, same-end, same-lengths}
 use mathlib.Core.Path.{_≡_, refl, sym, ap, _∙_}
@@ -18,23 +19,18 @@ Inv-loop a b i₀ i = (i ≤ length a) × (same (drop i a) (drop i b) ≡ same a
 abbrev μ-loop : tie.MeasureT-loop
 μ-loop a b i₀ i = length a - i
 
--- src/lib.rt:42:9
 returns : tie.Need-returns Inv-loop μ-loop
 returns c = sym (same-lengths (c .before .args .a .now) (c .before .args .b .now) (c .if1 .taken))
 
--- src/lib.rt:45:5
 loop-holds : tie.Need-loop-holds Inv-loop μ-loop
 loop-holds c = search needs
 
--- src/lib.rt:46:12
 shared-slice-read-if2 : tie.Need-shared-slice-read-if2 Inv-loop μ-loop
 shared-slice-read-if2 c = search needs
 
--- src/lib.rt:46:20
 shared-slice-read-if2-2 : tie.Need-shared-slice-read-if2-2 Inv-loop μ-loop
 shared-slice-read-if2-2 c = search needs
 
--- src/lib.rt:47:13
 returns-2 : tie.Need-returns-2 Inv-loop μ-loop
 returns-2 c =
     let l = c .before .before .before .before in
@@ -42,15 +38,12 @@ returns-2 c =
     let b = l .before .before .args .b .now in
     sym (same-differ a b (l .loop .i) (omega arith) (omega arith) (c .if2 .taken)) ∙ l .loop .inv .1
 
--- src/lib.rt:49:9
 add-i : tie.Need-add-i Inv-loop μ-loop
 add-i c = search needs
 
--- src/lib.rt:45:5
 loop-less : tie.Need-loop-less Inv-loop μ-loop
 loop-less c = search needs
 
--- src/lib.rt:45:5
 loop-again : tie.Need-loop-again Inv-loop μ-loop
 loop-again c =
     let l = c .before .before .before .before in
@@ -58,7 +51,6 @@ loop-again c =
     let b = l .before .before .args .b .now in
     (omega arith, same-step a b (l .loop .i) (omega arith) (omega arith) (c .if2 .left) ∙ l .loop .inv .1)
 
--- src/lib.rt:38:1
 returns-3 : tie.Need-returns-3 Inv-loop μ-loop
 returns-3 c =
     let l = c .before in

@@ -1,3 +1,4 @@
+-- Case by case of the plan: what it means is what the change leaves.
 use Rattle.decision.specs.declared.Cut.the-variants.{NoCut}
 use mathlib.Core.Path.{_≡_, refl, sym, ap, _∙_}
 use mathlib.Core.Bool.{true, false, _&&_}
@@ -27,11 +28,9 @@ use Rattle.changes.proofs.route.Reads as route-reads
 use Rattle.decision.proofs.carrying.nothing.Reads as nothing-reads
 use Rattle.decision.proofs.carrying.open_with_cut.Reads as open-with-cut-reads
 
--- src/carrying.rt:73:20
 enum-known-plan : tie.Need-enum-known-plan
 enum-known-plan c = search needs
 
--- src/carrying.rt:75:53
 cast-open : tie.Need-cast-open
 unfolding fitPlan
 cast-open c =
@@ -46,7 +45,6 @@ cast-open c =
     let four : n ≤ 4 = within-high 1 4 n (and-left (within 1 4 n) _ fit) in
     omega (arith, four)
 
--- src/carrying.rt:75:21
 open-requires : tie.Need-open-requires
 unfolding fitPlan pick
 open-requires c κs =
@@ -63,11 +61,9 @@ open-requires c κs =
     let few : length ((readRow r) .accesses) < 8 = ltb-true (length ((readRow r) .accesses)) 8 (rw zero at (and-right (within 1 4 n) _ fit)) in
     (start .pre .1, start .pre .2, few, start .pre .4, start .pre .5)
 
--- src/carrying.rt:76:17
 same-length : tie.Need-same-length
 same-length c = search needs
 
--- src/carrying.rt:76:17
 returns : tie.Need-returns
 unfolding planned refuse grant openOn tableAfter noticeRoom doneFor cutFor pick numberOf
 returns c =
@@ -76,7 +72,6 @@ returns c =
     let new = c .before .before .«open» in
     rw (is, zero) (new .ensures .0, refl, λ j. record { place = new .ensures .1 j; cut = NoCut })
 
--- src/carrying.rt:81:13
 open-with-cut-requires : tie.Need-open-with-cut-requires
 unfolding fitPlan pick
 open-with-cut-requires c κs =
@@ -93,15 +88,12 @@ open-with-cut-requires c κs =
     let on : isOn (orderLine r) k ≡ true = rw some at (and-right (within 1 4 n) _ fit) in
     (start .pre .0, start .pre .1, start .pre .2, on, four, start .pre .4, start .pre .5)
 
--- src/carrying.rt:81:13
 same-length-2 : tie.Need-same-length-2
 same-length-2 c = search needs
 
--- src/carrying.rt:81:13
 same-length-3 : tie.Need-same-length-3
 same-length-3 c = search needs
 
--- src/carrying.rt:81:13
 returns-2 : tie.Need-returns-2
 unfolding planned refuse grant openOn tableAfter doneFor pick numberOf
 returns-2 c =
@@ -110,11 +102,9 @@ returns-2 c =
     let new = c .before .before .before .before .open-with-cut in
     rw (is, some) (new .ensures .0, new .ensures .1, new .ensures .2)
 
--- src/carrying.rt:83:21
 enum-known-plan-2 : tie.Need-enum-known-plan-2
 enum-known-plan-2 c = search needs
 
--- src/carrying.rt:84:13
 route-requires : tie.Need-route-requires
 unfolding fitPlan
 route-requires c κs =
@@ -126,15 +116,12 @@ route-requires c κs =
     let long : within 1 128 (length (a .route .now)) ≡ true = and-right (isOn (orderLine (rowAt (a .table .now) (a .i))) k) _ fit in
     (start .pre .1, start .pre .2, and-left (isOn (orderLine (rowAt (a .table .now) (a .i))) k) _ fit, within-low 1 128 _ long, within-high 1 128 _ long)
 
--- src/carrying.rt:85:13
 nothing-requires : tie.Need-nothing-requires
 nothing-requires c κs = search needs
 
--- src/carrying.rt:85:13
 same-length-4 : tie.Need-same-length-4
 same-length-4 c = search needs
 
--- src/carrying.rt:85:13
 returns-3 : tie.Need-returns-3
 unfolding planned refuse grant openOn tableAfter noticeRoom doneFor cutFor pick numberOf
 returns-3 c =
@@ -142,11 +129,9 @@ returns-3 c =
     let is = c .before .before .before .before .before .before .plan2 .given .1 in
     rw is (c .before .before .before .route .ensures, refl, c .nothing .ensures)
 
--- src/carrying.rt:87:20
 enum-known-plan-3 : tie.Need-enum-known-plan-3
 enum-known-plan-3 c = search needs
 
--- src/carrying.rt:88:13
 free-requires : tie.Need-free-requires
 unfolding fitPlan
 free-requires c κs =
@@ -156,15 +141,12 @@ free-requires c κs =
     let is : a .plan ≡ Free k = c .before .before .plan3 .given .1 in
     (start .pre .1, start .pre .2, rw is at (start .pre .3))
 
--- src/carrying.rt:89:13
 nothing-requires-2 : tie.Need-nothing-requires-2
 nothing-requires-2 c κs = search needs
 
--- src/carrying.rt:89:13
 same-length-5 : tie.Need-same-length-5
 same-length-5 c = search needs
 
--- src/carrying.rt:89:13
 returns-4 : tie.Need-returns-4
 unfolding planned refuse grant openOn tableAfter noticeRoom doneFor cutFor pick numberOf
 returns-4 c =
@@ -172,75 +154,60 @@ returns-4 c =
     let is = c .before .before .before .before .before .before .plan3 .given .1 in
     rw is (c .before .before .before .free .ensures, refl, c .nothing2 .ensures)
 
--- src/carrying.rt:92:13
 enum-told : tie.Need-enum-told
 enum-told c = search needs
 
--- src/carrying.rt:92:13
 nothing-requires-3 : tie.Need-nothing-requires-3
 nothing-requires-3 c κs = search needs
 
--- src/carrying.rt:92:13
 returns-5 : tie.Need-returns-5
 unfolding planned refuse grant openOn tableAfter noticeRoom doneFor cutFor pick numberOf
 returns-5 c =
     let is = c .before .enum-told .given .1 in
     rw is (refl, refl, c .nothing3 .ensures)
 
--- src/carrying.rt:95:13
 enum-told-2 : tie.Need-enum-told-2
 enum-told-2 c = search needs
 
--- src/carrying.rt:95:13
 nothing-requires-4 : tie.Need-nothing-requires-4
 nothing-requires-4 c κs = search needs
 
--- src/carrying.rt:95:13
 returns-6 : tie.Need-returns-6
 unfolding planned refuse grant openOn tableAfter noticeRoom doneFor cutFor pick numberOf
 returns-6 c =
     let is = c .before .enum-told2 .given .1 in
     rw is (refl, refl, c .nothing4 .ensures)
 
--- src/carrying.rt:98:13
 enum-told-3 : tie.Need-enum-told-3
 enum-told-3 c = search needs
 
--- src/carrying.rt:98:13
 nothing-requires-5 : tie.Need-nothing-requires-5
 nothing-requires-5 c κs = search needs
 
--- src/carrying.rt:98:13
 returns-7 : tie.Need-returns-7
 unfolding planned refuse grant openOn tableAfter noticeRoom doneFor cutFor pick numberOf
 returns-7 c =
     let is = c .before .enum-told3 .given .1 in
     rw is (refl, refl, c .nothing5 .ensures)
 
--- src/carrying.rt:101:13
 enum-told-4 : tie.Need-enum-told-4
 enum-told-4 c = search needs
 
--- src/carrying.rt:101:13
 nothing-requires-6 : tie.Need-nothing-requires-6
 nothing-requires-6 c κs = search needs
 
--- src/carrying.rt:101:13
 returns-8 : tie.Need-returns-8
 unfolding planned refuse grant openOn tableAfter noticeRoom doneFor cutFor pick numberOf
 returns-8 c =
     let is = c .before .enum-told4 .given .1 in
     rw is (refl, refl, c .nothing6 .ensures)
 
--- src/carrying.rt:104:13
 enum-told-5 : tie.Need-enum-told-5
 enum-told-5 c = search needs
 
--- src/carrying.rt:104:13
 nothing-requires-7 : tie.Need-nothing-requires-7
 nothing-requires-7 c κs = search needs
 
--- src/carrying.rt:104:13
 returns-9 : tie.Need-returns-9
 unfolding planned refuse grant openOn tableAfter noticeRoom doneFor cutFor pick numberOf
 returns-9 c =

@@ -1,3 +1,4 @@
+-- The row after the cut is sound, says what is left, and has room for the new access.
 use mathlib.Core.Path.{_≡_, refl, sym, ap, _∙_}
 use mathlib.Core.List.{List, [], _∷_, _++_}
 use Prim.Native.Nat.{ℕ, _+_, _-_, _*_, _<_, _≤_}
@@ -15,19 +16,15 @@ use Rattle.changes.proofs.free.Reads as free-reads
 use Rattle.changes.proofs.open.Reads as open-reads
 use Rattle.decision.proofs.carrying.write_notice.Reads as write-notice-reads
 
--- src/carrying.rt:40:9
 write-notice-requires : tie.Need-write-notice-requires
 write-notice-requires c κs = search needs
 
--- src/carrying.rt:41:5
 free-requires : tie.Need-free-requires
 free-requires c κs = search needs
 
--- src/carrying.rt:42:41
 cast-open : tie.Need-cast-open
 cast-open c = search needs
 
--- src/carrying.rt:42:9
 open-requires : tie.Need-open-requires
 open-requires c κs =
     let start = c .before .before .before .before .before .before .before .before .before .before .before .before .before .before in
@@ -43,15 +40,12 @@ open-requires c κs =
       start .pre .6,
     )
 
--- src/carrying.rt:33:1
 same-length : tie.Need-same-length
 same-length c = search needs
 
--- src/carrying.rt:33:1
 same-length-2 : tie.Need-same-length-2
 same-length-2 c = search needs
 
--- src/carrying.rt:33:1
 returns : tie.Need-returns
 returns c =
     let start = c .before .before .before .before .before .before .before .before .before .before .before .before .before .before .before .before .before in

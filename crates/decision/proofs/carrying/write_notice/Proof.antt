@@ -1,3 +1,4 @@
+-- In a sound row the two texts stand side by side, zero filled, as in the notice.
 use Rattle.decision.specs.declared.Cut.the-variants.{Lengths}
 use Rattle.octets.specs.Texts.{part, filled}
 use Rattle.table.specs.TheTable.{block, readAccess, readRow, rowAt}
@@ -18,89 +19,72 @@ use Rattle.decision.proofs.carrying.write_notice.Lts as lts
 use Rattle.octets.proofs.long.Reads as long-reads
 use Rattle.octets.proofs.put_bytes.Reads as put-bytes-reads
 
--- src/carrying.rt:25:14
 mul-at : tie.Need-mul-at
 mul-at c = search needs
 
--- src/carrying.rt:25:25
 mul-at-2 : tie.Need-mul-at-2
 mul-at-2 c =
     let start = c .before .before in
     omega (arith, at-most (rowAt (start .args .table .now) (start .args .i)) (start .args .k) (start .pre .2) (start .pre .3))
 
--- src/carrying.rt:25:14
 add-at : tie.Need-add-at
 add-at c =
     let start = c .before .before in
     omega (arith, at-most (rowAt (start .args .table .now) (start .args .i)) (start .args .k) (start .pre .2) (start .pre .3))
 
--- src/carrying.rt:26:16
 add-from : tie.Need-add-from
 add-from c =
     let start = c .before .before in
     omega (arith, at-most (rowAt (start .args .table .now) (start .args .i)) (start .args .k) (start .pre .2) (start .pre .3))
 
--- src/carrying.rt:27:15
 add-end : tie.Need-add-end
 add-end c =
     let start = c .before .before in
     omega (arith, at-most (rowAt (start .args .table .now) (start .args .i)) (start .args .k) (start .pre .2) (start .pre .3))
 
--- src/carrying.rt:28:34
 sub-put-bytes : tie.Need-sub-put-bytes
 sub-put-bytes c = search needs
 
--- src/carrying.rt:28:34
 part-put-bytes-start : tie.Need-part-put-bytes-start
 part-put-bytes-start c = search needs
 
--- src/carrying.rt:28:34
 part-put-bytes-end : tie.Need-part-put-bytes-end
 part-put-bytes-end c =
     let start = c .before .before .before in
     omega (arith, at-most (rowAt (start .args .table .now) (start .args .i)) (start .args .k) (start .pre .2) (start .pre .3))
 
--- src/carrying.rt:28:5
 put-bytes-requires : tie.Need-put-bytes-requires
 put-bytes-requires c κs = search needs
 
--- src/carrying.rt:29:37
 add-long : tie.Need-add-long
 add-long c =
     let start = c .before .before .before .before .before .before .before in
     omega (arith, at-most (rowAt (start .args .table .now) (start .args .i)) (start .args .k) (start .pre .2) (start .pre .3))
 
--- src/carrying.rt:29:31
 shared-slice-read-long : tie.Need-shared-slice-read-long
 shared-slice-read-long c =
     let start = c .before .before .before .before .before .before .before .before in
     omega (arith, at-most (rowAt (start .args .table .now) (start .args .i)) (start .args .k) (start .pre .2) (start .pre .3))
 
--- src/carrying.rt:29:18
 long-requires : tie.Need-long-requires
 long-requires c κs = search needs
 
--- src/carrying.rt:29:66
 add-long-2 : tie.Need-add-long-2
 add-long-2 c =
     let start = c .before .before .before .before .before .before .before .before .before in
     omega (arith, at-most (rowAt (start .args .table .now) (start .args .i)) (start .args .k) (start .pre .2) (start .pre .3))
 
--- src/carrying.rt:29:60
 shared-slice-read-long-2 : tie.Need-shared-slice-read-long-2
 shared-slice-read-long-2 c =
     let start = c .before .before .before .before .before .before .before .before .before .before in
     omega (arith, at-most (rowAt (start .args .table .now) (start .args .i)) (start .args .k) (start .pre .2) (start .pre .3))
 
--- src/carrying.rt:29:47
 long-requires-2 : tie.Need-long-requires-2
 long-requires-2 c κs = search needs
 
--- src/carrying.rt:19:1
 same-length : tie.Need-same-length
 same-length c = search needs
 
--- src/carrying.rt:19:1
 returns : tie.Need-returns
 unfolding cutFor
 returns c =

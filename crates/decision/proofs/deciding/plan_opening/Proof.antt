@@ -1,3 +1,4 @@
+-- Below the limit there is room; at the limit there is an access to cut.
 use Rattle.table.specs.Soundness.{onEntry}
 use Rattle.decision.specs.Plans.{fitPlan}
 use Rattle.table.specs.TheTable.{readRow}
@@ -19,19 +20,15 @@ use Rattle.decision.proofs.row.first_on.Reads as first-on-reads
 use Rattle.decision.proofs.row.limit_of.Reads as limit-of-reads
 use Rattle.octets.proofs.long.Reads as long-reads
 
--- src/deciding.rt:26:8
 count-on-requires : tie.Need-count-on-requires
 count-on-requires c κs = search needs
 
--- src/deciding.rt:26:45
 limit-of-requires : tie.Need-limit-of-requires
 limit-of-requires c κs = search needs
 
--- src/deciding.rt:26:32
 long-requires : tie.Need-long-requires
 long-requires c κs = search needs
 
--- src/deciding.rt:27:9
 returns : tie.Need-returns
 returns c =
     let start = c .before .before .before .before .before in
@@ -42,11 +39,9 @@ returns c =
     omega (arith, c .if1 .taken, c .before .long .ensures .0, c .before .before .limit-of .ensures, c .before .before .before .count-on .ensures) in
     (λ session host route. opens (a .n) session host route s below, fit-open row (start .pre .0) (a .n) (start .pre .1) (start .pre .2) below)
 
--- src/deciding.rt:29:19
 first-on-requires : tie.Need-first-on-requires
 first-on-requires c κs = search needs
 
--- src/deciding.rt:16:1
 returns-2 : tie.Need-returns-2
 returns-2 c =
     let start = c .before .before .before .before .before .before in

@@ -1,3 +1,4 @@
+-- Each way out is the law of the test that failed, or of both having passed.
 use Rattle.octets.proofs.Lists.{both}
 use Rattle.decision.specs.Plans.{fitPlan}
 use mathlib.Core.Bool.{true, false}
@@ -21,11 +22,9 @@ use Rattle.decision.proofs.deciding.plan_policy.Reads as reads
 use Rattle.decision.proofs.deciding.plan_policy.Lts as lts
 use Rattle.decision.proofs.row.place_of.Reads as place-of-reads
 
--- src/deciding.rt:83:9
 place-of-requires : tie.Need-place-of-requires
 place-of-requires c κs = search needs
 
--- src/deciding.rt:85:9
 returns : tie.Need-returns
 unfolding planned fitPlan
 returns c =
@@ -39,7 +38,6 @@ returns c =
       λ route w. refl,
     )
 
--- src/deciding.rt:88:9
 returns-2 : tie.Need-returns-2
 unfolding planned fitPlan
 returns-2 c =
@@ -53,7 +51,6 @@ returns-2 c =
       λ route w. rw (at, fit-place (a .row .now) (start .pre) session (λ z. c .before .if1 .left (at ∙ z)), w),
     )
 
--- src/deciding.rt:72:1
 returns-3 : tie.Need-returns-3
 unfolding planned fitPlan
 returns-3 c =

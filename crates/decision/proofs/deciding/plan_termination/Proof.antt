@@ -1,3 +1,4 @@
+-- An access with the Session-Id on the entry is found, or there is none.
 use Rattle.decision.specs.Plans.{fitPlan}
 use mathlib.Core.Bool.{true, false}
 use lib.Dec.{eqb}
@@ -22,15 +23,12 @@ use Rattle.decision.proofs.deciding.plan_termination.Lts as lts
 use Rattle.decision.proofs.row.entry_named.Reads as entry-named-reads
 use Rattle.decision.proofs.row.place_on.Reads as place-on-reads
 
--- src/deciding.rt:105:9
 entry-named-requires : tie.Need-entry-named-requires
 entry-named-requires c κs = search needs
 
--- src/deciding.rt:106:9
 place-on-requires : tie.Need-place-on-requires
 place-on-requires c κs = search needs
 
--- src/deciding.rt:108:9
 returns : tie.Need-returns
 unfolding planned fitPlan
 returns c =
@@ -47,7 +45,6 @@ returns c =
       λ route. refl,
     )
 
--- src/deciding.rt:94:1
 returns-2 : tie.Need-returns-2
 unfolding planned fitPlan
 returns-2 c =

@@ -1,3 +1,4 @@
+-- Each way out is the law of the test that failed, or of all having passed.
 use Rattle.decision.specs.Plans.{fitPlan}
 use mathlib.Core.Bool.{true, false, not, _&&_}
 use lib.Dec.{eqb}
@@ -24,11 +25,9 @@ use Rattle.decision.proofs.row.entry_named.Reads as entry-named-reads
 use Rattle.decision.proofs.row.flags_of.Reads as flags-of-reads
 use Rattle.decision.proofs.row.place_of.Reads as place-of-reads
 
--- src/deciding.rt:54:9
 entry-named-requires : tie.Need-entry-named-requires
 entry-named-requires c κs = search needs
 
--- src/deciding.rt:56:9
 returns : tie.Need-returns
 unfolding planned fitPlan
 returns c =
@@ -42,11 +41,9 @@ returns c =
       λ route. refl,
     )
 
--- src/deciding.rt:58:9
 flags-of-requires : tie.Need-flags-of-requires
 flags-of-requires c κs = search needs
 
--- src/deciding.rt:60:9
 returns-2 : tie.Need-returns-2
 unfolding planned fitPlan
 returns-2 c =
@@ -62,11 +59,9 @@ returns-2 c =
       λ route. refl,
     )
 
--- src/deciding.rt:62:8
 roams-unasked-requires : tie.Need-roams-unasked-requires
 roams-unasked-requires c κs = search needs
 
--- src/deciding.rt:63:9
 returns-3 : tie.Need-returns-3
 unfolding planned mayRoam fitPlan
 returns-3 c =
@@ -85,11 +80,9 @@ returns-3 c =
       λ route. refl,
     )
 
--- src/deciding.rt:65:8
 place-of-requires : tie.Need-place-of-requires
 place-of-requires c κs = search needs
 
--- src/deciding.rt:66:9
 returns-4 : tie.Need-returns-4
 unfolding planned mayRoam fitPlan
 returns-4 c =
@@ -111,11 +104,9 @@ returns-4 c =
       λ route. refl,
     )
 
--- src/deciding.rt:68:5
 plan-opening-requires : tie.Need-plan-opening-requires
 plan-opening-requires c κs = search needs
 
--- src/deciding.rt:43:1
 returns-5 : tie.Need-returns-5
 unfolding mayRoam
 returns-5 c =

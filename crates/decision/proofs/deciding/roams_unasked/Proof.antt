@@ -1,3 +1,4 @@
+-- By the two cases of the visited network.
 use mathlib.Core.Path.{_≡_, refl, sym, ap, _∙_}
 use mathlib.Core.List.{List, [], _∷_, _++_}
 use Prim.Native.Nat.{ℕ, suc, _+_, _-_, _*_, _/_, _%_, _^_, _<_, _≤_}
@@ -10,11 +11,9 @@ use Rattle.decision.proofs.deciding.roams_unasked.Tie as tie
 use Rattle.decision.proofs.deciding.roams_unasked.Reads as reads
 use Rattle.decision.proofs.deciding.roams_unasked.Lts as lts
 
--- src/deciding.rt:37:9
 returns : tie.Need-returns
 returns c = rw (c .if1 .taken)
 
--- src/deciding.rt:33:1
 returns-2 : tie.Need-returns-2
 returns-2 c = rw (c .if1 .left)
 

@@ -1,3 +1,4 @@
+-- What the answer's writer promises, with the outcome around it.
 use mathlib.Core.Path.{_≡_, refl, sym, ap, _∙_}
 use mathlib.Core.Bool.{Bool, true, false, _&&_}
 use mathlib.Core.List.{List, [], _∷_, _++_}
@@ -11,15 +12,12 @@ use Rattle.decision.proofs.handling.answer_call.Reads as reads
 use Rattle.decision.proofs.handling.answer_call.Lts as lts
 use Rattle.answers.proofs.answer.Reads as answer-reads
 
--- src/handling.rt:106:9
 answer-requires : tie.Need-answer-requires
 answer-requires c κs = search needs
 
--- src/handling.rt:91:1
 same-length : tie.Need-same-length
 same-length c = search needs
 
--- src/handling.rt:91:1
 returns : tie.Need-returns
 returns c =
     let done = c .before .before .answer .ensures in

@@ -1,3 +1,4 @@
+-- Each way out is the law of the first test that fails.
 use borrow.Author.Tests.{not-true, not-false}
 use mathlib.Core.Path.{_≡_, refl, sym, ap, _∙_}
 use mathlib.Core.Bool.{Bool, true, false, _&&_}
@@ -18,11 +19,9 @@ use Rattle.decision.proofs.handling.name_fits.Reads as name-fits-reads
 use Rattle.message.proofs.number.Reads as number-reads
 use Rattle.table.proofs.table_number.Reads as table-number-reads
 
--- src/handling.rt:40:9
 table-number-requires : tie.Need-table-number-requires
 table-number-requires c κs = search needs
 
--- src/handling.rt:42:9
 returns : tie.Need-returns
 unfolding callOf
 returns c =
@@ -32,11 +31,9 @@ returns c =
     let call = callOf (a .message .now) (a .host .now) (a .realm .now) (a .answer .now) (a .notice .now) wag in
     c .before .table-number .ensures ∙ sym (number-table t call (λ e. c .if1 .taken (c .before .table-number .ensures ∙ e)))
 
--- src/handling.rt:44:9
 name-fits-requires : tie.Need-name-fits-requires
 name-fits-requires c κs = search needs
 
--- src/handling.rt:45:9
 returns-2 : tie.Need-returns-2
 unfolding callOf
 returns-2 c =
@@ -47,11 +44,9 @@ returns-2 c =
     let z : tableNumber t ≡ 0 = sym (c .before .before .before .table-number .ensures) ∙ c .before .before .if1 .left in
     sym (number-host t call z (sym (c .before .name-fits .ensures) ∙ not-true _ (c .if2 .taken)))
 
--- src/handling.rt:47:9
 name-fits-requires-2 : tie.Need-name-fits-requires-2
 name-fits-requires-2 c κs = search needs
 
--- src/handling.rt:48:9
 returns-3 : tie.Need-returns-3
 unfolding callOf
 returns-3 c =
@@ -63,7 +58,6 @@ returns-3 c =
     let host-fits : within 1 128 (length (a .host .now)) ≡ true = sym (c .before .before .before .name-fits .ensures) ∙ not-false _ (c .before .before .if2 .left) in
     sym (number-realm t call z host-fits (sym (c .before .name-fits2 .ensures) ∙ not-true _ (c .if3 .taken)))
 
--- src/handling.rt:51:9
 returns-4 : tie.Need-returns-4
 unfolding callOf
 returns-4 c =
@@ -76,7 +70,6 @@ returns-4 c =
     let realm-fits : within 1 128 (length (a .realm .now)) ≡ true = sym (c .before .before .name-fits2 .ensures) ∙ not-false _ (c .before .if3 .left) in
     sym (number-answer t call z host-fits realm-fits (c .if4 .taken))
 
--- src/handling.rt:54:9
 returns-5 : tie.Need-returns-5
 unfolding callOf
 returns-5 c =
@@ -89,11 +82,9 @@ returns-5 c =
     let realm-fits : within 1 128 (length (a .realm .now)) ≡ true = sym (c .before .before .before .name-fits2 .ensures) ∙ not-false _ (c .before .before .if3 .left) in
     sym (number-notice t call z host-fits realm-fits (c .before .if4 .left) (c .if5 .taken))
 
--- src/handling.rt:56:5
 number-requires : tie.Need-number-requires
 number-requires c κs = search needs
 
--- src/handling.rt:37:1
 returns-6 : tie.Need-returns-6
 unfolding callOf
 returns-6 c =

@@ -1,3 +1,4 @@
+-- Case by case of the plan.
 use mathlib.Core.Path.{_≡_, refl, sym, ap, _∙_}
 use mathlib.Core.Bool.{Bool, true, false, _&&_}
 use mathlib.Core.List.{List, [], _∷_, _++_}
@@ -11,74 +12,58 @@ use Rattle.decision.proofs.handling.code_of.Tie as tie
 use Rattle.decision.proofs.handling.code_of.Reads as reads
 use Rattle.decision.proofs.handling.code_of.Lts as lts
 
--- src/handling.rt:79:32
 enum-told : tie.Need-enum-told
 enum-told c = search needs
 
--- src/handling.rt:80:25
 enum-told-2 : tie.Need-enum-told-2
 enum-told-2 c = search needs
 
--- src/handling.rt:81:36
 enum-told-3 : tie.Need-enum-told-3
 enum-told-3 c = search needs
 
--- src/handling.rt:82:33
 enum-told-4 : tie.Need-enum-told-4
 enum-told-4 c = search needs
 
--- src/handling.rt:83:31
 enum-told-5 : tie.Need-enum-told-5
 enum-told-5 c = search needs
 
--- src/handling.rt:84:20
 enum-known-plan : tie.Need-enum-known-plan
 enum-known-plan c = search needs
 
--- src/handling.rt:85:21
 enum-known-plan-2 : tie.Need-enum-known-plan-2
 enum-known-plan-2 c = search needs
 
--- src/handling.rt:86:20
 enum-known-plan-3 : tie.Need-enum-known-plan-3
 enum-known-plan-3 c = search needs
 
--- src/handling.rt:75:1
 returns : tie.Need-returns
 unfolding planCode
 returns c = rw (c .enum-told .given .1)
 
--- src/handling.rt:75:1
 returns-2 : tie.Need-returns-2
 unfolding planCode
 returns-2 c = rw (c .enum-told2 .given .1)
 
--- src/handling.rt:75:1
 returns-3 : tie.Need-returns-3
 unfolding planCode
 returns-3 c = rw (c .enum-told3 .given .1)
 
--- src/handling.rt:75:1
 returns-4 : tie.Need-returns-4
 unfolding planCode
 returns-4 c = rw (c .enum-told4 .given .1)
 
--- src/handling.rt:75:1
 returns-5 : tie.Need-returns-5
 unfolding planCode
 returns-5 c = rw (c .enum-told5 .given .1)
 
--- src/handling.rt:75:1
 returns-6 : tie.Need-returns-6
 unfolding planCode
 returns-6 c = rw (c .before .plan .given .1)
 
--- src/handling.rt:75:1
 returns-7 : tie.Need-returns-7
 unfolding planCode
 returns-7 c = rw (c .before .plan2 .given .1)
 
--- src/handling.rt:75:1
 returns-8 : tie.Need-returns-8
 unfolding planCode
 returns-8 c = rw (c .before .plan3 .given .1)

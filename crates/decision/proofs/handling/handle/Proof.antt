@@ -1,3 +1,4 @@
+-- A number, a refusal in reading, or the request: the three ways of a call.
 use mathlib.Core.Path.{_≡_, refl, sym, ap, _∙_}
 use mathlib.Core.Bool.{Bool, true, false, _&&_}
 use mathlib.Core.List.{List, [], _∷_, _++_}
@@ -23,23 +24,18 @@ use Rattle.decision.proofs.handling.on_request.Reads as on-request-read
 use Rattle.decision.proofs.handling.refuse.Reads as refuse-reads
 use Rattle.message.proofs.read.Reads as read-reads
 
--- src/handling.rt:274:9
 call-number-requires : tie.Need-call-number-requires
 call-number-requires c κs = search needs
 
--- src/handling.rt:276:9
 same-length : tie.Need-same-length
 same-length c = search needs
 
--- src/handling.rt:276:9
 same-length-2 : tie.Need-same-length-2
 same-length-2 c = search needs
 
--- src/handling.rt:276:9
 same-length-3 : tie.Need-same-length-3
 same-length-3 c = search needs
 
--- src/handling.rt:276:9
 returns : tie.Need-returns
 returns c =
     let a = c .before .before .before .before .before .before .before .before .before .before .before .args in
@@ -47,7 +43,6 @@ returns c =
     silent-is t (a .message .now) (a .host .now) (a .realm .now) (a .answer .now) (a .notice .now) (a .wag) (c .before .call-number .result)
     ∙ unanswered t (callOf (a .message .now) (a .host .now) (a .realm .now) (a .answer .now) (a .notice .now) (a .wag)) (c .before .call-number .result) (c .before .call-number .ensures (a .wag)) (c .if1 .taken)
 
--- src/handling.rt:284:9
 read-requires : tie.Need-read-requires
 read-requires c κs =
     let start = c .before .before .before .before .before .before .before .before .before .before .before in
@@ -58,11 +53,9 @@ read-requires c κs =
     let ready = is-ready t m (a .host .now) (a .realm .now) (a .answer .now) (a .notice .now) (a .wag) z in
     ready .least
 
--- src/handling.rt:288:23
 enum-known-told : tie.Need-enum-known-told
 enum-known-told c = search needs
 
--- src/handling.rt:289:13
 refuse-requires : tie.Need-refuse-requires
 unfolding says
 refuse-requires c κs =
@@ -78,19 +71,15 @@ refuse-requires c κs =
     let refused-is : read m ≡ refused code = sym (heard .reading) ∙ rw is in
     (ready, heard .proxies, never-2001 m code refused-is)
 
--- src/handling.rt:289:13
 same-length-4 : tie.Need-same-length-4
 same-length-4 c = search needs
 
--- src/handling.rt:289:13
 same-length-5 : tie.Need-same-length-5
 same-length-5 c = search needs
 
--- src/handling.rt:289:13
 same-length-6 : tie.Need-same-length-6
 same-length-6 c = search needs
 
--- src/handling.rt:289:13
 returns-2 : tie.Need-returns-2
 unfolding says onReading codeFrom callOf
 returns-2 c =
@@ -107,11 +96,9 @@ returns-2 c =
     c .before .before .refuse .ensures t (a .notice .now) (a .wag)
     ∙ sym (handled t (callOf m (a .host .now) (a .realm .now) (a .answer .now) (a .notice .now) (a .wag)) z ∙ ap (onReading t (callOf m (a .host .now) (a .realm .now) (a .answer .now) (a .notice .now) (a .wag))) refused-is)
 
--- src/handling.rt:291:23
 enum-known-told-2 : tie.Need-enum-known-told-2
 enum-known-told-2 c = search needs
 
--- src/handling.rt:292:13
 on-request-requires : tie.Need-on-request-requires
 unfolding says spans every
 on-request-requires c κs =
@@ -136,19 +123,15 @@ on-request-requires c κs =
       read-is,
     )
 
--- src/handling.rt:292:13
 same-length-7 : tie.Need-same-length-7
 same-length-7 c = search needs
 
--- src/handling.rt:292:13
 same-length-8 : tie.Need-same-length-8
 same-length-8 c = search needs
 
--- src/handling.rt:292:13
 same-length-9 : tie.Need-same-length-9
 same-length-9 c = search needs
 
--- src/handling.rt:292:13
 returns-3 : tie.Need-returns-3
 unfolding says onReading callOf
 returns-3 c =

@@ -1,3 +1,4 @@
+-- By the two ends of the range.
 use mathlib.Core.Path.{_≡_, refl, sym, ap, _∙_}
 use mathlib.Core.Bool.{Bool, true, false, _&&_}
 use mathlib.Core.List.{List, [], _∷_, _++_}
@@ -11,12 +12,10 @@ use Rattle.decision.proofs.handling.name_fits.Tie as tie
 use Rattle.decision.proofs.handling.name_fits.Reads as reads
 use Rattle.decision.proofs.handling.name_fits.Lts as lts
 
--- src/handling.rt:31:9
 returns : tie.Need-returns
 unfolding within
 returns c = sym (rw (lt-leb 1 (length (c .before .args .s .now)) (omega arith)))
 
--- src/handling.rt:27:1
 returns-2 : tie.Need-returns-2
 unfolding within
 returns-2 c = rw (le-leb 1 (length (c .before .args .s .now)) (omega arith))

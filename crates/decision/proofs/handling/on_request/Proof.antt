@@ -1,3 +1,4 @@
+-- No row, an unsound row, or the request settled on the row.
 use mathlib.Core.Path.{_≡_, refl, sym, ap, _∙_}
 use mathlib.Core.Bool.{Bool, true, false, _&&_}
 use mathlib.Core.List.{List, [], _∷_, _++_}
@@ -25,35 +26,27 @@ use Rattle.decision.proofs.handling.text.Reads as text-reads
 use Rattle.table.proofs.lookup.Reads as lookup-reads
 use Rattle.table.proofs.row_sound.Reads as row-sound-reads
 
--- src/handling.rt:249:38
 text-requires : tie.Need-text-requires
 text-requires c κs = search needs
 
--- src/handling.rt:249:9
 lookup-requires : tie.Need-lookup-requires
 lookup-requires c κs = search needs
 
--- src/handling.rt:250:22
 enum-known-found : tie.Need-enum-known-found
 enum-known-found c = search needs
 
--- src/handling.rt:251:39
 enum-told : tie.Need-enum-told
 enum-told c = search needs
 
--- src/handling.rt:251:9
 refuse-requires : tie.Need-refuse-requires
 refuse-requires c κs = search needs
 
--- src/handling.rt:251:9
 same-length : tie.Need-same-length
 same-length c = search needs
 
--- src/handling.rt:251:9
 same-length-2 : tie.Need-same-length-2
 same-length-2 c = search needs
 
--- src/handling.rt:251:9
 returns : tie.Need-returns
 unfolding onRow codeFrom
 returns c =
@@ -65,7 +58,6 @@ returns c =
     let is : lookup t (bytesOf m (a .user)) ≡ nothing = ap (lookup t) (sym name) ∙ sym (c .before .before .before .before .before .before .lookup .ensures .0) ∙ ap found (c .before .before .before .before .enum-told .given .1) in
     rw is (c .before .before .refuse .ensures t (a .notice .now) (a .wag))
 
--- src/handling.rt:253:13
 mul-a : tie.Need-mul-a
 mul-a c =
     let start = c .before .before .before .before .before .before .before .before .before .before .before .before in
@@ -78,7 +70,6 @@ mul-a c =
     let end : 4608 * i + 4608 ≤ length t = rw (c .before .found .given .1) at (c .before .before .before .lookup .ensures .1) in
     omega (arith, end)
 
--- src/handling.rt:254:13
 add-e : tie.Need-add-e
 add-e c =
     let start = c .before .before .before .before .before .before .before .before .before .before .before .before in
@@ -91,15 +82,12 @@ add-e c =
     let end : 4608 * i + 4608 ≤ length t = rw (c .before .found .given .1) at (c .before .before .before .lookup .ensures .1) in
     omega (arith, end)
 
--- src/handling.rt:255:26
 sub-row-sound : tie.Need-sub-row-sound
 sub-row-sound c = search needs
 
--- src/handling.rt:255:26
 part-row-sound-start : tie.Need-part-row-sound-start
 part-row-sound-start c = search needs
 
--- src/handling.rt:255:26
 part-row-sound-end : tie.Need-part-row-sound-end
 part-row-sound-end c =
     let start = c .before .before .before .before .before .before .before .before .before .before .before .before .before in
@@ -112,23 +100,18 @@ part-row-sound-end c =
     let end : 4608 * i + 4608 ≤ length t = rw (c .before .before .found .given .1) at (c .before .before .before .before .lookup .ensures .1) in
     omega (arith, end)
 
--- src/handling.rt:255:9
 row-sound-requires : tie.Need-row-sound-requires
 row-sound-requires c κs = search needs
 
--- src/handling.rt:256:9
 refuse-requires-2 : tie.Need-refuse-requires-2
 refuse-requires-2 c κs = search needs
 
--- src/handling.rt:256:9
 same-length-3 : tie.Need-same-length-3
 same-length-3 c = search needs
 
--- src/handling.rt:256:9
 same-length-4 : tie.Need-same-length-4
 same-length-4 c = search needs
 
--- src/handling.rt:256:9
 returns-2 : tie.Need-returns-2
 unfolding onRow codeFrom pick
 returns-2 c =
@@ -143,7 +126,6 @@ returns-2 c =
     let unsound : sound (rowAt t i) ≡ false = lent-test sound t (4608 * i) i (c .before .before .before .before .before .row-sound .result) false refl (c .before .before .before .before .before .row-sound .ensures) (not-true _ (c .before .before .before .before .if1 .taken)) in
     rw (is, unsound) (c .before .before .refuse2 .ensures t (a .notice .now) (a .wag))
 
--- src/handling.rt:258:5
 settle-requires : tie.Need-settle-requires
 settle-requires c κs =
     let start = c .before .before .before .before .before .before .before .before .before .before .before .before .before .before .before .before .before .before .before in
@@ -157,19 +139,15 @@ settle-requires c κs =
     let sounds : sound (rowAt t i) ≡ true = lent-test sound t (4608 * i) i (c .before .before .before .before .row-sound .result) true refl (c .before .before .before .before .row-sound .ensures) (not-false _ (c .before .before .before .if1 .left)) in
     (start .pre .0, start .pre .1, end, sounds, start .pre .3, start .pre .4, start .pre .5, start .pre .6)
 
--- src/handling.rt:230:1
 same-length-5 : tie.Need-same-length-5
 same-length-5 c = search needs
 
--- src/handling.rt:230:1
 same-length-6 : tie.Need-same-length-6
 same-length-6 c = search needs
 
--- src/handling.rt:230:1
 same-length-7 : tie.Need-same-length-7
 same-length-7 c = search needs
 
--- src/handling.rt:230:1
 returns-3 : tie.Need-returns-3
 unfolding onRow callOf pick
 returns-3 c =

@@ -1,3 +1,4 @@
+-- Case by case of the request: its own plan, with the texts of its spans.
 use mathlib.Core.Path.{_≡_, refl, sym, ap, _∙_}
 use mathlib.Core.Bool.{Bool, true, false, _&&_}
 use mathlib.Core.List.{List, [], _∷_, _++_}
@@ -21,11 +22,9 @@ use Rattle.decision.proofs.deciding.plan_termination.Reads as plan-term
 use Rattle.decision.proofs.deciding.plan_tunnel.Reads as plan-tunnel-reads
 use Rattle.decision.proofs.handling.text.Reads as text-reads
 
--- src/handling.rt:171:25
 enum-known-asked : tie.Need-enum-known-asked
 enum-known-asked c = search needs
 
--- src/handling.rt:172:47
 text-requires : tie.Need-text-requires
 unfolding every spansIn
 text-requires c κs =
@@ -36,7 +35,6 @@ text-requires c κs =
     let all : every (isInside m) (spansIn (start .args .asked)) ≡ true = start .pre .1 in
     and-left (isInside m (given .0)) _ (rw is at all)
 
--- src/handling.rt:172:65
 text-requires-2 : tie.Need-text-requires-2
 unfolding every spansIn
 text-requires-2 c κs =
@@ -47,11 +45,9 @@ text-requires-2 c κs =
     let all : every (isInside m) (spansIn (start .args .asked)) ≡ true = start .pre .1 in
     and-left (isInside m (given .1 .1 .0)) _ (and-right (isInside m (given .1 .0)) _ (and-right (isInside m (given .0)) _ (rw is at all)))
 
--- src/handling.rt:172:13
 plan-tunnel-requires : tie.Need-plan-tunnel-requires
 plan-tunnel-requires c κs = search needs
 
--- src/handling.rt:172:13
 returns : tie.Need-returns
 unfolding sessionText hostText routeText asks decide fitting
 returns c =
@@ -66,11 +62,9 @@ returns c =
     let ens = c .plan-tunnel .ensures in
     rw is (rw (session, label) at (ens .0 (bytesOf m (given .1 .0)) []), λ f. ens .1 [])
 
--- src/handling.rt:174:25
 enum-known-asked-2 : tie.Need-enum-known-asked-2
 enum-known-asked-2 c = search needs
 
--- src/handling.rt:175:47
 text-requires-3 : tie.Need-text-requires-3
 unfolding every spansIn
 text-requires-3 c κs =
@@ -81,11 +75,9 @@ text-requires-3 c κs =
     let all : every (isInside m) (spansIn (start .args .asked)) ≡ true = start .pre .1 in
     and-left (isInside m (given .0)) _ (rw is at all)
 
--- src/handling.rt:175:13
 plan-policy-requires : tie.Need-plan-policy-requires
 plan-policy-requires c κs = search needs
 
--- src/handling.rt:175:13
 returns-2 : tie.Need-returns-2
 unfolding sessionText hostText routeText asks decide fitting
 returns-2 c =
@@ -97,11 +89,9 @@ returns-2 c =
     let ens = c .plan-policy .ensures in
     rw is (rw session at (ens .0 [] (bytesOf m (given .1 .0))), λ f. ens .1 (bytesOf m (given .1 .0)) f)
 
--- src/handling.rt:177:30
 enum-known-asked-3 : tie.Need-enum-known-asked-3
 enum-known-asked-3 c = search needs
 
--- src/handling.rt:178:52
 text-requires-4 : tie.Need-text-requires-4
 unfolding every spansIn
 text-requires-4 c κs =
@@ -112,7 +102,6 @@ text-requires-4 c κs =
     let all : every (isInside m) (spansIn (start .args .asked)) ≡ true = start .pre .1 in
     and-left (isInside m (given .0)) _ (rw is at all)
 
--- src/handling.rt:178:70
 text-requires-5 : tie.Need-text-requires-5
 unfolding every spansIn
 text-requires-5 c κs =
@@ -123,11 +112,9 @@ text-requires-5 c κs =
     let all : every (isInside m) (spansIn (start .args .asked)) ≡ true = start .pre .1 in
     and-left (isInside m (given .1 .0)) _ (and-right (isInside m (given .0)) _ (rw is at all))
 
--- src/handling.rt:178:13
 plan-termination-requires : tie.Need-plan-termination-requires
 plan-termination-requires c κs = search needs
 
--- src/handling.rt:178:13
 returns-3 : tie.Need-returns-3
 unfolding sessionText hostText routeText asks decide fitting
 returns-3 c =

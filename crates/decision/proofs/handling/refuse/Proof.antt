@@ -1,3 +1,4 @@
+-- The reply of a refusal, from the answer that was written.
 use mathlib.Core.Path.{_≡_, refl, sym, ap, _∙_}
 use mathlib.Core.Bool.{Bool, true, false, _&&_}
 use mathlib.Core.List.{List, [], _∷_, _++_}
@@ -16,7 +17,6 @@ use Rattle.decision.proofs.handling.refuse.Reads as reads
 use Rattle.decision.proofs.handling.refuse.Lts as lts
 use Rattle.decision.proofs.handling.answer_call.Reads as answer-call-reads
 
--- src/handling.rt:194:5
 answer-call-requires : tie.Need-answer-call-requires
 answer-call-requires c κs =
     let start = c .before .before .before .before .before in
@@ -32,11 +32,9 @@ answer-call-requires c κs =
       to-copy = start .pre .1;
     }
 
--- src/handling.rt:185:1
 same-length : tie.Need-same-length
 same-length c = search needs
 
--- src/handling.rt:185:1
 returns : tie.Need-returns
 unfolding refusal noticeRoom cutFor
 returns c =

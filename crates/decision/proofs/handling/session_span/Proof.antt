@@ -1,3 +1,4 @@
+-- Case by case of the request.
 use borrow.Author.Tests.{le-leb}
 use mathlib.Core.Path.{_≡_, refl, sym, ap, _∙_}
 use mathlib.Core.Bool.{Bool, true, false, _&&_}
@@ -15,33 +16,27 @@ use Rattle.decision.proofs.handling.session_span.Tie as tie
 use Rattle.decision.proofs.handling.session_span.Reads as reads
 use Rattle.decision.proofs.handling.session_span.Lts as lts
 
--- src/handling.rt:123:25
 enum-known-asked : tie.Need-enum-known-asked
 enum-known-asked c = search needs
 
--- src/handling.rt:124:25
 enum-known-asked-2 : tie.Need-enum-known-asked-2
 enum-known-asked-2 c = search needs
 
--- src/handling.rt:125:30
 enum-known-asked-3 : tie.Need-enum-known-asked-3
 enum-known-asked-3 c = search needs
 
--- src/handling.rt:119:1
 returns : tie.Need-returns
 unfolding sessionText bytesOf spansIn every isInside
 returns c =
     let is = c .before .asked .given .1 in
     λ m. rw is (refl, λ h. and-left (isInside m (c .before .asked .given .0 .0)) _ h)
 
--- src/handling.rt:119:1
 returns-2 : tie.Need-returns-2
 unfolding sessionText bytesOf spansIn every isInside
 returns-2 c =
     let is = c .before .asked2 .given .1 in
     λ m. rw is (refl, λ h. and-left (isInside m (c .before .asked2 .given .0 .0)) _ h)
 
--- src/handling.rt:119:1
 returns-3 : tie.Need-returns-3
 unfolding sessionText bytesOf spansIn every isInside
 returns-3 c =

@@ -1,3 +1,4 @@
+-- What was planned is what is decided; what was carried out and answered is what it leaves.
 use Rattle.message.specs.Kinds.{codeFrom}
 use Rattle.decision.specs.Deciding.{Verdict, decide}
 use Rattle.decision.specs.Plans.{planned, fitPlan, doneFor, tableAfter}
@@ -29,64 +30,51 @@ use Rattle.decision.proofs.handling.route_span.Reads as route-span-read
 use Rattle.decision.proofs.handling.session_span.Reads as session-span-reads
 use Rattle.decision.proofs.handling.text.Reads as text-reads
 
--- src/handling.rt:218:13
 mul-a : tie.Need-mul-a
 mul-a c = search needs
 
--- src/handling.rt:219:13
 add-e : tie.Need-add-e
 add-e c = search needs
 
--- src/handling.rt:220:25
 sub-plan-for : tie.Need-sub-plan-for
 sub-plan-for c = search needs
 
--- src/handling.rt:220:25
 part-plan-for-start : tie.Need-part-plan-for-start
 part-plan-for-start c = search needs
 
--- src/handling.rt:220:25
 part-plan-for-end : tie.Need-part-plan-for-end
 part-plan-for-end c = search needs
 
--- src/handling.rt:220:9
 plan-for-requires : tie.Need-plan-for-requires
 plan-for-requires c κs =
     let start = c .before .before .before .before .before .before .before .before in
     let a = start .args in
     (ap sound (lent-row (a .table .now) (4608 * a .i) (a .i) refl) ∙ start .pre .3, start .pre .4)
 
--- src/handling.rt:221:27
 session-span-requires : tie.Need-session-span-requires
 session-span-requires c κs = search needs
 
--- src/handling.rt:221:9
 text-requires : tie.Need-text-requires
 text-requires c κs =
     let start = c .before .before .before .before .before .before .before .before .before .before in
     c .session-span .ensures (start .args .m .now) .1 (start .pre .4)
 
--- src/handling.rt:222:27
 host-span-requires : tie.Need-host-span-requires
 host-span-requires c κs = search needs
 
--- src/handling.rt:222:9
 text-requires-2 : tie.Need-text-requires-2
 text-requires-2 c κs =
     let start = c .before .before .before .before .before .before .before .before .before .before .before .before in
     c .host-span .ensures (start .args .m .now) .1 (start .pre .4)
 
--- src/handling.rt:223:25
 route-span-requires : tie.Need-route-span-requires
 route-span-requires c κs = search needs
 
--- src/handling.rt:223:9
 text-requires-3 : tie.Need-text-requires-3
 text-requires-3 c κs =
     let start = c .before .before .before .before .before .before .before .before .before .before .before .before .before .before in
     c .route-span .ensures (start .args .m .now) .1 (start .pre .4)
 
--- src/handling.rt:224:9
 carry-requires : tie.Need-carry-requires
 carry-requires c κs =
     let start = c .before .before .before .before .before .before .before .before .before .before .before .before .before .before .before .before .before in
@@ -106,15 +94,12 @@ carry-requires c κs =
       omega (arith, ap length gateway, host-short m _ (a .asked) (start .pre .7)),
     )
 
--- src/handling.rt:225:33
 kind-of-requires : tie.Need-kind-of-requires
 kind-of-requires c κs = search needs
 
--- src/handling.rt:225:48
 code-of-requires : tie.Need-code-of-requires
 code-of-requires c κs = search needs
 
--- src/handling.rt:225:5
 answer-call-requires : tie.Need-answer-call-requires
 answer-call-requires c κs =
     let start = c .before .before .before .before .before .before .before .before .before .before .before .before .before .before .before .before .before .before .before .before .before .before .before .before .before in
@@ -132,19 +117,15 @@ answer-call-requires c κs =
       to-copy = start .pre .6;
     }
 
--- src/handling.rt:198:1
 same-length : tie.Need-same-length
 same-length c = search needs
 
--- src/handling.rt:198:1
 same-length-2 : tie.Need-same-length-2
 same-length-2 c = search needs
 
--- src/handling.rt:198:1
 same-length-3 : tie.Need-same-length-3
 same-length-3 c = search needs
 
--- src/handling.rt:198:1
 returns : tie.Need-returns
 returns c =
     let start = c .before .before .before .before .before .before .before .before .before .before .before .before .before .before .before .before .before .before .before .before .before .before .before .before .before .before .before .before in

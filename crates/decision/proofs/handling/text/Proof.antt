@@ -1,3 +1,4 @@
+-- The part that is lent is the text of the span.
 use mathlib.Core.Path.{_≡_, refl, sym, ap, _∙_}
 use mathlib.Core.Bool.{Bool, true, false, _&&_}
 use mathlib.Core.List.{List, [], _∷_, _++_}
@@ -12,29 +13,24 @@ use Rattle.decision.proofs.handling.text.Tie as tie
 use Rattle.decision.proofs.handling.text.Reads as reads
 use Rattle.decision.proofs.handling.text.Lts as lts
 
--- src/handling.rt:159:15
 add-end : tie.Need-add-end
 unfolding isInside
 add-end c =
     let start = c .before in
     omega (arith, leb-true (start .args .s .at + start .args .s .len) (length (start .args .m .now)) (start .pre))
 
--- src/handling.rt:160:5
 sub-result : tie.Need-sub-result
 sub-result c = search needs
 
--- src/handling.rt:160:5
 part-result-start : tie.Need-part-result-start
 part-result-start c = search needs
 
--- src/handling.rt:160:5
 part-result-end : tie.Need-part-result-end
 unfolding isInside
 part-result-end c =
     let start = c .before in
     omega (arith, leb-true (start .args .s .at + start .args .s .len) (length (start .args .m .now)) (start .pre))
 
--- src/handling.rt:154:1
 returns : tie.Need-returns
 unfolding bytesOf
 returns c =

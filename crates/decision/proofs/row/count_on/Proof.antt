@@ -1,3 +1,4 @@
+-- What was counted and what is left make the count of the whole line.
 use mathlib.Core.Logic.{⊎-elim}
 use mathlib.Core.Bool.{Bool, true, false}
 use Rattle.octets.specs.Choice.{within}
@@ -26,18 +27,15 @@ Inv-loop row entry n₀ i₀ n i = (i ≤ 8) × (every (within 1 8) (drop i (ord
 abbrev μ-loop : tie.MeasureT-loop
 μ-loop row entry n₀ i₀ n i = 8 - i
 
--- src/row.rt:84:5
 loop-holds : tie.Need-loop-holds Inv-loop μ-loop
 loop-holds c =
     let start = c .before in
     let row = start .args .row .now in
     (omega arith, all-in row (start .pre), omega arith, omega arith)
 
--- src/row.rt:85:13
 line-at-requires : tie.Need-line-at-requires Inv-loop μ-loop
 line-at-requires c κs = search needs
 
--- src/row.rt:89:12
 on-entry-requires : tie.Need-on-entry-requires Inv-loop μ-loop
 on-entry-requires c κs =
     let l = c .before .before in
@@ -47,15 +45,12 @@ on-entry-requires c κs =
     let nz : getD (orderLine row) (l .loop .i) 0 ≡ 0 → ⊥ = λ z. c .if1 .left (at ∙ z) in
     (size row (start .pre), omega (arith, at, within-high 1 8 _ (place-in (orderLine row) (l .loop .i) nz (l .loop .inv .1))))
 
--- src/row.rt:90:13
 add-n : tie.Need-add-n Inv-loop μ-loop
 add-n c = search needs
 
--- src/row.rt:92:9
 add-i : tie.Need-add-i Inv-loop μ-loop
 add-i c = search needs
 
--- src/row.rt:84:5
 loop-less : tie.Need-loop-less Inv-loop μ-loop
 loop-less c =
     let l = c .before .before .before .before in
@@ -66,7 +61,6 @@ loop-less c =
     let nz : getD (orderLine row) (l .loop .i) 0 ≡ 0 → ⊥ = λ z. c .before .before .if1 .left (at ∙ z) in
     omega (arith, below (orderLine row) (l .loop .i) nz, short row)
 
--- src/row.rt:84:5
 loop-again : tie.Need-loop-again Inv-loop μ-loop
 loop-again c =
     let l = c .before .before .before .before in
@@ -83,7 +77,6 @@ loop-again c =
     (λ w. (more, rest, omega (arith, w .1), omega (arith, w .1, l .loop .inv .3, tally-none (orderLine row) (l .loop .i) nz (entryIs row (a .entry)) (test ∙ w .0 .left))))
     (c .if2 .came)
 
--- src/row.rt:78:1
 returns : tie.Need-returns Inv-loop μ-loop
 returns c =
     let l = c .before .before in

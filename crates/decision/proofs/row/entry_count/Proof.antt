@@ -1,3 +1,4 @@
+-- Byte 18 is the number of entries, four at most in a sound row.
 use Rattle.table.specs.TheTable.{readRow}
 use Rattle.decision.proofs.Search.{size}
 use Rattle.decision.proofs.Entries.{count-is, most-four}
@@ -14,15 +15,12 @@ use Rattle.decision.proofs.row.entry_count.Reads as reads
 use Rattle.decision.proofs.row.entry_count.Lts as lts
 use Rattle.octets.proofs.long.Reads as long-reads
 
--- src/row.rt:137:18
 shared-slice-read-long : tie.Need-shared-slice-read-long
 shared-slice-read-long c = omega (arith, size (c .before .before .args .row .now) (c .before .before .pre))
 
--- src/row.rt:137:5
 long-requires : tie.Need-long-requires
 long-requires c κs = search needs
 
--- src/row.rt:133:1
 returns : tie.Need-returns
 returns c =
     let start = c .before .before .before in

@@ -1,3 +1,4 @@
+-- What the search finds from the n-th entry on stays the same.
 use mathlib.Core.Bool.{true, false}
 use Rattle.table.specs.TheTable.{readRow}
 use Rattle.table.specs.Soundness.{sameLabel}
@@ -23,28 +24,22 @@ Inv-loop row label count n₀ n = (count ≡ length ((readRow row) .entries)) ×
 abbrev μ-loop : tie.MeasureT-loop
 μ-loop row label count n₀ n = count + 1 - n
 
--- src/row.rt:168:9
 entry-count-requires : tie.Need-entry-count-requires Inv-loop μ-loop
 entry-count-requires c κs = search needs
 
--- src/row.rt:170:5
 loop-holds : tie.Need-loop-holds Inv-loop μ-loop
 unfolding entryNamed
 loop-holds c = (c .entry-count .ensures .0, c .entry-count .ensures .1, omega arith, omega arith, refl)
 
--- src/row.rt:174:12
 has-label-requires : tie.Need-has-label-requires Inv-loop μ-loop
 has-label-requires c κs = search needs
 
--- src/row.rt:177:9
 add-n : tie.Need-add-n Inv-loop μ-loop
 add-n c = search needs
 
--- src/row.rt:170:5
 loop-less : tie.Need-loop-less Inv-loop μ-loop
 loop-less c = search needs
 
--- src/row.rt:170:5
 loop-again : tie.Need-loop-again Inv-loop μ-loop
 unfolding entryAt
 loop-again c =
@@ -61,7 +56,6 @@ loop-again c =
       sym (name-on (a .label .now) es n (l .loop .inv .2) le test) ∙ l .loop .inv .4,
     )
 
--- src/row.rt:158:1
 returns : tie.Need-returns Inv-loop μ-loop
 returns c =
     let l = c .before in
@@ -69,7 +63,6 @@ returns c =
     let es = (readRow (a .row .now)) .entries in
     (sym (name-over (a .label .now) es (l .loop .n) (l .loop .inv .2) (omega (arith, l .loop .inv .0))) ∙ l .loop .inv .4, search needs)
 
--- src/row.rt:158:1
 returns-2 : tie.Need-returns-2 Inv-loop μ-loop
 unfolding entryAt
 returns-2 c =

@@ -1,3 +1,4 @@
+-- Where the flags of entry n stand in a sound row.
 use Rattle.decision.proofs.Search.{size}
 use Rattle.decision.proofs.Entries.{flags-byte, most-four}
 use mathlib.Core.Path.{_≡_, refl, sym, ap, _∙_}
@@ -12,26 +13,22 @@ use Rattle.decision.proofs.row.flags_of.Tie as tie
 use Rattle.decision.proofs.row.flags_of.Reads as reads
 use Rattle.decision.proofs.row.flags_of.Lts as lts
 
--- src/row.rt:186:9
 mul-result : tie.Need-mul-result
 mul-result c =
     let row = c .args .row .now in
     omega (arith, most-four row (c .pre .0))
 
--- src/row.rt:186:9
 add-result : tie.Need-add-result
 add-result c =
     let row = c .args .row .now in
     omega (arith, most-four row (c .pre .0))
 
--- src/row.rt:186:5
 shared-slice-read-result : tie.Need-shared-slice-read-result
 shared-slice-read-result c =
     let start = c .before in
     let row = start .args .row .now in
     omega (arith, size row (start .pre .0), most-four row (start .pre .0))
 
--- src/row.rt:182:1
 returns : tie.Need-returns
 returns c =
     let start = c .before in

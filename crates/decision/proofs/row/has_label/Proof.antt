@@ -1,3 +1,4 @@
+-- The part that is lent is the entry's label.
 use Rattle.table.specs.TheTable.{readRow}
 use Rattle.table.specs.Soundness.{sameLabel}
 use Rattle.decision.specs.Deciding.{entryAt}
@@ -17,64 +18,52 @@ use Rattle.decision.proofs.row.has_label.Lts as lts
 use Rattle.decision.proofs.row.same_label.Reads as same-label-reads
 use Rattle.octets.proofs.long.Reads as long-reads
 
--- src/row.rt:152:16
 mul-from : tie.Need-mul-from
 mul-from c =
     let start = c .before .before in
     omega (arith, most-four (start .args .row .now) (start .pre .0))
 
--- src/row.rt:152:16
 sub-from : tie.Need-sub-from
 sub-from c = search needs
 
--- src/row.rt:153:39
 mul-long : tie.Need-mul-long
 mul-long c =
     let start = c .before .before in
     omega (arith, most-four (start .args .row .now) (start .pre .0))
 
--- src/row.rt:153:39
 sub-long : tie.Need-sub-long
 sub-long c = search needs
 
--- src/row.rt:153:35
 shared-slice-read-long : tie.Need-shared-slice-read-long
 shared-slice-read-long c =
     let start = c .before .before .before in
     let row = start .args .row .now in
     omega (arith, size row (start .pre .0), most-four row (start .pre .0))
 
--- src/row.rt:153:22
 long-requires : tie.Need-long-requires
 long-requires c κs = search needs
 
--- src/row.rt:153:15
 add-end : tie.Need-add-end
 add-end c =
     let start = c .before .before .before .before in
     let row = start .args .row .now in
     omega (arith, size row (start .pre .0), most-four row (start .pre .0), c .long .ensures .1)
 
--- src/row.rt:154:23
 sub-same-label : tie.Need-sub-same-label
 sub-same-label c = search needs
 
--- src/row.rt:154:23
 part-same-label-start : tie.Need-part-same-label-start
 part-same-label-start c = search needs
 
--- src/row.rt:154:23
 part-same-label-end : tie.Need-part-same-label-end
 part-same-label-end c =
     let start = c .before .before .before .before in
     let row = start .args .row .now in
     omega (arith, size row (start .pre .0), most-four row (start .pre .0), c .long .ensures .1)
 
--- src/row.rt:154:5
 same-label-requires : tie.Need-same-label-requires
 same-label-requires c κs = search needs
 
--- src/row.rt:148:1
 returns : tie.Need-returns
 returns c =
     let start = c .before .before .before .before .before .before in

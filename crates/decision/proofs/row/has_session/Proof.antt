@@ -1,3 +1,4 @@
+-- The part that is lent is the access's Session-Id.
 use lib.Seq.{take-take, drop-drop}
 use Rattle.octets.specs.Texts.{same}
 use Rattle.table.specs.TheTable.{readAccess, block}
@@ -16,51 +17,39 @@ use Rattle.decision.proofs.row.has_session.Lts as lts
 use Rattle.octets.proofs.long.Reads as long-reads
 use Rattle.octets.proofs.same_bytes.Reads as same-bytes-reads
 
--- src/row.rt:36:16
 mul-from : tie.Need-mul-from
 mul-from c = search needs
 
--- src/row.rt:36:16
 add-from : tie.Need-add-from
 add-from c = search needs
 
--- src/row.rt:37:39
 mul-long : tie.Need-mul-long
 mul-long c = search needs
 
--- src/row.rt:37:39
 add-long : tie.Need-add-long
 add-long c = search needs
 
--- src/row.rt:37:35
 shared-slice-read-long : tie.Need-shared-slice-read-long
 shared-slice-read-long c = search needs
 
--- src/row.rt:37:22
 long-requires : tie.Need-long-requires
 long-requires c κs = search needs
 
--- src/row.rt:37:15
 add-end : tie.Need-add-end
 add-end c = search needs
 
--- src/row.rt:38:24
 sub-same-bytes : tie.Need-sub-same-bytes
 sub-same-bytes c = search needs
 
--- src/row.rt:38:24
 part-same-bytes-start : tie.Need-part-same-bytes-start
 part-same-bytes-start c = search needs
 
--- src/row.rt:38:24
 part-same-bytes-end : tie.Need-part-same-bytes-end
 part-same-bytes-end c = search needs
 
--- src/row.rt:38:5
 same-bytes-requires : tie.Need-same-bytes-requires
 same-bytes-requires c κs = search needs
 
--- src/row.rt:32:1
 returns : tie.Need-returns
 unfolding readAccess
 returns c =

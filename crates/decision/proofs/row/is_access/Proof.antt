@@ -1,3 +1,4 @@
+-- Both tests, one after the other.
 use mathlib.Core.Bool.{_&&_}
 use mathlib.Core.Path.{_≡_, refl, sym, ap, _∙_}
 use mathlib.Core.List.{List, [], _∷_, _++_}
@@ -13,20 +14,16 @@ use Rattle.decision.proofs.row.is_access.Lts as lts
 use Rattle.decision.proofs.row.has_session.Reads as has-session-reads
 use Rattle.decision.proofs.row.on_entry.Reads as on-entry-reads
 
--- src/row.rt:53:8
 on-entry-requires : tie.Need-on-entry-requires
 on-entry-requires c κs = search needs
 
--- src/row.rt:54:9
 has-session-requires : tie.Need-has-session-requires
 has-session-requires c κs = search needs
 
--- src/row.rt:54:9
 returns : tie.Need-returns
 returns c =
     rw (sym (c .before .before .on-entry .ensures) ∙ c .before .if1 .taken) (c .has-session .ensures)
 
--- src/row.rt:42:1
 returns-2 : tie.Need-returns-2
 returns-2 c = rw (sym (c .before .on-entry .ensures) ∙ c .if1 .left)
 

@@ -1,3 +1,4 @@
+-- Where the limit of entry n stands in a sound row.
 use Rattle.decision.proofs.Search.{size}
 use Rattle.decision.proofs.Entries.{limit-byte, most-four}
 use mathlib.Core.Path.{_≡_, refl, sym, ap, _∙_}
@@ -12,26 +13,22 @@ use Rattle.decision.proofs.row.limit_of.Tie as tie
 use Rattle.decision.proofs.row.limit_of.Reads as reads
 use Rattle.decision.proofs.row.limit_of.Lts as lts
 
--- src/row.rt:194:9
 mul-result : tie.Need-mul-result
 mul-result c =
     let row = c .args .row .now in
     omega (arith, most-four row (c .pre .0))
 
--- src/row.rt:194:9
 add-result : tie.Need-add-result
 add-result c =
     let row = c .args .row .now in
     omega (arith, most-four row (c .pre .0))
 
--- src/row.rt:194:5
 shared-slice-read-result : tie.Need-shared-slice-read-result
 shared-slice-read-result c =
     let start = c .before in
     let row = start .args .row .now in
     omega (arith, size row (start .pre .0), most-four row (start .pre .0))
 
--- src/row.rt:190:1
 returns : tie.Need-returns
 returns c =
     let start = c .before in

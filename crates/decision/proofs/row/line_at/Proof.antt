@@ -1,3 +1,4 @@
+-- In a sound row zeros stand behind the line, so that its i-th byte is its i-th place, or 0.
 use Rattle.table.specs.TheTable.{orderLine}
 use lib.ListN.{List·getD-eq-default}
 use Rattle.decision.proofs.Search.{size, short, line-byte}
@@ -14,25 +15,20 @@ use Rattle.decision.proofs.row.line_at.Reads as reads
 use Rattle.decision.proofs.row.line_at.Lts as lts
 use Rattle.octets.proofs.long.Reads as long-reads
 
--- src/row.rt:18:9
 returns : tie.Need-returns
 returns c =
     let row = c .before .before .args .row .now in
     sym (List·getD-eq-default (orderLine row) 0 (omega (arith, short row)))
 
--- src/row.rt:20:22
 add-long : tie.Need-add-long
 add-long c = search needs
 
--- src/row.rt:20:18
 shared-slice-read-long : tie.Need-shared-slice-read-long
 shared-slice-read-long c = omega (arith, size (c .before .before .before .args .row .now) (c .before .before .before .pre))
 
--- src/row.rt:20:5
 long-requires : tie.Need-long-requires
 long-requires c κs = search needs
 
--- src/row.rt:13:1
 returns-2 : tie.Need-returns-2
 returns-2 c =
     let start = c .before .before .before .before in

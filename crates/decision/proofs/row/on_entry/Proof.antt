@@ -1,3 +1,4 @@
+-- Byte 1 of a place is the number of its entry.
 use lib.Dec.{eqb}
 use Rattle.table.specs.TheTable.{readAccess, block}
 use Rattle.decision.proofs.Search.{byte-of}
@@ -14,23 +15,18 @@ use Rattle.decision.proofs.row.on_entry.Reads as reads
 use Rattle.decision.proofs.row.on_entry.Lts as lts
 use Rattle.octets.proofs.long.Reads as long-reads
 
--- src/row.rt:28:22
 mul-long : tie.Need-mul-long
 mul-long c = search needs
 
--- src/row.rt:28:22
 add-long : tie.Need-add-long
 add-long c = search needs
 
--- src/row.rt:28:18
 shared-slice-read-long : tie.Need-shared-slice-read-long
 shared-slice-read-long c = search needs
 
--- src/row.rt:28:5
 long-requires : tie.Need-long-requires
 long-requires c κs = search needs
 
--- src/row.rt:24:1
 returns : tie.Need-returns
 unfolding readAccess
 returns c =

@@ -1,3 +1,4 @@
+-- Labels are compared byte by byte.
 use Rattle.table.specs.Soundness.{sameLabel}
 use mathlib.Core.Path.{_≡_, refl, sym, ap, _∙_}
 use mathlib.Core.List.{List, [], _∷_, _++_}
@@ -12,11 +13,9 @@ use Rattle.decision.proofs.row.same_label.Reads as reads
 use Rattle.decision.proofs.row.same_label.Lts as lts
 use Rattle.octets.proofs.same_bytes.Reads as same-bytes-reads
 
--- src/row.rt:144:5
 same-bytes-requires : tie.Need-same-bytes-requires
 same-bytes-requires c κs = search needs
 
--- src/row.rt:141:1
 returns : tie.Need-returns
 unfolding sameLabel
 returns c = c .same-bytes .ensures
