@@ -15,7 +15,7 @@ pub fn seal(block: &mut [u8])
     requires { ⌜ length (now block) ≡ 512 ⌝ }
     ensures { λ _. ⌜ now (block .exit) ≡ sealed (take 510 (now (block .entry))) ⌝ }
 {
-    let s = table::sums_of(&block[0..510]);
+    let s = table::sums_of(block);
     let first = s.first as u8;
     let second = s.second as u8;
     block[510] = second;

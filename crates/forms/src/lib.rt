@@ -36,13 +36,13 @@ pub fn block_sums_agree(b: &[u8]) -> bool
     requires { ⌜ length (now b) ≡ 512 ⌝ }
     ensures { λ r. ⌜ r ≡ same (part (now (b .entry)) 510 2) (sums (take 510 (now (b .entry)))) ⌝ }
 {
-    let s = table::sums_of(&b[0..510]);
+    let s = table::sums_of(b);
     let second = s.second;
     let first = s.first;
-    if octets::wide(b[510]) != second {
+    if octets::half(b[510]) != second {
         return false;
     }
-    octets::wide(b[511]) == first
+    octets::half(b[511]) == first
 }
 
 // BLOCK 0
