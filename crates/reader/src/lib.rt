@@ -1,5 +1,5 @@
-// The AVPs of a message one after another, by a reader that holds the message and a place in it. Its functions are thin: each
-// takes it apart and hands slice and place on. Callers with a plain slice use `avp_at`.
+// The AVPs of a message one after another, by a reader that holds the message and a place in it. Its functions are thin: they make
+// one, or take it apart and hand slice and place on. Callers with a plain slice use `avp_at`.
 use message::Head;
 ghost use mathlib.Core.Path.{_≡_};
 ghost use Prim.Native.Nat.{_+_, _≤_};
