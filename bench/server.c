@@ -11,6 +11,13 @@ enum { BARRED = 1, MAY_ROAM = 2 };
 enum { RESULT = 1, EXPERIMENTAL = 2 };
 enum { VENDOR = 10415 };
 
+/* Loops that are better off with all registers to themselves. */
+#ifdef __GNUC__
+#define APART __attribute__((noinline))
+#else
+#define APART
+#endif
+
 /* ---- words and texts ---- */
 
 static inline uint64_t word(const uint8_t *p) {
@@ -19,15 +26,25 @@ static inline uint64_t word(const uint8_t *p) {
     return w;
 }
 
-static inline uint32_t number(const uint8_t *p) {
+/* Between the machine's order and the network's, both ways: compilers have one instruction for the swap. */
+static inline uint32_t network(uint32_t n) {
+#if defined __BYTE_ORDER__ && __BYTE_ORDER__ == __ORDER_LITTLE_ENDIAN__
+    return n << 24 | (n & 0xFF00) << 8 | (n >> 8 & 0xFF00) | n >> 24;
+#else
+    const uint8_t *p = (const uint8_t *)&n;
     return (uint32_t)p[0] << 24 | (uint32_t)p[1] << 16 | (uint32_t)p[2] << 8 | p[3];
+#endif
+}
+
+static inline uint32_t number(const uint8_t *p) {
+    uint32_t n;
+    memcpy(&n, p, 4);
+    return network(n);
 }
 
 static inline void put_number(uint8_t *p, uint32_t n) {
-    p[0] = (uint8_t)(n >> 24);
-    p[1] = (uint8_t)(n >> 16);
-    p[2] = (uint8_t)(n >> 8);
-    p[3] = (uint8_t)n;
+    n = network(n);
+    memcpy(p, &n, 4);
 }
 
 /* Are `bytes` (8 or more) all zero? The last word may overlap the one before. */
@@ -206,20 +223,23 @@ static bool row_sound(const uint8_t *row, struct row_use *use) {
            line_sound(row, use) && entries_sound(row) && sums_agree(row) && places_sound(row, use);
 }
 
-/* The first row of this name, or none. A row's start is the byte 1, the length and the name; one word of it decides for almost
- * every row: the one that ends with the name, or the first one under a mask where the name is shorter. */
-static uint8_t *find_row(uint8_t *table, size_t table_length, const uint8_t *name, size_t length) {
+/* The first row of this name, or none. A row starts with the byte 1, the length and the name. The word that ends with the name
+ * tells almost every row apart; where the name is too short for one, the first byte does. */
+static APART uint8_t *find_row(uint8_t *table, size_t table_length, const uint8_t *name, size_t length) {
     if (length < 1 || length > NAME_MOST)
         return 0;
-    uint8_t start[2 + NAME_MOST + 7] = {1, (uint8_t)length}, covered[8];
+    uint8_t start[2 + NAME_MOST] = {1, (uint8_t)length}, *end = table + table_length;
     memcpy(start + 2, name, length);
-    for (size_t i = 0; i < 8; i++)
-        covered[i] = i < length + 2 ? 0xFF : 0;
-    size_t at = length > 6 ? length - 6 : 0;
-    uint64_t mask = word(covered), wanted = word(start + at) & mask;
-    uint8_t *end = table + table_length;
+    if (length >= 6) {
+        size_t at = length - 6;
+        uint64_t wanted = word(start + at);
+        for (uint8_t *row = table; row != end; row += WM_ROW)
+            if (word(row + at) == wanted && memcmp(row, start, length + 2) == 0)
+                return row;
+        return 0;
+    }
     for (uint8_t *row = table; row != end; row += WM_ROW)
-        if ((word(row + at) & mask) == wanted && memcmp(row, start, length + 2) == 0)
+        if (row[0] == 1 && memcmp(row, start, length + 2) == 0)
             return row;
     return 0;
 }
@@ -320,18 +340,18 @@ static const uint8_t base_slot[297] = {[1] = USER_NAME,           [258] = AUTH_A
 /* What one walk gathers: bit s of `seen` and `twice` for slot s, where its value starts and how long it is (of the last one
  * where there are several: then only their number counts), and the stretch from the first Proxy-Info to the last one's end. */
 struct avps {
-    uint32_t seen, twice, proxies, proxies_end;
+    uint32_t seen, twice;
+    const uint8_t *proxies, *proxies_end;
     struct {
-        uint32_t at, length;
+        const uint8_t *start;
+        uint32_t length;
     } of[SLOTS];
 };
 
-static inline uint32_t slot_of(const uint8_t *avp, uint32_t code, bool vendor) {
-    if (!vendor)
-        return code < sizeof base_slot ? base_slot[code] : OTHER;
+static inline uint32_t vendor_slot(const uint8_t *avp) {
     if (number(avp + 8) != VENDOR)
         return OTHER;
-    switch (code) {
+    switch (number(avp)) {
     case 100:
         return APN;
     case 311:
@@ -345,44 +365,52 @@ static inline uint32_t slot_of(const uint8_t *avp, uint32_t code, bool vendor) {
     }
 }
 
-/* Where the AVP at `at` ends with its padding; `code` is set where one of the tests on it fails. */
-static inline uint32_t avp_end(uint32_t at, uint32_t end, uint32_t flags_length, uint32_t *code) {
-    uint32_t length = flags_length & 0xFFFFFF, next = at + ((length + 3) & ~3u);
+/* The tests on one AVP of which 8 bytes are there; `left` is a multiple of 4, so that the padding needs no test of its own. */
+static inline uint32_t avp_code(uint32_t flags_length, uint32_t left) {
+    uint32_t length = flags_length & 0xFFFFFF;
     if (flags_length & 0x1F000000)
-        *code = 3009;
-    else if (length < (flags_length >> 31 ? 12u : 8u) || next > end)
-        *code = 5014;
-    return next;
+        return 3009;
+    return length > left || length < (flags_length >> 31 ? 12u : 8u) ? 5014 : 0;
 }
 
-/* The whole walk: 0, or the code. */
-static uint32_t walk(const uint8_t *m, uint32_t end, struct avps *a) {
-    uint32_t seen = 0, twice = 0;
-    for (uint32_t at = 20, next; at < end; at = next) {
-        if (end - at < 8)
-            return 5014;
-        uint32_t flags_length = number(m + at + 4), code = 0;
-        next = avp_end(at, end, flags_length, &code);
-        if (code)
-            return code;
-        bool vendor = flags_length >> 31;
-        uint32_t slot = slot_of(m + at, number(m + at), vendor);
-        if (slot == OTHER)
-            continue;
-        uint32_t bit = 1u << slot, head = vendor ? 12 : 8;
-        if (slot == PROXY_INFO) {
-            if (!(seen & bit))
-                a->proxies = at;
-            a->proxies_end = next;
-        }
-        twice |= seen & bit;
-        seen |= bit;
-        a->of[slot].at = at + head;
-        a->of[slot].length = (flags_length & 0xFFFFFF) - head;
+static inline void gather(struct avps *a, uint32_t slot, const uint8_t *p, uint32_t head, uint32_t length,
+                          const uint8_t *next) {
+    uint32_t bit = 1u << slot;
+    if (slot == PROXY_INFO) {
+        if (!(a->seen & bit))
+            a->proxies = p;
+        a->proxies_end = next;
     }
-    a->seen = seen;
-    a->twice = twice;
-    return 0;
+    a->twice |= a->seen & bit;
+    a->seen |= bit;
+    a->of[slot].start = p + head;
+    a->of[slot].length = length - head;
+}
+
+/* The whole walk: 0, or the code. All but a few AVPs are of the base: they have V clear, and one test tells. */
+static APART uint32_t walk(const uint8_t *m, const uint8_t *end, struct avps *a) {
+    const uint8_t *p = m + 20, *next;
+    for (; end - p >= 8; p = next) {
+        uint32_t flags_length = number(p + 4), length = flags_length & 0xFFFFFF, slot;
+        if (flags_length & 0x9F000000) {
+            uint32_t code = avp_code(flags_length, (uint32_t)(end - p));
+            if (code)
+                return code;
+            next = p + ((length + 3) & ~3u);
+            slot = vendor_slot(p);
+            if (slot != OTHER)
+                gather(a, slot, p, 12, length, next);
+        } else {
+            next = p + ((length + 3) & ~3u);
+            if (length < 8 || next > end)
+                return 5014;
+            slot = number(p);
+            slot = slot < sizeof base_slot ? base_slot[slot] : OTHER;
+            if (slot != OTHER)
+                gather(a, slot, p, 8, length, next);
+        }
+    }
+    return p == end ? 0 : 5014;
 }
 
 static uint32_t header_code(const uint8_t *m) {
@@ -402,9 +430,8 @@ static uint32_t header_code(const uint8_t *m) {
 static uint32_t first_session(const uint8_t *m, uint32_t end) {
     if (end < 28 || number(m + 20) != 263)
         return 0;
-    uint32_t flags_length = number(m + 24), code = 0, length = (flags_length & 0xFFFFFF) - 8;
-    avp_end(20, end, flags_length, &code);
-    return code == 0 && !(flags_length >> 31) && length <= TEXT_MOST ? length : 0;
+    uint32_t flags_length = number(m + 24), length = (flags_length & 0xFFFFFF) - 8;
+    return !(flags_length >> 31) && length <= TEXT_MOST && avp_code(flags_length, end - 20) == 0 ? length : 0;
 }
 
 /* ---- the lists ---- */
@@ -427,13 +454,13 @@ static inline uint32_t text_if(const struct avps *a, enum slot s, uint32_t most,
     return required || (a->seen >> s & 1) ? text(a, s, most) : 0;
 }
 
-static inline uint32_t value(const uint8_t *m, const struct avps *a, enum slot s, uint32_t least, uint32_t most) {
+static inline uint32_t value(const struct avps *a, enum slot s, uint32_t least, uint32_t most) {
     uint32_t code = stands_once(a, s);
     if (code)
         return code;
     if (a->of[s].length != 4)
         return 5014;
-    return number(m + a->of[s].at) - least <= most - least ? 0 : 5004;
+    return number(a->of[s].start) - least <= most - least ? 0 : 5004;
 }
 
 #define TRY(test)          \
@@ -447,20 +474,20 @@ static uint32_t lists(const uint8_t *m, const struct avps *a, bool opening_or_po
     if (!(a->seen >> SESSION_ID & 1) || number(m + 20) != 263 || m[24] >> 7)
         return 5005;
     TRY(text(a, SESSION_ID, TEXT_MOST));
-    TRY(value(m, a, AUTH_APPLICATION, 1, 1));
+    TRY(value(a, AUTH_APPLICATION, 1, 1));
     TRY(text(a, ORIGIN_HOST, TEXT_MOST));
     TRY(text(a, ORIGIN_REALM, TEXT_MOST));
     TRY(text(a, DESTINATION_REALM, TEXT_MOST));
     if (opening_or_policy)
-        TRY(value(m, a, AUTH_TYPE, 2, 2));
+        TRY(value(a, AUTH_TYPE, 2, 2));
     else
-        TRY(value(m, a, CAUSE, 1, 8));
+        TRY(value(a, CAUSE, 1, 8));
     TRY(text(a, DESTINATION_HOST, TEXT_MOST));
     TRY(text(a, USER_NAME, TEXT_MOST));
     if (!opening_or_policy)
         return text(a, APN, LABEL_MOST);
-    TRY(value(m, a, REQUEST_TYPE, 0, 1));
-    bool policy = m[a->of[REQUEST_TYPE].at + 3];
+    TRY(value(a, REQUEST_TYPE, 0, 1));
+    bool policy = a->of[REQUEST_TYPE].start[3];
     TRY(text_if(a, VISITED_NETWORK, TEXT_MOST, false));
     TRY(text_if(a, APN, LABEL_MOST, !policy));
     return text_if(a, ROUTING_POLICY, TEXT_MOST, policy);
@@ -478,7 +505,7 @@ struct call {
 };
 
 static inline const uint8_t *field(const struct call *c, enum slot s) {
-    return c->m + c->a.of[s].at;
+    return c->a.of[s].start;
 }
 
 /* The place leaves the order line, which closes up, and the mask; its block is zeroed. */
@@ -617,21 +644,20 @@ static uint8_t *put_subscription(uint8_t *to, const uint8_t *name, size_t length
 }
 
 /* Each stretch of Proxy-Infos that stand together is one copy. */
-static uint8_t *put_proxies(uint8_t *to, const uint8_t *m, const struct avps *a) {
-    if (!(a->seen >> PROXY_INFO & 1))
-        return to;
-    uint32_t from = a->proxies, at = from;
-    while (at < a->proxies_end) {
-        uint32_t flags_length = number(m + at + 4), next = at + (((flags_length & 0xFFFFFF) + 3) & ~3u);
-        if (number(m + at) != 284 || flags_length >> 31) {
-            memcpy(to, m + from, at - from);
-            to += at - from;
+static uint8_t *put_proxies(uint8_t *to, const struct avps *a) {
+    const uint8_t *from = a->proxies, *p = from;
+    while (p != a->proxies_end) {
+        uint32_t flags_length = number(p + 4);
+        const uint8_t *next = p + (((flags_length & 0xFFFFFF) + 3) & ~3u);
+        if (number(p) != 284 || flags_length >> 31) {
+            memcpy(to, from, (size_t)(p - from));
+            to += p - from;
             from = next;
         }
-        at = next;
+        p = next;
     }
-    memcpy(to, m + from, at - from);
-    return to + (at - from);
+    memcpy(to, from, (size_t)(p - from));
+    return to + (p - from);
 }
 
 struct own {
@@ -657,7 +683,8 @@ static void write_answer(uint8_t *answer, const struct call *c, const struct own
     to = put_text(to, 296, own->realm, own->realm_length);
     if (aa && o->code == 2001)
         to = put_subscription(to, field(c, USER_NAME), c->a.of[USER_NAME].length);
-    to = put_proxies(to, m, &c->a);
+    if (c->a.seen >> PROXY_INFO & 1)
+        to = put_proxies(to, &c->a);
     o->length = (uint32_t)(to - answer);
     put_number(answer, 0x01000000 | o->length);
 }
@@ -698,10 +725,13 @@ struct wm_outcome plain_handle(uint8_t *table, size_t table_length, const uint8_
     c.a.seen = c.a.twice = 0;
     o.kind = RESULT;
     o.code = header_code(message);
-    if (o.code == 0)
-        o.code = walk(message, (uint32_t)message_length, &c.a);
-    if (o.code == 0)
-        o.code = lists(message, &c.a, aa);
+    if (o.code == 0) {
+        o.code = walk(message, message + message_length, &c.a);
+        if (o.code)
+            c.a.seen = 0; /* no Proxy-Info is copied */
+        else
+            o.code = lists(message, &c.a, aa);
+    }
     if (o.code == 0) {
         c.row = find_row(table, table_length, field(&c, USER_NAME), c.a.of[USER_NAME].length);
         if (!c.row) {
@@ -711,7 +741,7 @@ struct wm_outcome plain_handle(uint8_t *table, size_t table_length, const uint8_
             o.code = 5012;
         } else if (!aa) {
             decide_termination(&c, &o);
-        } else if (message[c.a.of[REQUEST_TYPE].at + 3]) {
+        } else if (c.a.of[REQUEST_TYPE].start[3]) {
             decide_policy(&c, wag, &o);
         } else {
             decide_opening(&c, &o);
