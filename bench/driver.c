@@ -3,23 +3,24 @@
  *   driver lines                   the names of the lines
  *   driver check                   every line and both libraries: outcomes, tables, answer and notice rooms are the same, and
  *                                  the outcome is the one expected
- *   driver mix CALLS SEED          the same on damaged messages and damaged rows
+ *   driver mix CALLS SEED          the same on calls by chance (mix.c)
+ *   driver answers FILE CALLS      the proved library's answers to such calls, one behind the other, into a file
  *   driver count LINE LIBRARY N    N calls of one line, for the counting of instructions; LIBRARY is proved, plain or none
  *   driver time                    one table of time ratios, the libraries measured in turn
  */
-#include "plain.h"
+#include "requests.h"
 
 int printf(const char *, ...);
 int strcmp(const char *, const char *);
 unsigned long strtoul(const char *, char **, int);
-size_t strlen(const char *);
 struct timespec {
     long tv_sec, tv_nsec;
 };
 int clock_gettime(int, struct timespec *);
+int mix(uint32_t calls, uint64_t seed, const char *answers);
 enum { CLOCK_MONOTONIC = 1 };
 
-enum { ROWS = 1024, MESSAGES = 12, MESSAGE_MOST = 4096 };
+enum { ROWS = 1024, MESSAGES = 12 };
 
 typedef struct wm_outcome handle_function(uint8_t *, size_t, const uint8_t *, size_t, const uint8_t *, size_t,
                                           const uint8_t *, size_t, bool, uint8_t *, size_t, uint8_t *, size_t);
@@ -43,70 +44,19 @@ struct lent {
 static struct lent lent[2];
 static uint8_t saved[WM_ROW]; /* the subscriber's row as it was set up */
 
-static struct {
-    uint8_t bytes[MESSAGE_MOST];
-    size_t length;
-} messages[MESSAGES];
+static struct request messages[MESSAGES];
 
 static const char host[] = "aaa1.wlan.mnc001.mcc001.3gppnetwork.org", realm[] = "wlan.mnc001.mcc001.3gppnetwork.org";
 static const char gateway[] = "pdg1.wlan.mnc001.mcc001.3gppnetwork.org", label[] = "internet.operator.example";
 
 /* ---- messages ---- */
 
-static uint8_t *message;
-static size_t at;
-
-static void put_number(size_t bytes, uint32_t n) {
-    for (size_t i = bytes; i-- > 0; n /= 256)
-        message[at + i] = (uint8_t)n;
-    at += bytes;
-}
-
-/* An AVP: M set; V and the vendor 10415 for those of 3GPP. */
-static void put_avp(uint32_t code, bool of_3gpp, const void *value, size_t length) {
-    put_number(4, code);
-    put_number(1, of_3gpp ? 0xC0 : 0x40);
-    put_number(3, (uint32_t)((of_3gpp ? 12 : 8) + length));
-    if (of_3gpp)
-        put_number(4, 10415);
-    memcpy(message + at, value, length);
-    at += length;
-    while (at % 4 != 0)
-        message[at++] = 0;
-}
-
-static void put_text(uint32_t code, const char *text) {
-    put_avp(code, false, text, strlen(text));
-}
-
-static void put_value(uint32_t code, bool of_3gpp, uint32_t n) {
-    uint8_t value[4] = {(uint8_t)(n >> 24), (uint8_t)(n >> 16), (uint8_t)(n >> 8), (uint8_t)n};
-    put_avp(code, of_3gpp, value, 4);
-}
-
-static void start(size_t i, uint32_t flags, uint32_t command) {
-    message = messages[i].bytes;
-    at = 4;
-    put_number(1, flags);
-    put_number(3, command);
-    put_number(4, 1);
-    put_number(4, 0x1234567 + (uint32_t)i);
-    put_number(4, 0x89ABCDE + (uint32_t)i);
-}
-
-static void finish(size_t i) {
-    messages[i].length = at;
-    at = 0;
-    put_number(1, 1);
-    put_number(3, (uint32_t)messages[i].length);
-}
-
 /* The usual Session-Id: the gateway's name, two numbers and a mark, 72 bytes; `number` tells them apart. */
-static void put_session(uint32_t number) {
+static void put_session(struct request *r, uint32_t number) {
     char text[] = "pdg1.wlan.mnc001.mcc001.3gppnetwork.org;3402123456;0000000000;tunnel-aaa";
     for (size_t i = strlen(text) - 12; number != 0; i--, number /= 10)
         text[i] = (char)('0' + number % 10);
-    put_text(263, text);
+    put_text(r, 263, text);
 }
 
 /* Names of 15 digits that differ in the last ones. */
@@ -118,51 +68,44 @@ static const uint8_t *name_of(uint32_t row) {
     return name;
 }
 
-static void put_common(uint32_t session, bool termination) {
-    put_session(session);
-    put_value(258, false, 1);
-    put_text(264, gateway);
-    put_text(296, realm);
-    put_text(283, realm);
-    put_value(termination ? 295 : 274, false, termination ? 1 : 2);
-    put_text(293, host);
+static void put_common(struct request *r, uint32_t session, bool termination) {
+    put_session(r, session);
+    put_value(r, 258, false, 1);
+    put_text(r, 264, gateway);
+    put_text(r, 296, realm);
+    put_text(r, 283, realm);
+    put_value(r, termination ? 295 : 274, false, termination ? 1 : 2);
+    put_text(r, 293, host);
 }
 
-static void put_opening(size_t i, uint32_t session, uint32_t row) {
-    start(i, 0xC0, 265);
-    put_common(session, false);
-    put_avp(1, false, name_of(row), 15);
-    put_value(311, true, 0);
-    put_avp(100, true, label, sizeof label - 1);
-    finish(i);
+/* 388 bytes. */
+static void put_opening(uint32_t i, uint32_t session, uint32_t row) {
+    struct request *r = &messages[i];
+    start(r, 0xC0, 265, 1, i);
+    put_common(r, session, false);
+    put_avp(r, 1, false, name_of(row), 15);
+    put_value(r, 311, true, 0);
+    put_avp(r, 100, true, label, sizeof label - 1);
+    finish(r);
 }
 
-static void put_policy(size_t i, uint32_t session, uint32_t row, const char *policy) {
-    start(i, 0xC0, 265);
-    put_common(session, false);
-    put_avp(1, false, name_of(row), 15);
-    put_value(311, true, 1);
-    put_avp(312, true, policy, strlen(policy));
-    finish(i);
+static void put_policy(uint32_t i, uint32_t session, uint32_t row, const char *policy) {
+    struct request *r = &messages[i];
+    start(r, 0xC0, 265, 1, i);
+    put_common(r, session, false);
+    put_avp(r, 1, false, name_of(row), 15);
+    put_value(r, 311, true, 1);
+    put_avp(r, 312, true, policy, strlen(policy));
+    finish(r);
 }
 
-static void put_termination(size_t i, uint32_t session, uint32_t row) {
-    start(i, 0xC0, 275);
-    put_common(session, true);
-    put_avp(1, false, name_of(row), 15);
-    put_avp(100, true, label, sizeof label - 1);
-    finish(i);
-}
-
-/* Goes on behind message i. */
-static void resume(size_t i) {
-    message = messages[i].bytes;
-    at = messages[i].length;
-}
-
-static void put_proxy_info(void) {
-    static const char inside[] = "\0\0\1\30\100\0\0\27proxy1.example.org\0\0\0\0\0\41\100\0\0\20state-42";
-    put_avp(284, false, inside, sizeof inside - 1);
+static void put_termination(uint32_t i, uint32_t session, uint32_t row) {
+    struct request *r = &messages[i];
+    start(r, 0xC0, 275, 1, i);
+    put_common(r, session, true);
+    put_avp(r, 1, false, name_of(row), 15);
+    put_avp(r, 100, true, label, sizeof label - 1);
+    finish(r);
 }
 
 /* ---- lines ---- */
@@ -246,49 +189,47 @@ static void no_label(void) {
 
 static void bare(void) {
     cutting();
-    start(0, 0xC0, 265);
-    finish(0);
+    start(&messages[0], 0xC0, 265, 1, 0);
+    finish(&messages[0]);
+}
+
+static void put_tiny(struct request *r) {
+    while (r->length + 8 <= MESSAGE_MOST)
+        put_avp(r, 33, false, "", 0);
+    finish(r);
 }
 
 static void tiny_refused(void) {
     cutting();
-    start(0, 0xC0, 265);
-    while (at + 8 <= MESSAGE_MOST)
-        put_avp(33, false, "", 0);
-    finish(0);
+    start(&messages[0], 0xC0, 265, 1, 0);
+    put_tiny(&messages[0]);
 }
 
 static void tiny_opened(void) {
     cutting();
-    for (size_t i = 0; i < MESSAGES; i++) {
-        resume(i);
-        while (at + 8 <= MESSAGE_MOST)
-            put_avp(33, false, "", 0);
-        finish(i);
+    for (size_t i = 0; i < MESSAGES; i++)
+        put_tiny(&messages[i]);
+}
+
+/* Proxy-Infos, each followed by a Route-Record where they stand apart. */
+static void put_proxies(size_t count, bool apart) {
+    cutting();
+    for (struct request *r = messages; r < messages + MESSAGES; r++) {
+        for (size_t i = 0; i < count; i++) {
+            put_proxy_info(r);
+            if (apart)
+                put_text(r, 282, "relay.example.org");
+        }
+        finish(r);
     }
 }
 
 static void many_proxies(void) {
-    cutting();
-    for (size_t i = 0; i < MESSAGES; i++) {
-        resume(i);
-        while (at + 56 <= MESSAGE_MOST)
-            put_proxy_info();
-        finish(i);
-    }
+    put_proxies(64, false);
 }
 
-/* Between two Proxy-Infos stands a Route-Record. */
 static void proxies_apart(void) {
-    cutting();
-    for (size_t i = 0; i < MESSAGES; i++) {
-        resume(i);
-        while (at + 84 <= MESSAGE_MOST) {
-            put_proxy_info();
-            put_text(282, "relay.example.org");
-        }
-        finish(i);
-    }
+    put_proxies(40, true);
 }
 
 static void unknown(void) {
@@ -317,8 +258,8 @@ static const struct line lines[] = {
     {"refused: no W-APN", no_label, 1, 1, false, {5005, 1, 0, 0, 0, 0, 0}},
     {"refused: 509 AVPs of 8 bytes", tiny_refused, 1, 1, false, {5005, 1, 0, 0, 0, 0, 0}},
     {"opening with a cut, 463 more AVPs", tiny_opened, 1, MESSAGES, false, {2001, 1, 0, 0, 1, 72, 39}},
-    {"opening with a cut, 66 Proxy-Infos", many_proxies, 1, MESSAGES, false, {2001, 1, 0, 0, 1, 72, 39}},
-    {"opening with a cut, 44 Proxy-Infos apart", proxies_apart, 1, MESSAGES, false, {2001, 1, 0, 0, 1, 72, 39}},
+    {"opening with a cut, 64 Proxy-Infos", many_proxies, 1, MESSAGES, false, {2001, 1, 0, 0, 1, 72, 39}},
+    {"opening with a cut, 40 Proxy-Infos apart", proxies_apart, 1, MESSAGES, false, {2001, 1, 0, 0, 1, 72, 39}},
     {"unknown user, 1,024 rows", unknown, 1024, 1, false, {5001, 2, 0, 0, 0, 0, 0}},
     {"unsound row", unsound, 1, 1, false, {5012, 1, 0, 0, 0, 0, 0}},
 };
@@ -392,49 +333,6 @@ static int check(void) {
     return failed != 0;
 }
 
-static uint64_t seed;
-
-static uint32_t random_below(uint32_t n) {
-    seed = seed * 6364136223846793005u + 1442695040888963407u;
-    return (uint32_t)(seed >> 33) % n;
-}
-
-/* A few bytes of a message, or of the subscriber's row, are another; the row is set back now and then. */
-static int mix(uint32_t calls) {
-    uint32_t failed = 0, codes = 0;
-    static uint32_t seen[64];
-    for (uint32_t n = 0; n < calls && failed < 10; n++) {
-        const struct line *line = &lines[random_below(LINES)];
-        if (line->rows > 1)
-            line = &lines[0];
-        set_up(line);
-        for (uint32_t k = 0; k < 8; k++) {
-            size_t i = random_below(line->messages);
-            for (uint32_t f = random_below(3); f > 0; f--) {
-                uint32_t where = random_below(2) ? random_below(64) : random_below((uint32_t)messages[i].length);
-                if (where < messages[i].length)
-                    messages[i].bytes[where] ^= (uint8_t)(1u << random_below(8));
-            }
-            if (random_below(4) == 0) {
-                uint32_t where = random_below(2) ? random_below(64) : random_below(WM_ROW);
-                lent[0].table[where] ^= (uint8_t)(1u << random_below(8));
-                lent[1].table[where] = lent[0].table[where];
-            }
-            struct wm_outcome o;
-            if (!agree(line, i, &o))
-                failed++;
-            for (uint32_t j = 0; j < 64; j++) {
-                if (seen[j] == 0)
-                    codes++, seen[j] = o.code + 10000 * o.kind;
-                if (seen[j] == o.code + 10000 * o.kind)
-                    break;
-            }
-        }
-    }
-    printf("mix: %u calls, %u differ, %u outcomes seen\n", 8 * calls, failed, codes);
-    return failed != 0;
-}
-
 /* ---- measuring ---- */
 
 static uint32_t run(const struct line *line, handle_function *handle, struct lent *l, uint32_t calls) {
@@ -472,10 +370,11 @@ int main(int count, char **words) {
             printf("%s\n", lines[i].name);
     else if (!strcmp(what, "check"))
         return check();
-    else if (!strcmp(what, "mix") && count == 4) {
-        seed = strtoul(words[3], 0, 10);
-        return mix((uint32_t)strtoul(words[2], 0, 10));
-    } else if (!strcmp(what, "time"))
+    else if (!strcmp(what, "mix") && count == 4)
+        return mix((uint32_t)strtoul(words[2], 0, 10), strtoul(words[3], 0, 10), 0);
+    else if (!strcmp(what, "answers") && count == 4)
+        return mix((uint32_t)strtoul(words[3], 0, 10), 1, words[2]);
+    else if (!strcmp(what, "time"))
         for (size_t i = 0; i < LINES; i++)
             time_line(&lines[i]);
     else if (!strcmp(what, "count") && count == 5) {
@@ -485,7 +384,7 @@ int main(int count, char **words) {
             if (!strcmp(words[3], libraries[k].name))
                 printf("%u\n", run(line, libraries[k].handle, &lent[0], (uint32_t)strtoul(words[4], 0, 10)));
     } else {
-        printf("driver: lines, check, mix CALLS SEED, count LINE LIBRARY N, or time\n");
+        printf("driver: lines, check, mix CALLS SEED, answers FILE CALLS, count LINE LIBRARY N, or time\n");
         return 2;
     }
     return 0;
