@@ -106,18 +106,18 @@ fn say_set_up(what: &[u8], number: u32) {
 
 // The subscriber of the cases, on a fresh table of one row.
 fn set_up(table: &mut [u8]) {
-    say_set_up(b"  clear: ", changes::clear(table));
+    say_set_up(b"  clear: ", setup::clear(table));
     say_set_up(
         b"  enter 001010123456789: ",
-        changes::enter(table, b"001010123456789"),
+        setup::enter(table, b"001010123456789"),
     );
     say_set_up(
         b"  add board, limit 2: ",
-        changes::add(table, b"001010123456789", b"board", 2, 0),
+        setup::add(table, b"001010123456789", b"board", 2, 0),
     );
     say_set_up(
         b"  add yard, limit 1, barred: ",
-        changes::add(table, b"001010123456789", b"yard", 1, 1),
+        setup::add(table, b"001010123456789", b"yard", 1, 1),
     );
     say_line(table);
 }
