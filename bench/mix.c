@@ -54,6 +54,14 @@ static const struct text *pick(const struct text *of, uint32_t count) {
     return &of[one_in(40) ? below(count) : below(count - 2 < 7 ? count - 2 : 7)];
 }
 
+/* Where the answers are for another decoder: requests are wrong in their fields only, commands are known ones, and a
+ * subscriber's name is as long as an IMSI is. */
+static bool decoded;
+
+static const struct text *pick_name(void) {
+    return decoded && !one_in(40) ? &names[3 + below(4)] : PICK(names);
+}
+
 /* ---- a request ---- */
 
 /* A field of the list: now and then it is absent, twice there, of another vendor, or as long as it must not be. */
@@ -109,7 +117,7 @@ static void fields(struct request *r, bool termination, uint32_t type) {
             text_field(r, 293, false, PICK(texts));
             break;
         case 6:
-            text_field(r, 1, false, PICK(names));
+            text_field(r, 1, false, pick_name());
             break;
         case 7:
             if (termination || type == 0 || one_in(4))
@@ -134,12 +142,12 @@ static void damage(uint8_t *bytes, size_t length, uint32_t times) {
         bytes[one_in(2) && length > 64 ? below(64) : below((uint32_t)length)] ^= (uint8_t)(1u << below(8));
 }
 
-static void by_chance(struct request *r, bool whole) {
+static void by_chance(struct request *r) {
     bool termination = one_in(4);
     uint32_t flags = one_in(40) ? below(256) : 0x80 + 0x40 * below(2) + 0x10 * one_in(8);
-    if (whole)
+    if (decoded)
         flags |= 0x80;
-    start(r, flags, one_in(100) ? 272 + below(4) : termination ? 275 : 265, one_in(60) ? below(3) : 1, below(9999));
+    start(r, flags, one_in(100) ? 272 + (decoded ? 2 : below(4)) : termination ? 275 : 265, one_in(60) ? below(3) : 1, below(9999));
     if (one_in(60))
         put_text(r, 33, "before");
     text_field(r, 263, false, PICK(sessions));
@@ -148,10 +156,14 @@ static void by_chance(struct request *r, bool whole) {
     if (one_in(100))
         while (r->length < MESSAGE_MOST - 8 + 4 * below(4))
             put_avp(r, 33, false, "", 0);
+    if (one_in(100)) {
+        put_text(r, 33, "");
+        r->bytes[r->length - 4] |= 1;
+    }
     finish(r);
-    if (!whole && one_in(8))
+    if (!decoded && one_in(8))
         damage(r->bytes, r->length, 1 + below(3));
-    if (!whole && one_in(100))
+    if (!decoded && one_in(100))
         r->length = one_in(2) ? below(24) : r->length - below(6);
 }
 
@@ -169,7 +181,7 @@ static size_t table_length(void) {
 
 static bool set_up(uint32_t *number) {
     size_t length = table_length();
-    const struct text *name = PICK(names), *label = PICK(labels);
+    const struct text *name = decoded ? &names[3 + below(4)] : PICK(names), *label = PICK(labels);
     const uint8_t *n = (const uint8_t *)name->bytes, *l = (const uint8_t *)label->bytes;
     uint8_t limit = (uint8_t)(one_in(20) ? below(12) : 1 + below(3)), flags = (uint8_t)(one_in(20) ? below(6) : 2 * below(2));
     if (one_in(12)) {
@@ -184,12 +196,12 @@ static bool set_up(uint32_t *number) {
     return *number == plain_add(plain.table, length, n, name->length, l, label->length, limit, flags);
 }
 
-static bool request(bool whole, struct wm_outcome *o) {
+static bool request(struct wm_outcome *o) {
     static struct request r;
     const struct text *host = PICK(texts), *realm = PICK(texts);
     size_t table = table_length(), answer = WM_ANSWER_LEAST, notice = WM_NOTICE_LEAST;
     bool wag = !one_in(4);
-    by_chance(&r, whole);
+    by_chance(&r);
     if (one_in(100))
         answer = answer + below(3) - 1;
     if (one_in(100))
@@ -213,16 +225,17 @@ static uint32_t outcomes(uint32_t outcome) {
     return count;
 }
 
-/* Where answers go to a file, requests are not damaged bit by bit and rows not at all. */
+/* Both libraries on `calls` calls; the proved one's answers go to the file, where one is named. */
 int mix(uint32_t calls, uint64_t from, const char *answers) {
     uint32_t differ = 0, kinds = 0, written = 0;
     FILE *file = answers ? fopen(answers, "wb") : 0;
     if (answers && !file)
         return 2;
     seed = from;
+    decoded = file != 0;
     for (uint32_t n = 0; n < calls && differ < 10; n++) {
         struct wm_outcome o = {0};
-        bool setting_up = one_in(8), agree = setting_up ? set_up(&o.code) : request(file != 0, &o);
+        bool setting_up = one_in(8), agree = setting_up ? set_up(&o.code) : request(&o);
         kinds = outcomes(setting_up ? 20000 + o.code : o.code + 10000 * (o.kind == 2));
         if (!agree || !same_rooms()) {
             printf("mix: call %u of seed %llu: the libraries differ; the proved one said %u\n", n, (unsigned long long)from, o.code);
@@ -232,7 +245,7 @@ int mix(uint32_t calls, uint64_t from, const char *answers) {
             fwrite(proved.answer, 1, o.length, file);
             written++;
         }
-        if (!file && one_in(60)) {
+        if (!decoded && one_in(60)) {
             damage(proved.table + below(ROWS) * WM_ROW, one_in(2) ? 512 : WM_ROW, 1);
             memcpy(plain.table, proved.table, sizeof plain.table);
         }

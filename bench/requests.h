@@ -8,7 +8,7 @@ size_t strlen(const char *);
 
 enum { MESSAGE_MOST = 4096 };
 
-/* A request, and where it goes on. The room behind the longest message is for a test's AVP that is too much. */
+/* A request, and where it goes on; there is room for one that is too long. */
 struct request {
     uint8_t bytes[MESSAGE_MOST + 2048];
     size_t length;
