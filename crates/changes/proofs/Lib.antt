@@ -4,4 +4,5 @@ pub mod Bits
 pub mod Puts
 pub mod Steps
 pub mod Blocks
+pub mod Cuts
 pub mod Rows

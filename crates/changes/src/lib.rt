@@ -8,14 +8,14 @@ ghost use Rattle.octets.specs.Lists.{every, isOn};
 ghost use Rattle.table.specs.TheTable.{entryBytes, orderLine, readRow, rowAt, rowBytes, sealed, withRow};
 ghost use Rattle.table.specs.Soundness.{sound};
 ghost use Rattle.changes.specs.Changes.{freed, lowestFree, named, opened, routed, withEntry};
-ghost use Rattle.changes.specs.Writes.{closedUp, entriesWith, headWith, openedBytes, policyWith};
+ghost use Rattle.changes.specs.Writes.{closedUp, entriesWith, headWith, lowestClear, openedBytes, policyWith};
 
 // The sums of a block's first 510 bytes, written behind them: the second, then the first.
 pub fn seal(block: &mut [u8])
     requires { ⌜ length (now block) ≡ 512 ⌝ }
     ensures { λ _. ⌜ now (block .exit) ≡ sealed (take 510 (now (block .entry))) ⌝ }
 {
-    let s = table::sums_of(&block[0..510]);
+    let s = table::sums_of(block);
     let first = s.first as u8;
     let second = s.second as u8;
     block[510] = second;
@@ -28,6 +28,14 @@ fn bit_of(k: usize) -> u8
     ensures { λ r. ⌜ r ≡ 2 ^ (k - 1) ⌝ }
 {
     1u8 << (k - 1)
+}
+
+// The lowest place whose bit is clear: the zeros that the complement ends in are the places below it.
+pub fn lowest_free(bits: u8) -> usize
+    requires { ⌜ bits < 255 ⌝ }
+    ensures { λ r. ⌜ (r ≡ lowestClear bits) × (1 ≤ r) × (r ≤ 8) ⌝ }
+{
+    u8::trailing_zeros(!bits) as usize + 1
 }
 
 // The order line without place k: the places behind it close up.
@@ -131,8 +139,7 @@ pub fn free_place(row: &mut [u8], k: usize)
     write_line(&mut row[0..512], bits, &line);
 }
 
-// A new access takes the lowest free place and the end of the order line. The ones of byte 17 are the accesses in use, and the zeros that
-// its complement ends in are the places below the lowest that is free.
+// A new access takes the lowest free place and the end of the order line. The ones of byte 17 are the accesses in use.
 pub fn open_place(row: &mut [u8], entry: u8, session: &[u8], host: &[u8]) -> usize
     requires { ⌜ (sound (now row) ≡ true) × (length ((readRow (now row)) .accesses) < 8) × (length (now session) ≤ 128) × (length (now host) ≤ 128) ⌝ }
     ensures { λ r. ⌜ (now (row .exit) ≡ rowBytes (opened entry (now (session .entry)) (now (host .entry)) (readRow (now (row .entry)))))
@@ -140,11 +147,30 @@ pub fn open_place(row: &mut [u8], entry: u8, session: &[u8], host: &[u8]) -> usi
 {
     let bits = row[17];
     let count = u8::count_ones(bits) as usize;
-    let place = u8::trailing_zeros(!bits) as usize + 1;
+    let place = lowest_free(bits);
     let a = 512 * place;
     let e = a + 512;
     write_access(&mut row[a..e], entry, session, host);
     enlist(&mut row[0..512], bits + bit_of(place), count, place as u8);
+    place
+}
+
+// Place k is cut for a new access: it is freed, then the new access takes the lowest free place and the end of the order line.
+pub fn cut_and_open_place(row: &mut [u8], k: usize, entry: u8, session: &[u8], host: &[u8]) -> usize
+    requires { ⌜ (sound (now row) ≡ true) × (isOn (orderLine (now row)) k ≡ true) × (length (now session) ≤ 128) × (length (now host) ≤ 128) ⌝ }
+    ensures { λ r. ⌜ (now (row .exit) ≡ rowBytes (opened entry (now (session .entry)) (now (host .entry)) (freed k (readRow (now (row .entry))))))
+        × (r ≡ lowestFree ((freed k (readRow (now (row .entry)))) .accesses)) ⌝ }
+{
+    let bits = row[17] - bit_of(k);
+    let count = u8::count_ones(bits) as usize;
+    let place = lowest_free(bits);
+    let mut line = line_without(&row[20..28], k as u8);
+    line[count] = place as u8;
+    octets::put_zeros(row, 512 * k, 512);
+    let a = 512 * place;
+    let e = a + 512;
+    write_access(&mut row[a..e], entry, session, host);
+    write_line(&mut row[0..512], bits + bit_of(place), &line);
     place
 }
 
@@ -202,6 +228,25 @@ pub fn open(table: &mut [u8], i: usize, entry: u8, session: &[u8], host: &[u8]) 
     open_place(&mut table[a..e], entry, session, host)
 }
 
+pub fn cut_and_open(
+    table: &mut [u8],
+    i: usize,
+    k: usize,
+    entry: u8,
+    session: &[u8],
+    host: &[u8],
+) -> usize
+    requires { ⌜ (4608 * i + 4608 ≤ length (now table)) × (sound (rowAt (now table) i) ≡ true) × (isOn (orderLine (rowAt (now table) i)) k ≡ true)
+        × (length (now session) ≤ 128) × (length (now host) ≤ 128) ⌝ }
+    ensures { λ r. ⌜ (now (table .exit)
+        ≡ withRow (now (table .entry)) i (rowBytes (opened entry (now (session .entry)) (now (host .entry)) (freed k (readRow (rowAt (now (table .entry)) i))))))
+        × (r ≡ lowestFree ((freed k (readRow (rowAt (now (table .entry)) i))) .accesses)) ⌝ }
+{
+    let a = 4608 * i;
+    let e = a + 4608;
+    cut_and_open_place(&mut table[a..e], k, entry, session, host)
+}
+
 pub fn route(table: &mut [u8], i: usize, k: usize, policy: &[u8])
     requires { ⌜ (4608 * i + 4608 ≤ length (now table)) × (sound (rowAt (now table) i) ≡ true) × (isOn (orderLine (rowAt (now table) i)) k ≡ true)
         × (1 ≤ length (now policy)) × (length (now policy) ≤ 128) ⌝ }
@@ -211,5 +256,3 @@ pub fn route(table: &mut [u8], i: usize, k: usize, policy: &[u8])
     let e = a + 4608;
     replace_policy(&mut table[a..e], k, policy);
 }
-
-// SET-UP: a number other than 0 leaves the table as it was.
