@@ -32,9 +32,10 @@ static struct wm_outcome none_handle(uint8_t *t, size_t tl, const uint8_t *h, si
     return (struct wm_outcome){0};
 }
 
+/* volatile: the compiler must not see which function it is, or it takes the loop around the empty one away. */
 static const struct {
     const char *name;
-    handle_function *handle;
+    handle_function *volatile handle;
 } libraries[3] = {{"proved", wm_handle}, {"plain", plain_handle}, {"none", none_handle}};
 
 /* Everything that a library is lent. */

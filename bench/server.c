@@ -606,6 +606,22 @@ static void decide_termination(struct call *c, struct wm_outcome *o) {
     o->code = 2001;
 }
 
+static void decide(uint8_t *table, size_t table_length, struct call *c, bool aa, bool wag, struct wm_outcome *o) {
+    c->row = find_row(table, table_length, field(c, USER_NAME), c->a.of[USER_NAME].length);
+    if (!c->row) {
+        o->kind = EXPERIMENTAL;
+        o->code = 5001;
+    } else if (!row_sound(c->row, &c->use)) {
+        o->code = 5012;
+    } else if (!aa) {
+        decide_termination(c, o);
+    } else if (field(c, REQUEST_TYPE)[3]) {
+        decide_policy(c, wag, o);
+    } else {
+        decide_opening(c, o);
+    }
+}
+
 /* ---- writing the answer ---- */
 
 static inline uint8_t *put_head(uint8_t *to, uint32_t code, uint32_t length) {
@@ -732,21 +748,8 @@ struct wm_outcome plain_handle(uint8_t *table, size_t table_length, const uint8_
         else
             o.code = lists(message, &c.a, aa);
     }
-    if (o.code == 0) {
-        c.row = find_row(table, table_length, field(&c, USER_NAME), c.a.of[USER_NAME].length);
-        if (!c.row) {
-            o.kind = EXPERIMENTAL;
-            o.code = 5001;
-        } else if (!row_sound(c.row, &c.use)) {
-            o.code = 5012;
-        } else if (!aa) {
-            decide_termination(&c, &o);
-        } else if (c.a.of[REQUEST_TYPE].start[3]) {
-            decide_policy(&c, wag, &o);
-        } else {
-            decide_opening(&c, &o);
-        }
-    }
+    if (o.code == 0)
+        decide(table, table_length, &c, aa, wag, &o);
     write_answer(answer, &c, &own, first_session(message, (uint32_t)message_length), &o);
     return o;
 }
