@@ -85,8 +85,8 @@ fn write_access(block: &mut [u8], entry: u8, session: &[u8], host: &[u8])
     octets::clear(block);
     let head = [2, entry, session.len() as u8, host.len() as u8];
     octets::put_bytes(block, 0, &head);
-    octets::put_bytes(block, 8, session);
-    octets::put_bytes(block, 136, host);
+    copying::put_text(block, 8, session);
+    copying::put_text(block, 136, host);
     seal(block);
 }
 
@@ -98,7 +98,7 @@ fn write_policy(block: &mut [u8], policy: &[u8])
     block[4] = 1;
     block[5] = policy.len() as u8;
     octets::put_zeros(block, 264, 128);
-    octets::put_bytes(block, 264, policy);
+    copying::put_text(block, 264, policy);
     seal(block);
 }
 

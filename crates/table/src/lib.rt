@@ -140,16 +140,14 @@ fn rows_passed(t: &[u8], name: &[u8]) -> usize
         return 0;
     }
     let end = octets::eight(name, n - 8);
-    let mut i: usize = 0;
     let mut at: usize = n - 6;
     while at < t.len() {
         if octets::eight(t, at) == end {
-            return i;
+            break;
         }
-        i += 1;
         at += 4608;
     }
-    i
+    at / 4608
 }
 
 // A subscriber's row, sound or not.

@@ -1,6 +1,6 @@
 -- A row whose last eight bytes of a name are others is not the name's: `other-end` of Rows.
 use mathlib.Core.Path.{_≡_, sym, ap, _∙_}
-use Prim.Native.Nat.{ℕ, _+_, _-_, _*_, _/_, _<_, _≤_}
+use Prim.Native.Nat.{ℕ, _+_, _-_, _*_, _/_, _%_, _<_, _≤_}
 use native.Mathlib.Omega.{arith}
 use lib.ListN.{length}
 use borrow.Author.Needs.{needs}
@@ -14,10 +14,10 @@ use Rattle.table.proofs.rows_passed.Statement.{statement}
 use Rattle.table.proofs.rows_passed.Tie as tie
 
 abbrev Inv-loop : tie.InvT-loop
-Inv-loop t name n end i₀ at₀ i at = (at ≡ 4608 * i + (length name - 6)) × (i ≤ length t / 4608) × ((j : ℕ) → j < i → isRowOf name (rowAt t j) ≡ false)
+Inv-loop t name n end at₀ at = (at % 4608 ≡ length name - 6) × (at / 4608 ≤ length t / 4608) × ((j : ℕ) → j < at / 4608 → isRowOf name (rowAt t j) ≡ false)
 
 abbrev μ-loop : tie.MeasureT-loop
-μ-loop t name n end i₀ at₀ i at = length t - at
+μ-loop t name n end at₀ at = length t - at
 
 returns : tie.Need-returns Inv-loop μ-loop
 returns c = (omega arith, λ j l. absurd (omega arith))
@@ -39,12 +39,6 @@ eight-requires-2 c κs =
     let start = c .before .before .before .before .before .before .before in
     omega (arith, whole-rows (start .args .t .now) (start .pre))
 
-returns-3 : tie.Need-returns-3 Inv-loop μ-loop
-returns-3 c = search needs
-
-add-i : tie.Need-add-i Inv-loop μ-loop
-add-i c = search needs
-
 add-at : tie.Need-add-at Inv-loop μ-loop
 add-at c = search needs
 
@@ -57,12 +51,14 @@ loop-again c =
     let l = c .before .before .before .loop in
     let name = start .args .name .now in
     let t = start .args .t .now in
-    let other : isRowOf name (rowAt t (l .i)) ≡ false =
-    other-end t name (l .i) (l .at) (omega arith) (omega arith) (l .inv .0) (λ e. c .if3 .left (c .before .eight2 .ensures .0 ∙ e ∙ sym (c .before .before .before .before .eight .ensures .0))) in
-    (omega arith, omega (arith, whole-rows t (start .pre)), λ j h. by-test (eqb j (l .i)) (λ e. ap (λ (k : ℕ). isRowOf name (rowAt t k)) (eqb-true j (l .i) e) ∙ other) (λ e. l .inv .2 j (omega (arith, eqb-false j (l .i) e))))
+    let i : ℕ = l .at / 4608 in
+    let here : l .at ≡ 4608 * i + (length name - 6) = omega arith in
+    let other : isRowOf name (rowAt t i) ≡ false =
+    other-end t name i (l .at) (omega arith) (omega arith) here (λ e. c .if3 .left (c .before .eight2 .ensures .0 ∙ e ∙ sym (c .before .before .before .before .eight .ensures .0))) in
+    (omega arith, omega (arith, whole-rows t (start .pre)), λ j h. by-test (eqb j i) (λ e. ap (λ (k : ℕ). isRowOf name (rowAt t k)) (eqb-true j i e) ∙ other) (λ e. l .inv .2 j (omega (arith, eqb-false j i e))))
 
-returns-4 : tie.Need-returns-4 Inv-loop μ-loop
-returns-4 c = search needs
+returns-3 : tie.Need-returns-3 Inv-loop μ-loop
+returns-3 c = (c .before .loop .inv .1, c .before .loop .inv .2)
 
 pub rows-passed-spec : {M : Type 1} → statement M
 rows-passed-spec =
@@ -76,9 +72,7 @@ rows-passed-spec =
     sub-at
     loop-holds
     eight-requires-2
-    returns-3
-    add-i
     add-at
     loop-less
     loop-again
-    returns-4)
+    returns-3)
