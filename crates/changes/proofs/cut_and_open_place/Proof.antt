@@ -19,6 +19,35 @@ use Rattle.changes.proofs.Rows.{bit-in, length-opened, place-in, row-si
 use Rattle.changes.proofs.cut_and_open_place.Statement.{statement}
 use Rattle.changes.proofs.cut_and_open_place.Tie as tie
 
+returns : tie.Need-returns
+returns c = let start = c .before .before .before .before .before .before .before .before .before .before .before .before .before .before .before .before .before .before .before .before .before .before .before in
+    let r = start .args .row .now in
+    let k = start .args .k in
+    let sid = start .args .session .now in
+    let host = start .args .host .now in
+    let n = start .args .entry in
+    let lowest = c .before .before .before .before .before .before .before .before .before .before .before .before .before .before .before .before .before .lowest-free in
+    let closed = c .before .before .before .before .before .before .before .before .before .before .before .before .before .before .line-without in
+    let p : ℕ = lowest .result in
+    let a : ℕ = 512 * p in
+    let o : List ℕ = openedBytes n sid host in
+    let w = c .before .before .before .before .before .before .before .before .write-access in
+    let place : p ≡ lowestFree ((freed k (readRow r)) .accesses) =
+    lowest .ensures .0 ∙ ap (λ (x : ℕ). lowestClear (getD r 17 0 - x)) (c .before .before .before .before .before .before .before .before .before .before .before .before .before .before .before .before .before .before .bit-of .ensures) ∙ cut-lowest r k (start .pre .0) (start .pre .1) in
+    let size : length o ≡ a + 512 - a = length-opened n sid host ∙ omega arith in
+    let v : List ℕ = c .before .before .before .before .before .before .before .before .before .before .before .before .put-zeros .last .0 in
+    let z : List ℕ = take a v ++ (w .last .0 ++ drop (a + 512 - a) (drop a v)) in
+    let taken : z ≡ put (put r (512 * k) (zeros 512)) a o = back-put v a (a + 512) (w .last .0) o size (w .ensures) ∙ ap (λ (t : List ℕ). put t a o) (c .before .before .before .before .before .before .before .before .before .before .before .before .put-zeros .ensures) in
+    let bits : getD r 17 0 - c .before .before .before .before .before .before .before .before .before .before .before .before .before .before .before .before .before .before .bit-of .result ≡ getD r 17 0 - 2 ^ (k - 1) = ap (λ (x : ℕ). getD r 17 0 - x) (c .before .before .before .before .before .before .before .before .before .before .before .before .before .before .before .before .before .before .bit-of .ensures) in
+    let m : ℕ = ones (getD r 17 0 - 2 ^ (k - 1)) in (
+      ap (λ (t : List ℕ). t ++ drop 512 z)
+          (c .before .before .write-line .ensures
+          ∙ (λ i. headWith (take 512 z) (bits i + c .before .before .before .before .bit-of2 .ensures i) (set (closed .ensures i) (ones (bits i)) p)))
+          ∙ ap (λ (t : List ℕ). putBlock t 0 (headWith (take 512 t) (getD r 17 0 - 2 ^ (k - 1) + 2 ^ (p - 1)) (set (closedUp (part r 20 8) k) m p))) taken
+          ∙ cut-law r k (start .pre .0) (start .pre .1) n sid host p m place (cut-ones r k (start .pre .0) (start .pre .1)),
+      place,
+    )
+
 slice-read-bits : tie.Need-slice-read-bits
 slice-read-bits c =
     let start = c .before .before .before .before in
@@ -131,35 +160,6 @@ write-line-requires c κs = let start = c .before .before .before .before .befor
 
 same-length : tie.Need-same-length
 same-length c = search needs
-
-returns : tie.Need-returns
-returns c = let start = c .before .before .before .before .before .before .before .before .before .before .before .before .before .before .before .before .before .before .before .before .before .before .before in
-    let r = start .args .row .now in
-    let k = start .args .k in
-    let sid = start .args .session .now in
-    let host = start .args .host .now in
-    let n = start .args .entry in
-    let lowest = c .before .before .before .before .before .before .before .before .before .before .before .before .before .before .before .before .before .lowest-free in
-    let closed = c .before .before .before .before .before .before .before .before .before .before .before .before .before .before .line-without in
-    let p : ℕ = lowest .result in
-    let a : ℕ = 512 * p in
-    let o : List ℕ = openedBytes n sid host in
-    let w = c .before .before .before .before .before .before .before .before .write-access in
-    let place : p ≡ lowestFree ((freed k (readRow r)) .accesses) =
-    lowest .ensures .0 ∙ ap (λ (x : ℕ). lowestClear (getD r 17 0 - x)) (c .before .before .before .before .before .before .before .before .before .before .before .before .before .before .before .before .before .before .bit-of .ensures) ∙ cut-lowest r k (start .pre .0) (start .pre .1) in
-    let size : length o ≡ a + 512 - a = length-opened n sid host ∙ omega arith in
-    let v : List ℕ = c .before .before .before .before .before .before .before .before .before .before .before .before .put-zeros .last .0 in
-    let z : List ℕ = take a v ++ (w .last .0 ++ drop (a + 512 - a) (drop a v)) in
-    let taken : z ≡ put (put r (512 * k) (zeros 512)) a o = back-put v a (a + 512) (w .last .0) o size (w .ensures) ∙ ap (λ (t : List ℕ). put t a o) (c .before .before .before .before .before .before .before .before .before .before .before .before .put-zeros .ensures) in
-    let bits : getD r 17 0 - c .before .before .before .before .before .before .before .before .before .before .before .before .before .before .before .before .before .before .bit-of .result ≡ getD r 17 0 - 2 ^ (k - 1) = ap (λ (x : ℕ). getD r 17 0 - x) (c .before .before .before .before .before .before .before .before .before .before .before .before .before .before .before .before .before .before .bit-of .ensures) in
-    let m : ℕ = ones (getD r 17 0 - 2 ^ (k - 1)) in (
-      ap (λ (t : List ℕ). t ++ drop 512 z)
-          (c .before .before .write-line .ensures
-          ∙ (λ i. headWith (take 512 z) (bits i + c .before .before .before .before .bit-of2 .ensures i) (set (closed .ensures i) (ones (bits i)) p)))
-          ∙ ap (λ (t : List ℕ). putBlock t 0 (headWith (take 512 t) (getD r 17 0 - 2 ^ (k - 1) + 2 ^ (p - 1)) (set (closedUp (part r 20 8) k) m p))) taken
-          ∙ cut-law r k (start .pre .0) (start .pre .1) n sid host p m place (cut-ones r k (start .pre .0) (start .pre .1)),
-      place,
-    )
 
 pub cut-and-open-place-spec : {M : Type 1} → statement M
 cut-and-open-place-spec =
