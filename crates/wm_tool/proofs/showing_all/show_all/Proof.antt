@@ -1,0 +1,34 @@
+-- The row's number stays within the longest table.
+use Prim.Native.Nat.{_-_, _≤_}
+use borrow.Author.Needs.{needs}
+use Rattle.wm_tool.proofs.showing_all.show_all.Statement.{statement}
+use Rattle.wm_tool.proofs.showing_all.show_all.Tie as tie
+
+abbrev Inv-loop : tie.InvT-loop
+Inv-loop table out₀ i₀ out i = i ≤ 1024
+
+abbrev μ-loop : tie.MeasureT-loop
+μ-loop table out₀ i₀ out i = 1024 - i
+
+loop-holds : tie.Need-loop-holds Inv-loop μ-loop
+loop-holds c = search needs
+
+show-row-requires : tie.Need-show-row-requires Inv-loop μ-loop
+show-row-requires c κs = search needs
+
+add-i : tie.Need-add-i Inv-loop μ-loop
+add-i c = search needs
+
+loop-less : tie.Need-loop-less Inv-loop μ-loop
+loop-less c = search needs
+
+loop-again : tie.Need-loop-again Inv-loop μ-loop
+loop-again c = search needs
+
+returns : tie.Need-returns Inv-loop μ-loop
+returns c = search needs
+
+pub show-all-spec : {M : Type 1} → statement M
+show-all-spec =
+    tie.close
+    (tie.spec Inv-loop μ-loop loop-holds show-row-requires add-i loop-less loop-again returns)

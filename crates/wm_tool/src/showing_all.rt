@@ -1,0 +1,90 @@
+// A table in words.
+use table::RowFound;
+
+// The labels of a sound row.
+fn entries(row: &[u8], out: &mut [u8; 4096]) {
+    let mut e: usize = 1;
+    while e < 5 {
+        let n = showing::entry(out, row, e);
+        files::print(out, n);
+        e += 1;
+    }
+}
+
+// The accesses of a sound row, from the oldest on.
+fn accesses(row: &[u8], out: &mut [u8; 4096]) {
+    let mut i: usize = 1;
+    while i < 9 {
+        let n = showing::access(out, row, i);
+        files::print(out, n);
+        i += 1;
+    }
+}
+
+fn show_row(table: &[u8], i: usize, out: &mut [u8; 4096]) {
+    if 1024 < i {
+        return;
+    }
+    let a = 4608 * i;
+    let e = a + 4608;
+    if table.len() < e {
+        return;
+    }
+    let row = &table[a..e];
+    if octets::all_zero(row) {
+        return;
+    }
+    if !table::row_sound(row) {
+        let n = showing::unsound(out, i, row);
+        files::print(out, n);
+        return;
+    }
+    let n = showing::head(out, i, row);
+    files::print(out, n);
+    entries(row, out);
+    accesses(row, out);
+}
+
+fn show_all(table: &[u8], out: &mut [u8; 4096]) {
+    let mut i: usize = 0;
+    while i < 1024 {
+        show_row(table, i, out);
+        i += 1;
+    }
+}
+
+fn show_one(table: &[u8], name: &[u8], out: &mut [u8; 4096]) {
+    if table::table_number(table) != 0 {
+        return;
+    }
+    let found = table::lookup(table, name);
+    let RowFound::At(i) = found else {
+        files::refuse_word(name, b": the table has no such subscriber");
+        return;
+    };
+    show_row(table, i, out);
+}
+
+fn shown(path: &[u8], table: &mut [u8]) {
+    let n = files::read_table(path, table);
+    if n < 1 {
+        return;
+    }
+    if table.len() < n {
+        return;
+    }
+    let mut out = [0u8; 4096];
+    if os::arg_count() < 4 {
+        show_all(&table[0..n], &mut out);
+        return;
+    }
+    let mut name = io::buffer();
+    let k = os::arg(3, &mut name);
+    show_one(&table[0..n], &name[..k], &mut out);
+}
+
+pub fn show(table: &mut [u8]) {
+    let mut path = io::buffer();
+    let n = os::arg(2, &mut path);
+    shown(&path[..n], table);
+}
