@@ -18,6 +18,13 @@ pub fn note(out: &[u8; 4096], n: usize) {
     }
 }
 
+// A word and what is said of it, to standard output.
+pub fn say_word(word: &[u8], what: &[u8]) {
+    io::write_all(STDOUT_FILENO, word);
+    io::write_all(STDOUT_FILENO, what);
+    io::write_all(STDOUT_FILENO, b"\n");
+}
+
 // A program of Rattle has no exit status. So a failure is marked on descriptor 9, which the script that starts this program turns into one.
 // Where nobody opened that descriptor the mark is lost: no more than eight files are open here at a time.
 pub fn mark() {

@@ -1,8 +1,6 @@
 // The tool: puts captured Diameter messages to the proved server and says what it answers, cuts and keeps. `help` lists its commands.
 mod example;
 mod help;
-mod setting;
-mod showing_all;
 
 // What the command is called with, its own name included.
 fn is_called(word: &[u8], name: &[u8], least: usize, most: usize) -> bool {
@@ -33,7 +31,7 @@ fn run(word: &[u8], table: &mut [u8; 4718593]) {
         return;
     }
     if is_called(word, b"show", 3, 4) {
-        showing_all::show(table);
+        viewing::show(table);
         return;
     }
     files::refuse_word(

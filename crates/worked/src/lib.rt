@@ -1,14 +1,11 @@
 // The worked cases of document 01 on a table of one row, step by step: what was asked, what the server answered, and the order line after it.
-mod calls;
-mod sizes;
-
 use words::number;
 use words::octet;
 use words::say;
 
 // A step is three signs: what is done, the Session-Id, and the first letter of the label.
-// # the case of that number, < the cases 1 to 3 again, + a fresh table, o open, v open from a visited network, t terminate, s the sums,
-// r the result in the last answer, u open for a user whom nobody entered, l a long Session-Id, m a long message, b a bare request.
+// # is the case of that number, < the cases 1 to 3 again, + a fresh table, s the sums, r the result in the last answer, and a letter else a
+// request (`worked_requests`).
 fn sign(i: usize) -> u8 {
     let signs =
         b"#01+..oab#02obb#03ocb#04odb<..+..oabobbocb#05obb#06tcbtab#07veyveboeB#08s..#09ofbr..#10ugbr..#11l8.l9.m6.m0.b..";
@@ -16,11 +13,6 @@ fn sign(i: usize) -> u8 {
         return signs[i];
     }
     0
-}
-
-// How many steps there are.
-pub fn steps() -> usize {
-    37
 }
 
 // The heading of a case, by its two digits.
@@ -42,6 +34,16 @@ fn set(out: &mut [u8; 4096], at: usize, what: &[u8], n: u32) -> usize {
     say(out, b, b"\n")
 }
 
+// The order line of the only row, on a line of its own. The Session-Ids of the steps about sizes are too long for it.
+fn line(out: &mut [u8; 4096], at: usize, what: u8, row: &[u8]) -> usize {
+    if worked_requests::is_sized(what) {
+        return at;
+    }
+    let a = say(out, at, b"    ");
+    let b = telling::line(out, a, row);
+    say(out, b, b"\n")
+}
+
 // A fresh table with the subscriber of the cases.
 fn fresh(table: &mut [u8; 4608], out: &mut [u8; 4096]) -> usize {
     let user = b"001010123456789";
@@ -58,13 +60,12 @@ fn fresh(table: &mut [u8; 4608], out: &mut [u8; 4096]) -> usize {
         b"  add board, limit 2: ",
         changes::add(table, user, b"board", 2, 0),
     );
-    let d = set(
+    set(
         out,
         c,
         b"  add yard, limit 1, barred: ",
         changes::add(table, user, b"yard", 1, 1),
-    );
-    calls::line(out, d, table)
+    )
 }
 
 fn sums(out: &mut [u8; 4096], at: usize, block: &[u8; 510]) -> usize {
@@ -89,6 +90,44 @@ fn both_sums(out: &mut [u8; 4096]) -> usize {
     sums(out, c, &block)
 }
 
+// The result in an answer to a request whose Session-Id is one byte long: it stands behind the header, the Session-Id and two numbers.
+fn result(out: &mut [u8; 4096], answer: &[u8]) -> usize {
+    if answer.len() < 5120 {
+        return 0;
+    }
+    let end = 56 + octets::read24(answer, 61);
+    if 5120 < end {
+        return 0;
+    }
+    let a = say(out, 0, b"  its result:");
+    let b = words::octets(out, a, &answer[56..end]);
+    say(out, b, b"\n")
+}
+
+// The first n bytes of the room as a message, and what came of it.
+fn send(
+    table: &mut [u8; 4608],
+    room: &[u8],
+    n: usize,
+    answer: &mut [u8; 5120],
+    notice: &mut [u8; 256],
+    out: &mut [u8; 4096],
+    at: usize,
+) -> usize {
+    if room.len() < n {
+        return at;
+    }
+    let o = telling::ask(table, &room[0..n], true, answer, notice);
+    let a = say(out, at, b": ");
+    let b = telling::outcome(out, a, o, notice);
+    say(out, b, b"\n")
+}
+
+// How many steps there are.
+pub fn steps() -> usize {
+    37
+}
+
 // The step k: what it says stands in `out`, as many bytes as are returned.
 pub fn step(
     k: usize,
@@ -104,15 +143,23 @@ pub fn step(
     let what = sign(3 * k);
     let who = sign(3 * k + 1);
     let label = sign(3 * k + 2);
-    match what {
-        35 => heading(out, who, label),
-        60 => say(out, 0, b"cases 1 to 3 again\n"),
-        43 => fresh(table, out),
-        115 => both_sums(out),
-        114 => calls::result(out, answer),
-        108 => sizes::session(table, room, answer, notice, out, who),
-        109 => sizes::message(table, room, answer, notice, out, who),
-        98 => sizes::bare(table, room, answer, notice, out),
-        _ => calls::call(table, room, answer, notice, out, what, who, label),
+    if what == b'#' {
+        return heading(out, who, label);
     }
+    if what == b'<' {
+        return say(out, 0, b"cases 1 to 3 again\n");
+    }
+    if what == b'+' {
+        return fresh(table, out);
+    }
+    if what == b's' {
+        return both_sums(out);
+    }
+    if what == b'r' {
+        return result(out, answer);
+    }
+    let n = worked_requests::build(room, what, who, label);
+    let a = worked_requests::asked(out, what, who, label);
+    let b = send(table, room, n, answer, notice, out, a);
+    line(out, b, what, table)
 }

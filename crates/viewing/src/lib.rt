@@ -1,4 +1,4 @@
-// A table in words.
+// The command that shows a table.
 use table::RowFound;
 
 // The labels of a sound row.

@@ -1,4 +1,4 @@
-// Setting a table up. A file is changed only by an operation that succeeds.
+// The commands that set a table up. A file is changed only by an operation that succeeds.
 use files::Said;
 
 // The number of a set-up operation that changed nothing, in words.
@@ -11,6 +11,16 @@ fn refused(number: u32) {
     let e = words::say(&mut out, d, b"; nothing is changed\n");
     files::note(&out, e);
     files::mark();
+}
+
+// The first n bytes of the table kept in its file, and said.
+fn keep(path: &[u8], table: &[u8], n: usize, done: &[u8]) {
+    if table.len() < n {
+        return;
+    }
+    if files::is_replaced(path, &table[0..n]) {
+        files::say_word(path, done);
+    }
 }
 
 // A table of so many free rows.
@@ -32,7 +42,7 @@ fn make(path: &[u8], table: &mut [u8], rows: usize) {
         refused(number);
         return;
     }
-    files::is_replaced(path, &table[0..n]);
+    keep(path, table, n, b": a new table, all rows free");
 }
 
 fn new_at(path: &[u8], rows: &[u8], table: &mut [u8]) {
@@ -69,7 +79,7 @@ fn enter_at(path: &[u8], name: &[u8], table: &mut [u8]) {
         refused(number);
         return;
     }
-    files::is_replaced(path, &table[0..n]);
+    keep(path, table, n, b": the subscriber is entered");
 }
 
 pub fn enter(table: &mut [u8]) {
@@ -93,7 +103,7 @@ fn add_at(path: &[u8], name: &[u8], label: &[u8], limit: u8, flags: u8, table: &
         refused(number);
         return;
     }
-    files::is_replaced(path, &table[0..n]);
+    keep(path, table, n, b": the label is added");
 }
 
 // What the words behind the limit say: 1 barred, 2 may roam, 4 something else.

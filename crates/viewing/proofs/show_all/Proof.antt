@@ -1,8 +1,8 @@
 -- The row's number stays within the longest table.
 use Prim.Native.Nat.{_-_, _≤_}
 use borrow.Author.Needs.{needs}
-use Rattle.wm_tool.proofs.showing_all.show_all.Statement.{statement}
-use Rattle.wm_tool.proofs.showing_all.show_all.Tie as tie
+use Rattle.viewing.proofs.show_all.Statement.{statement}
+use Rattle.viewing.proofs.show_all.Tie as tie
 
 abbrev Inv-loop : tie.InvT-loop
 Inv-loop table out₀ i₀ out i = i ≤ 1024
