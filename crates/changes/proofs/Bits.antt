@@ -1,14 +1,14 @@
 -- Byte 17: its ones are the accesses, and the zeros that its complement ends in lead to the lowest free place.
 use mathlib.Core.Path.{_≡_, refl, sym, ap, _∙_}
-use mathlib.Core.Bool.{Bool, true, false, not, _&&_, Bool·not-not}
-use mathlib.Core.List.{List, [], _∷_, _++_, map}
+use mathlib.Core.Bool.{Bool, true, false, not, _&&_}
+use mathlib.Core.List.{List, [], _∷_, map}
 use Prim.Native.Nat.{ℕ, zero, suc, _+_, _-_, _*_, _≤_, _<_, _%_, _/_, _^_}
 use native.Mathlib.Omega.{arith}
 use native.Mathlib.Nat.{pow-suc}
-use borrow.Author.Tests.{leb-true, eqb-true, eqb-false, eq-eqb, ne-eqb, not-true, not-false}
+use borrow.Author.Tests.{eqb-true}
 use lib.Dec.{eqb}
-use lib.Count.{ones, ones-step, trailingZeros, under}
-use lib.ListN.{length, length-map}
+use lib.Count.{ones, ones-step, trailingZeros}
+use lib.ListN.{length}
 use Rattle.octets.specs.Choice.{pick, within}
 use Rattle.octets.specs.Lists.{counted, distinct, every, firstOr, isOn, keep}
 use Rattle.table.specs.TheTable.{Access, fromBits, line, places, usedBits}

@@ -1,17 +1,15 @@
 -- A sound row stays sound.
-use mathlib.Core.Path.{_≡_, refl, sym, ap, _∙_}
-use mathlib.Core.Bool.{Bool, true, false, not}
-use mathlib.Core.List.{List, [], _∷_, _++_, map}
-use Prim.Native.Nat.{ℕ, zero, suc, _+_, _-_, _*_, _≤_, _<_}
-use native.Mathlib.Omega.{arith}
+use mathlib.Core.Path.{_≡_, refl}
+use mathlib.Core.Bool.{true}
+use mathlib.Core.List.{List, []}
+use Prim.Native.Nat.{ℕ, _-_, _≤_}
 use borrow.Author.Tests.{leb-true}
 use lib.ListN.{length}
 use Rattle.octets.specs.Lists.{distinct, every, sumOf}
 use Rattle.table.specs.Soundness.{isName, labels, limits, sessions, sound, underLimits}
 use Rattle.table.specs.TheTable.{Access, Entry, Subscriber, line, readRow, rowBytes}
 use Rattle.changes.proofs.Stays.{MayEnter, MayOpen, entered-more, fits-hold, fits-more, fits-open}
-use Rattle.changes.specs.Changes.{freed, leave, opened, routed, withAccesses}
-use Rattle.changes.specs.SetUp.{named, withEntry}
+use Rattle.changes.specs.Changes.{freed, leave, opened, routed, withAccesses, named, withEntry}
 use Rattle.table.proofs.Bytes.{read-row}
 use Rattle.table.proofs.Good.{Fits, Good, entered, fits, fits-keep, goodAccesses, goodEntries}
 use Rattle.table.proofs.Sound.{says-good, sound-row}

@@ -5,5 +5,3 @@ pub mod Puts
 pub mod Steps
 pub mod Blocks
 pub mod Rows
-pub mod SetUps
-pub mod Kept

@@ -20,8 +20,7 @@ use Rattle.table.proofs.Form.{every-on, line-read}
 use Rattle.table.proofs.Good.{at-most-eight}
 use Rattle.table.proofs.Rows.{lent-row}
 use Rattle.table.proofs.Sound.{clauses, row-is, says-good}
-use Rattle.changes.specs.Changes.{freed, hold, leave, lowestFree, newAccess, opened, routed, withAccesses}
-use Rattle.changes.specs.SetUp.{named, withEntry}
+use Rattle.changes.specs.Changes.{freed, hold, leave, lowestFree, newAccess, opened, routed, withAccesses, named, withEntry}
 use Rattle.changes.specs.Writes.{closedUp, entriesWith, headWith, openedBytes, policyWith}
 use Rattle.changes.proofs.Bits.{bits-bound, is-vacant}
 use Rattle.changes.proofs.Blocks.{bits-with, bits-without, closed-filled, filled-more, filled-none, put-over, put-room, zeros-split, zeros-three}

@@ -1,12 +1,12 @@
 -- What code writes: block 0 with another line, or one entry more, and a place with another policy, as changes of a few bytes; and how code searches.
 use mathlib.Core.Path.{_≡_, refl, sym, ap, _∙_}
-use mathlib.Core.Bool.{Bool, true, false, not, _&&_}
+use mathlib.Core.Bool.{Bool, true}
 use mathlib.Core.List.{List, [], _∷_, _++_, map, append-assoc, append-nil}
-use Prim.Native.Nat.{ℕ, zero, suc, _+_, _-_, _*_, _≤_, _<_}
+use Prim.Native.Nat.{ℕ, zero, suc, _+_, _-_, _*_, _<_}
 use native.Mathlib.Omega.{arith}
 use lib.Dec.{eqb}
-use lib.ListN.{length, take, drop, getD, length-append, length-take, length-drop}
-use lib.Seq.{take-append-add, take-at, drop-at, take-take, drop-drop, take-append-le}
+use lib.ListN.{length, take, drop, getD, length-append}
+use lib.Seq.{take-at, take-append-le}
 use lib.Count.{ones, trailingZeros}
 use lib.ListN.{List·getD-append}
 use Rattle.octets.specs.Choice.{pick}

@@ -1,11 +1,12 @@
--- The table: the changes that a request makes to what a row says. The row is then the bytes of the changed subscriber.
+-- The table: the changes that a request or a set-up operation makes to what a row says. The row is then the bytes of the
+-- changed subscriber.
 use mathlib.Core.Bool.{Bool, not}
 use mathlib.Core.List.{List, [], _∷_, _++_, map}
 use Prim.Native.Nat.{ℕ}
 use lib.Dec.{eqb}
 use Rattle.octets.specs.Choice.{pick}
 use Rattle.octets.specs.Lists.{every, firstOr, keep}
-use Rattle.table.specs.TheTable.{Access, Subscriber, places}
+use Rattle.table.specs.TheTable.{Access, Entry, Subscriber, places}
 
 abbrev pub withAccesses : List Access → Subscriber → Subscriber
 withAccesses a s = record { name = s .name; entries = s .entries; accesses = a }
@@ -38,3 +39,11 @@ hold k route a =
 
 unfoldable pub routed : ℕ → List ℕ → Subscriber → Subscriber
 routed k route s = withAccesses (map (hold k route) (s .accesses)) s
+
+-- SET-UP: a subscriber with that name and nothing else.
+unfoldable pub named : List ℕ → Subscriber
+named n = record { name = n; entries = []; accesses = [] }
+
+-- The next entry, as given, behind the others.
+unfoldable pub withEntry : Entry → Subscriber → Subscriber
+withEntry e s = record { name = s .name; entries = s .entries ++ (e ∷ []); accesses = s .accesses }

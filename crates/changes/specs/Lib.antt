@@ -1,3 +1,2 @@
 pub mod Changes
-pub mod SetUp
 pub mod Writes

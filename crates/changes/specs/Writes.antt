@@ -6,7 +6,7 @@ use lib.Dec.{eqb}
 use lib.ListN.{length, take}
 use Rattle.octets.specs.Lists.{keep}
 use Rattle.octets.specs.Texts.{filled, part, put}
-use Rattle.table.specs.TheTable.{Access, Entry, accessBytes, entryBytes, sealed}
+use Rattle.table.specs.TheTable.{Entry, accessBytes, entryBytes, sealed}
 
 -- Block 0 with another byte 17 and another order line, sealed anew.
 unfoldable pub headWith : (b : List ℕ) → (bits : ℕ) → (order : List ℕ) → List ℕ

@@ -1,19 +1,18 @@
 -- From what a request brings and what was carried out to the reply: lengths, codes, and the result in numbers.
 use mathlib.Core.Path.{_≡_, refl, sym, ap, _∙_}
-use mathlib.Core.Bool.{Bool, true, false, _&&_}
+use mathlib.Core.Bool.{Bool, true}
 use mathlib.Core.List.{List, [], _∷_}
-use Prim.Native.Nat.{ℕ, _+_, _-_, _≤_, _<_}
+use Prim.Native.Nat.{ℕ, _+_, _-_, _≤_}
 use native.Mathlib.Omega.{arith}
 use borrow.Author.Tests.{leb-true}
-use lib.Dec.{eqb, leb}
+use lib.Dec.{eqb}
 use lib.ListN.{length}
-use Rattle.octets.specs.Choice.{pick, within}
-use Rattle.octets.specs.Texts.{part}
+use Rattle.octets.specs.Choice.{pick}
 use Rattle.octets.proofs.Lists.{by-test, both, within-high}
 use Rattle.octets.proofs.Texts.{length-part}
-use Rattle.message.specs.Codes.{Code, none, plain, experimental, numberOf, kindOf}
+use Rattle.message.specs.Codes.{numberOf}
 use Rattle.message.specs.Kinds.{codeFrom}
-use Rattle.message.specs.ReadingAMessage.{Ask, tunnel, policy, termination, Request, request, read, avps, userName, valueOf, requestOf}
+use Rattle.message.specs.ReadingAMessage.{Ask, tunnel, policy, termination, Request, request, read, userName, requestOf}
 use Rattle.message.specs.Spans.{Holds, asks, bytesOf, isInside}
 use Rattle.message.specs.declared.Span.{Span}
 use Rattle.message.specs.declared.Kind.{Kind}
@@ -22,15 +21,15 @@ use Rattle.message.specs.declared.Asked.{Asked}
 use Rattle.message.specs.declared.Asked.the-variants.{Tunnel, Policy, Termination}
 use Rattle.message.proofs.Lengths.{passing, user-length, tunnel-lengths, policy-lengths, termination-lengths}
 use Rattle.table.specs.TheTable.{Access, Subscriber}
-use Rattle.decision.specs.declared.Plan.{Plan}
-use Rattle.decision.specs.declared.Plan.the-variants.{NotSubscribed, Barred, RoamingNotAllowed, UnableToComply, UnusedByUser, Open, Route, Free}
+use Rattle.deciding.specs.declared.Plan.{Plan}
+use Rattle.deciding.specs.declared.Plan.the-variants.{NotSubscribed, Barred, RoamingNotAllowed, UnableToComply, UnusedByUser, Open, Route, Free}
 use Rattle.message.specs.WritingTheAnswer.{answer, answerRoom}
 use Rattle.decision.specs.declared.Outcome.{Outcome}
 use Rattle.decision.specs.declared.Done.{Done}
-use Rattle.decision.specs.Deciding.{Verdict, refuse, grant, openOn}
-use Rattle.decision.specs.Plans.{planned, cutFor, doneFor, tableAfter}
+use Rattle.deciding.specs.Deciding.{Verdict, refuse, grant, openOn}
+use Rattle.deciding.specs.Plans.{planned, fitting}
 use Rattle.decision.specs.Calls.{resultOf, noticeRoom, reply, settled}
-use Rattle.decision.specs.Outcomes.{cutMade, cutSession, cutHost, resultSaid, planKind, planCode, sessionText, hostText, fitting, leaves, callOf}
+use Rattle.decision.specs.Outcomes.{cutMade, cutSession, cutHost, resultSaid, planKind, planCode, sessionText, hostText, leaves, callOf, cutFor, doneFor, tableAfter}
 
 -- CODES
 

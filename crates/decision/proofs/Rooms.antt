@@ -1,13 +1,13 @@
 -- What stands in the table and in the notice room after a change: the access at a place on the line, its texts as they stand in
 -- the row, and row i of a table that got another row there.
 use mathlib.Core.Path.{_≡_, refl, sym, ap, _∙_}
-use mathlib.Core.Bool.{Bool, true, false, not, _&&_}
+use mathlib.Core.Bool.{Bool, true, false, not}
 use mathlib.Core.List.{List, [], _∷_, _++_, map, append-assoc}
-use Prim.Native.Nat.{ℕ, zero, suc, _+_, _-_, _*_, _≤_, _<_}
+use Prim.Native.Nat.{ℕ, _+_, _-_, _*_, _≤_, _<_}
 use native.Mathlib.Omega.{arith}
 use borrow.Author.Tests.{eqb-true, not-true}
 use lib.Dec.{eqb}
-use lib.ListN.{length, getD, take, drop, length-append, length-take, length-drop}
+use lib.ListN.{length, getD, take, drop, length-append}
 use lib.Seq.{take-at, drop-drop, getD-take, getD-drop}
 use Rattle.changes.specs.Changes.{freed, leave}
 use Rattle.octets.specs.Choice.{pick, within}
@@ -18,7 +18,7 @@ use Rattle.table.specs.TheTable.{Access, Subscriber, accessBytes, block, held, 
 use Rattle.changes.proofs.Keep.{good-freed, sound-freed}
 use Rattle.changes.proofs.Steps.{keep-map}
 use Rattle.decision.specs.Calls.{noticeRoom}
-use Rattle.decision.specs.Deciding.{atPlace}
+use Rattle.deciding.specs.Deciding.{atPlace}
 use Rattle.octets.proofs.Lists.{and-left, and-right, by-test, eqb-comm, every-imp, keep-split, on-cons, on-none, within-high}
 use Rattle.octets.proofs.Texts.{length-filled, length-part, length-put, put-again, put-there}
 use Rattle.table.proofs.Bytes.{block-place, length-row, read-row}

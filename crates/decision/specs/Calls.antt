@@ -1,5 +1,5 @@
 -- A whole call: what the server answers, and what it leaves in the table and in the rooms.
-use mathlib.Core.Bool.{Bool, true, false, _&&_}
+use mathlib.Core.Bool.{Bool, _&&_}
 use mathlib.Core.List.{List, [], _∷_, _++_}
 use Prim.Native.Nat.{ℕ}
 use lib.Dec.{eqb, leb}
@@ -12,7 +12,7 @@ use Rattle.message.specs.ReadingAMessage.{Request, Reading, refused, request, r
 use Rattle.message.specs.WritingTheAnswer.{answer, answerRoom}
 use Rattle.table.specs.TheTable.{Access, rowBytes, readRow, tableNumber, rowAt, withRow, Found, row, nothing, lookup}
 use Rattle.table.specs.Soundness.{sound}
-use Rattle.decision.specs.Deciding.{Verdict, decide}
+use Rattle.deciding.specs.Deciding.{Verdict, decide}
 
 -- A CALL AND ITS REPLY
 

@@ -1,23 +1,26 @@
 -- What the code's structs and enums say in the paper's numbers.
-use mathlib.Core.Bool.{Bool, true, _&&_}
-use mathlib.Core.List.{List, []}
+use mathlib.Core.Bool.{Bool}
+use mathlib.Core.List.{List, [], _∷_}
 use Prim.Native.Nat.{ℕ, _≤_}
 use lib.ListN.{length}
-use Rattle.octets.specs.Choice.{within}
-use Rattle.message.specs.Codes.{kindOf}
+use Rattle.message.specs.Codes.{kindOf, numberOf}
 use Rattle.message.specs.Kinds.{codeFrom}
-use Rattle.message.specs.ReadingAMessage.{Ask, tunnel, policy, termination}
 use Rattle.message.specs.Spans.{bytesOf}
 use Rattle.message.specs.declared.Kind.{Kind}
 use Rattle.message.specs.declared.Kind.the-variants.{Plain, Experimental}
 use Rattle.message.specs.declared.Asked.{Asked}
 use Rattle.message.specs.declared.Asked.the-variants.{Tunnel, Policy, Termination}
-use Rattle.decision.specs.declared.Plan.{Plan}
-use Rattle.decision.specs.declared.Plan.the-variants.{NotSubscribed, Barred, RoamingNotAllowed, UnableToComply, UnusedByUser, Open, Route, Free}
+use Rattle.deciding.specs.declared.Plan.{Plan}
+use Rattle.deciding.specs.declared.Plan.the-variants.{NotSubscribed, Barred, RoamingNotAllowed, UnableToComply, UnusedByUser, Open, Route, Free}
 use Rattle.decision.specs.declared.Cut.{Cut}
 use Rattle.decision.specs.declared.Cut.the-variants.{NoCut, Lengths}
 use Rattle.decision.specs.declared.Outcome.{Outcome}
+use Rattle.decision.specs.declared.Done.{Done}
 use Rattle.decision.specs.Calls.{Call, Result, Left}
+use Rattle.table.specs.TheTable.{Access, rowBytes, withRow}
+use Rattle.deciding.specs.Deciding.{Verdict}
+use lib.Dec.{eqb}
+use Rattle.octets.specs.Choice.{pick}
 
 -- A cut: 1 with the lengths of its texts, or 0 and no lengths.
 unfoldable pub cutMade : Cut → ℕ
@@ -92,11 +95,18 @@ planCode (Open n k) = 2001
 planCode (Route k) = 2001
 planCode (Free k) = 2001
 
--- What the lists have tested of the texts that a change stores: Session-Id and host of 1 to 128 bytes, a policy of 1 to 128.
-unfoldable pub fitting : Ask → Bool
-fitting (tunnel session host label visited) = within 1 128 (length session) && within 1 128 (length host)
-fitting (policy session route) = within 1 128 (length route)
-fitting (termination session label) = true
+-- What each case of the enum of a cut stands for: none, or the lengths of the cut access's Session-Id and gateway host.
+unfoldable pub cutFor : List Access → Cut
+cutFor [] = NoCut
+cutFor (a ∷ others) = Lengths (length (a .session)) (length (a .host))
+
+-- What carrying out a plan gives back: the place of a new access, else 0, and the cut.
+unfoldable pub doneFor : Verdict → Done
+doneFor v = record { place = v .place; cut = cutFor (v .cut) }
+
+-- The table that a verdict on row i leaves.
+unfoldable pub tableAfter : List ℕ → ℕ → Verdict → List ℕ
+tableAfter t i v = pick (eqb (numberOf (v .code)) 2001) (withRow t i (rowBytes (v .after))) t
 
 -- A call that gets an answer: the message has 20 to 4,096 bytes, the own names at most 128, and the answer room 5,120 or more.
 pub record Ready (m host realm room : List ℕ) : Type 0 where

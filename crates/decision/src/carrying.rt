@@ -1,7 +1,7 @@
 // Carrying out a plan on row i of the table: the cut notice, the row, and what the call gives back.
 use super::Cut;
 use super::Done;
-use super::Plan;
+use deciding::Plan;
 ghost use mathlib.Core.Path.{_≡_};
 ghost use mathlib.Core.Bool.{true};
 ghost use Prim.Native.Nat.{ℕ, _+_, _*_, _≤_};
@@ -10,9 +10,10 @@ ghost use Rattle.octets.specs.Lists.{isOn};
 ghost use Rattle.table.specs.TheTable.{orderLine, readRow, rowAt, rowBytes, withRow};
 ghost use Rattle.table.specs.Soundness.{sound};
 ghost use Rattle.changes.specs.Changes.{freed, lowestFree, opened};
-ghost use Rattle.decision.specs.Deciding.{atPlace};
+ghost use Rattle.deciding.specs.Deciding.{atPlace};
 ghost use Rattle.decision.specs.Calls.{noticeRoom};
-ghost use Rattle.decision.specs.Plans.{planned, fitPlan, cutFor, doneFor, tableAfter};
+ghost use Rattle.deciding.specs.Plans.{planned, fitPlan};
+ghost use Rattle.decision.specs.Outcomes.{cutFor, doneFor, tableAfter};
 
 // The notice of the access at place k. In a sound row the two texts stand side by side in rooms of 128 bytes, filled up with zeros,
 // as they do in the notice.

@@ -2,9 +2,8 @@
 use super::Cut;
 use super::Done;
 use super::Outcome;
-use super::Plan;
 use super::carrying;
-use super::deciding;
+use deciding::Plan;
 use message::Asked;
 use message::Kind;
 use message::Span;
@@ -25,9 +24,9 @@ ghost use Rattle.decision.specs.Calls.{callNumber, handle, onRow, refusa
 ghost use Rattle.message.specs.ReadingAMessage.{read, request};
 ghost use Rattle.table.specs.TheTable.{lookup, readRow, rowAt, tableNumber};
 ghost use Rattle.table.specs.Soundness.{sound};
-ghost use Rattle.decision.specs.Deciding.{decide};
-ghost use Rattle.decision.specs.Plans.{planned, fitPlan};
-ghost use Rattle.decision.specs.Outcomes.{resultSaid, leaves, callOf, planKind, planCode, sessionText, hostText, routeText, fitting, Ready};
+ghost use Rattle.deciding.specs.Deciding.{decide};
+ghost use Rattle.deciding.specs.Plans.{planned, fitPlan, fitting};
+ghost use Rattle.decision.specs.Outcomes.{resultSaid, leaves, callOf, planKind, planCode, sessionText, hostText, routeText, Ready};
 
 // An own name of 1 to 128 bytes.
 fn name_fits(s: &[u8]) -> bool
@@ -307,7 +306,7 @@ fn on_request(
     };
     let a = 4608 * i;
     let e = a + 4608;
-    if !table::row_sound(&table[a..e]) {
+    if !soundness::row_sound(&table[a..e]) {
         return refuse(m, host, realm, Kind::Plain, 5012, proxies, room);
     }
     settle(

@@ -1,27 +1,9 @@
-// Deciding on a subscriber's row, and a whole call.
+// A whole call.
 mod carrying;
 mod handling;
 
 pub use handling::handle;
 use message::Kind;
-
-mod deciding;
-mod row;
-
-// What is to be done with a sound row: one of the refusals, or a change.
-pub enum Plan {
-    NotSubscribed,
-    Barred,
-    RoamingNotAllowed,
-    UnableToComply,
-    UnusedByUser,
-    // a new access on the entry; the place that is cut for it, 0 for none
-    Open(usize, usize),
-    // the policy of the access at the place
-    Route(usize),
-    // the place is freed
-    Free(usize),
-}
 
 // Whether a cut was made, with the lengths of the cut access's Session-Id and gateway host.
 pub enum Cut {

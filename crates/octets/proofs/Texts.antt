@@ -1,15 +1,15 @@
 -- Laws of texts: parts, rooms, writes, and the steps of the loops over them.
 use mathlib.Core.Path.{_≡_, refl, sym, ap, _∙_}
 use mathlib.Core.Bool.{Bool, true, false, _&&_}
-use mathlib.Core.List.{List, [], _∷_, _++_, append-assoc, append-nil}
+use mathlib.Core.List.{List, [], _∷_, _++_, append-assoc}
 use Prim.Native.Nat.{ℕ, zero, suc, _+_, _-_, _≤_, _<_}
 use native.Mathlib.Nat.{le-antisymm, add-assoc}
 use native.Mathlib.Numerals.{add-one}
 use native.Mathlib.Omega.{arith}
 use borrow.Author.Tests.{eqb-true, eq-eqb, ne-eqb}
 use lib.Dec.{eqb}
-use lib.ListN.{length, getD, take, drop, replicate, length-append, length-take, length-drop, length-replicate, drop-of-length-le, take-append-drop}
-use lib.Seq.{drop-cons, paste, take-length, drop-length, drop-drop, take-take, take-add, take-append-le, drop-append-add, drop-append-le, length-take-le, take-at, drop-at}
+use lib.ListN.{length, getD, take, drop, length-append, length-take, length-drop, length-replicate, drop-of-length-le, take-append-drop}
+use lib.Seq.{drop-cons, paste, take-length, drop-drop, take-take, take-add, drop-append-add, drop-append-le, length-take-le, take-at, drop-at}
 use Rattle.octets.specs.Texts.{part, zeros, filled, same, allZero, put}
 use Rattle.octets.proofs.Lists.{by-test, same-eq}
 

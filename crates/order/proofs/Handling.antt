@@ -19,7 +19,7 @@ use Rattle.table.proofs.Sound.{row-is}
 use Rattle.changes.specs.Changes.{freed, opened, routed}
 use Rattle.changes.proofs.Rows.{row-size}
 use Rattle.changes.proofs.Steps.{row-name}
-use Rattle.decision.specs.Deciding.{Verdict, decide, type0, type1, terminate, admit, openOn, refuse, grant, heldAlready}
+use Rattle.deciding.specs.Deciding.{Verdict, decide, type0, type1, terminate, admit, openOn, refuse, grant, heldAlready}
 use Rattle.decision.specs.Calls.{Call, Reply, Left, callNumber, silent, reply, refusal, settled, onRow, onReading, handle}
 use Rattle.order.specs.Demand3.{Subject, nobody, subscriber, subject, sentBy, ownNumber}
 use Rattle.order.proofs.Finding.{finds, finds-front}

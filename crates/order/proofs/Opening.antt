@@ -79,7 +79,7 @@ held-same k route s = sids-hold k route (s .accesses)
 pub one-change : (q : Ask) (s : Subscriber) → Some (sessions ((afterwards q s) .accesses)) (sessions (s .accesses) ++ newSession q)
 unfolding afterwards newSession
 one-change (tunnel session host label visited) s =
-    rw (last-in (Rattle.decision.specs.Deciding.entryNamed label s) session host (spared (tunnel session host label visited) s))
+    rw (last-in (Rattle.deciding.specs.Deciding.entryNamed label s) session host (spared (tunnel session host label visited) s))
     (behind (session ∷ []) (spared-some (tunnel session host label visited) s))
 one-change (policy session route) s = rw (append-nil (sessions (s .accesses)), held-same _ route s) (all (sessions (s .accesses)))
 one-change (termination session label) s = rw (append-nil (sessions (s .accesses))) (left-out _ s)

@@ -16,8 +16,8 @@ use Rattle.message.specs.CallsThatGetNoAnswer.{messageNumber}
 use Rattle.message.specs.ReadingAMessage.{Name, Avp, Walk, Field, Ask, headerCode, avpLength, avpCode, behind, walkOne, walkUpTo, walk, body, avps, walkCode, having, firstValue, valueOf, testedAs, fieldCode, forBoth, for265, for275, fields, listCode, readingCode, command, typeOf, askOf, requestOf, request, read}
 use Rattle.table.specs.TheTable.{tableNumber}
 use Rattle.decision.specs.Calls.{Call, callNumber}
-use Rattle.decision.specs.Outcomes.{fitting}
 use Rattle.decision.proofs.Answered.{request-fits}
+use Rattle.deciding.specs.Plans.{fitting}
 
 -- NO FAILING TEST GIVES 2001
 

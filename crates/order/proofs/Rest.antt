@@ -16,10 +16,9 @@ use Rattle.table.proofs.Bytes.{length-row, read-row}
 use Rattle.table.proofs.Good.{Good}
 use Rattle.table.proofs.Rows.{whole-rows}
 use Rattle.table.proofs.Sound.{says-good, sound-row}
-use Rattle.decision.specs.Deciding.{Verdict}
+use Rattle.deciding.specs.Deciding.{Verdict}
 use Rattle.decision.specs.Calls.{Call, Left, callNumber, silent, refusal, settled, handle, ranFirst, run}
-use Rattle.decision.specs.Outcomes.{fitting}
-use Rattle.decision.proofs.Stay.{stays}
+use Rattle.deciding.proofs.Stay.{stays}
 use Rattle.order.specs.Demand2.{requestIn, found, checks, noneFails, afterwards, Replaced, SuccessReplacesRow, OtherRowsStay, SoundStaysSound, SoundStaysInList}
 use Rattle.order.proofs.Finding.{same-row}
 use Rattle.order.proofs.Read.{ask-fits}
@@ -28,6 +27,7 @@ use Rattle.order.proofs.Decided.{granting}
 use Rattle.order.proofs.Checks.{Won, won, won-went, granted, written}
 use Rattle.order.proofs.Tables.{at-with, at-other, length-cut}
 use Rattle.order.proofs.Handling.{There, there}
+use Rattle.deciding.specs.Plans.{fitting}
 
 -- the table of a call that is answered has rows
 pub rows-there : (t : List ℕ) (c : Call) → callNumber t c ≡ 0 → tableNumber t ≡ 0

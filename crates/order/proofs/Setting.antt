@@ -19,7 +19,8 @@ use Rattle.table.proofs.Bytes.{length-row, read-row}
 use Rattle.table.proofs.Good.{Good, goodEntry}
 use Rattle.table.proofs.Rows.{whole-rows}
 use Rattle.table.proofs.Sound.{says-good, sound-row}
-use Rattle.changes.specs.SetUp.{SetUp, leaving, clear, enter, enterNumber, add, addAt, entryNumber, named, withEntry, withRowAt}
+use Rattle.setup.specs.SetUp.{SetUp, leaving, clear, enter, enterNumber, add, addAt, entryNumber, withRowAt}
+use Rattle.changes.specs.Changes.{named, withEntry}
 use Rattle.changes.proofs.Stays.{MayEnter}
 use Rattle.changes.proofs.Steps.{row-name}
 use Rattle.changes.proofs.Keep.{good-named, good-entered}

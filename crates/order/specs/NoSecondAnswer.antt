@@ -4,7 +4,7 @@ use mathlib.Core.Path.{_≡_}
 use mathlib.Core.List.{List}
 use Prim.Native.Nat.{ℕ}
 use Rattle.table.specs.TheTable.{Entry}
-use Rattle.changes.specs.SetUp.{SetUp, clear, enter, add}
+use Rattle.setup.specs.SetUp.{SetUp, clear, enter, add}
 use Rattle.decision.specs.Calls.{Call, Left, handle}
 
 abbrev pub OneClearing : Type 0

@@ -8,7 +8,8 @@ use lib.ListN.{length}
 use Rattle.octets.specs.Texts.{allZero, zeros}
 use Rattle.table.specs.TheTable.{Entry, Subscriber, row, firstRow, rows, lookup, rowAt, readRow}
 use Rattle.table.specs.Soundness.{sound}
-use Rattle.changes.specs.SetUp.{clear, enter, add, named, withEntry}
+use Rattle.setup.specs.SetUp.{clear, enter, add}
+use Rattle.changes.specs.Changes.{named, withEntry}
 
 -- Any number but 0 leaves the table as it was.
 abbrev pub ClearRefused : Type 0

@@ -59,7 +59,7 @@ fn outcome(o: decision::Outcome) -> Got {
 pub fn play_clear(table: &mut [u8], r: &[u8]) -> Verdict
     requires { ⌜ length (now r) ≤ 65536 ⌝ }
 {
-    let got = set_up(changes::clear(table));
+    let got = set_up(setup::clear(table));
     judged(r, 0, got, table, &r[0..0], 0, &r[0..0], 0)
 }
 
@@ -70,7 +70,7 @@ pub fn play_enter(table: &mut [u8], r: &[u8]) -> Verdict
     if r.len() < e {
         return Verdict::Damaged;
     }
-    let got = set_up(changes::enter(table, &r[4..e]));
+    let got = set_up(setup::enter(table, &r[4..e]));
     judged(r, e, got, table, &r[0..0], 0, &r[0..0], 0)
 }
 
@@ -86,7 +86,7 @@ pub fn play_add(table: &mut [u8], r: &[u8]) -> Verdict
         return Verdict::Damaged;
     }
     let label = e + 4;
-    let got = set_up(changes::add(table, &r[4..e], &r[label..f], r[f], r[f + 1]));
+    let got = set_up(setup::add(table, &r[4..e], &r[label..f], r[f], r[f + 1]));
     judged(r, f + 2, got, table, &r[0..0], 0, &r[0..0], 0)
 }
 

@@ -37,7 +37,7 @@ fn make(path: &[u8], table: &mut [u8], rows: usize) {
     if table.len() < n {
         return;
     }
-    let number = changes::clear(&mut table[0..n]);
+    let number = setup::clear(&mut table[0..n]);
     if number != 0 {
         refused(number);
         return;
@@ -74,7 +74,7 @@ fn enter_at(path: &[u8], name: &[u8], table: &mut [u8]) {
     if table.len() < n {
         return;
     }
-    let number = changes::enter(&mut table[0..n], name);
+    let number = setup::enter(&mut table[0..n], name);
     if number != 0 {
         refused(number);
         return;
@@ -98,7 +98,7 @@ fn add_at(path: &[u8], name: &[u8], label: &[u8], limit: u8, flags: u8, table: &
     if table.len() < n {
         return;
     }
-    let number = changes::add(&mut table[0..n], name, label, limit, flags);
+    let number = setup::add(&mut table[0..n], name, label, limit, flags);
     if number != 0 {
         refused(number);
         return;

@@ -1,13 +1,13 @@
 -- What the bytes of a good subscriber say is that subscriber.
-use mathlib.Core.Path.{_≡_, refl, sym, ap, _∙_, subst}
-use mathlib.Core.Bool.{Bool, true, false, _&&_, not}
+use mathlib.Core.Path.{_≡_, refl, ap, _∙_}
+use mathlib.Core.Bool.{true, _&&_, not}
 use mathlib.Core.List.{List, [], _∷_, _++_, map, append-assoc}
 use Prim.Native.Nat.{ℕ, zero, suc, _+_, _-_, _*_, _≤_, _<_}
 use native.Mathlib.Omega.{arith}
-use borrow.Author.Tests.{leb-true, le-leb, eqb-true, eqb-false, eq-eqb, ne-eqb, not-true}
-use lib.Dec.{eqb, leb, ltb}
-use lib.ListN.{length, getD, take, drop, replicate, length-append, length-take, length-drop, length-replicate}
-use lib.Seq.{take-append-le, take-append-seam, take-at, drop-at, length-take-le, take-take, getD-append-add, drop-append-add, take-all}
+use borrow.Author.Tests.{leb-true, eq-eqb, ne-eqb, not-true}
+use lib.Dec.{eqb, leb}
+use lib.ListN.{length, getD, take, drop, length-append, length-take}
+use lib.Seq.{take-append-le, take-append-seam, take-at, drop-at, take-take, getD-append-add, drop-append-add}
 use Rattle.octets.specs.Choice.{pick, within}
 use Rattle.octets.specs.Lists.{counted, distinct, every, upTo0}
 use Rattle.octets.specs.Texts.{filled, part, same, zeros}

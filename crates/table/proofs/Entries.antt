@@ -1,22 +1,20 @@
 -- The entries of block 0, one by one along their room.
-use mathlib.Core.Path.{_≡_, refl, sym, ap, _∙_}
-use mathlib.Core.Bool.{Bool, true, false, not, _&&_}
-use mathlib.Core.List.{List, [], _∷_, map}
+use mathlib.Core.Path.{_≡_, sym, ap, _∙_}
+use mathlib.Core.Bool.{true, _&&_}
+use mathlib.Core.List.{List, []}
 use Prim.Native.Nat.{ℕ, zero, suc, _+_, _-_, _*_, _≤_, _<_}
 use native.Mathlib.Omega.{arith}
 use native.Mathlib.Numerals.{add-one}
-use borrow.Author.Tests.{le-leb, lt-leb, eq-eqb, ne-eqb}
-use lib.Dec.{eqb, leb}
-use lib.ListN.{length, getD, take, drop, length-take, length-drop, length-map, drop-of-length-le}
-use lib.Seq.{drop-cons, drop-drop, getD-drop, getD-take, take-take}
+use lib.ListN.{length, getD, take, drop, length-map, drop-of-length-le}
+use lib.Seq.{drop-cons, drop-drop, getD-drop, getD-take}
 use Rattle.octets.specs.Choice.{within}
 use Rattle.octets.specs.Lists.{sumOf}
 use Rattle.octets.specs.Texts.{part, allZero}
-use Rattle.octets.proofs.Lists.{and-left, and-right, within-high, within-low}
+use Rattle.octets.proofs.Lists.{and-left, and-right, within-high}
 use Rattle.table.proofs.Form.{length-read, part-take}
 use Rattle.table.proofs.Tests.{lent-part}
 use Rattle.table.specs.Soundness.{entriesForm, entryForm, labels, limits}
-use Rattle.table.specs.TheTable.{Entry, readEntries, readEntry}
+use Rattle.table.specs.TheTable.{readEntries, readEntry}
 
 -- entry i and those behind it
 next-entry : (i : ℕ) → 104 * i + 104 ≡ 104 * (i + 1)

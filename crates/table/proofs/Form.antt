@@ -1,13 +1,13 @@
 -- When a row is the bytes of what it says, byte by byte.
 use mathlib.Core.Path.{_≡_, refl, sym, ap, _∙_}
-use mathlib.Core.Bool.{Bool, true, false, not, _&&_, and-assoc, and-false, and-true}
+use mathlib.Core.Bool.{Bool, true, _&&_, and-assoc, and-false, and-true}
 use mathlib.Core.List.{List, [], _∷_, _++_, map, append-assoc}
 use Prim.Native.Nat.{ℕ, zero, suc, _+_, _-_, _*_, _≤_, _<_}
 use native.Mathlib.Omega.{arith}
-use borrow.Author.Tests.{leb-true, eqb-true, eqb-false, eq-eqb, ne-eqb, not-true, not-false}
-use lib.Dec.{eqb, leb}
-use lib.ListN.{length, take, drop, getD, replicate, length-take, length-drop, length-append, take-append-drop}
-use lib.Seq.{take-at, drop-at, take-take, drop-drop, drop-cons, getD-take, getD-drop, take-append-le}
+use borrow.Author.Tests.{leb-true, eqb-true, eq-eqb, ne-eqb}
+use lib.Dec.{eqb}
+use lib.ListN.{length, take, drop, getD, length-take, length-drop, length-append}
+use lib.Seq.{take-take, drop-drop, drop-cons, getD-take}
 use Rattle.octets.specs.Choice.{pick, within}
 use Rattle.octets.specs.Lists.{counted, every, isOn, upTo0}
 use Rattle.octets.specs.Texts.{allZero, filled, part, same, zeros}

@@ -1,12 +1,12 @@
 -- What a subscriber may be, clause by clause; and that there are never more than eight accesses.
-use mathlib.Core.Path.{_≡_, refl, sym, ap, _∙_, subst}
-use mathlib.Core.Bool.{Bool, true, false, _&&_, not}
-use mathlib.Core.List.{List, [], _∷_, _++_, map}
-use Prim.Native.Nat.{ℕ, zero, suc, _+_, _-_, _*_, _≤_, _<_}
+use mathlib.Core.Path.{_≡_, refl, ap}
+use mathlib.Core.Bool.{Bool, true, _&&_, not}
+use mathlib.Core.List.{List, [], _∷_}
+use Prim.Native.Nat.{ℕ, suc, _+_, _-_, _≤_}
 use native.Mathlib.Omega.{arith}
-use borrow.Author.Tests.{leb-true, le-leb, eqb-true, eqb-false, eq-eqb, ne-eqb, not-true, ltb-true, ltb-false}
-use lib.Dec.{eqb, leb, ltb}
-use lib.ListN.{length, getD, length-append}
+use borrow.Author.Tests.{leb-true, le-leb, eqb-false, not-true}
+use lib.Dec.{eqb, leb}
+use lib.ListN.{length}
 use Rattle.octets.specs.Choice.{within}
 use Rattle.octets.specs.Lists.{counted, distinct, every, keep, sumOf}
 use Rattle.octets.specs.Texts.{same}

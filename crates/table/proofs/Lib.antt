@@ -5,9 +5,5 @@ pub mod Sound
 pub mod Rows
 pub mod Tests
 pub mod Entries
-pub mod Bits
-pub mod Line
-pub mod Accesses
-pub mod Tested
 pub mod WorkedCases
 pub mod Columns

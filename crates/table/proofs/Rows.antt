@@ -1,20 +1,18 @@
 -- The rows of a table: row by row along the cut, and what a table of number 0 is.
 use mathlib.Core.Path.{_≡_, refl, sym, ap, _∙_}
 use mathlib.Core.Bool.{Bool, true, false, _&&_}
-use mathlib.Core.List.{List, [], _∷_}
+use mathlib.Core.List.{List, _∷_}
 use Prim.Native.Nat.{ℕ, zero, suc, _+_, _-_, _*_, _/_, _%_, _≤_, _<_}
-use native.Mathlib.Nat.{add-assoc}
-use native.Mathlib.Numerals.{add-one}
 use native.Mathlib.Omega.{arith}
 use borrow.Author.Tests.{eqb-true, eq-eqb, ne-eqb}
 use lib.Dec.{eqb}
-use lib.ListN.{length, getD, take, drop, length-take, length-drop}
+use lib.ListN.{length, getD, take, drop}
 use lib.Seq.{drop-drop}
 use Rattle.octets.specs.Choice.{pick, require, within}
 use Rattle.octets.specs.Texts.{part, same, allZero}
 use Rattle.octets.proofs.Choice.{passed}
 use Rattle.octets.proofs.Texts.{zero-step}
-use Rattle.octets.proofs.Lists.{and-left, and-right, both, by-test, in-within, within-high, within-low}
+use Rattle.octets.proofs.Lists.{and-left, and-right, by-test, in-within, within-high, within-low}
 use Rattle.table.specs.TheTable.{Found, row, nothing, later, firstRow, rows, cutInRows, rowAt, rowLength, tableNumber, isRowOf}
 
 -- A TABLE OF NUMBER 0

@@ -2,5 +2,4 @@ pub mod TheTable
 pub mod Soundness
 pub mod WorkedCases
 pub mod Answers
-pub mod RowTests
 pub mod Columns

@@ -1,13 +1,13 @@
 -- The table: when a row is sound. Clause by clause, in the paper's order.
-use mathlib.Core.Bool.{Bool, true, false, _&&_, not}
+use mathlib.Core.Bool.{Bool, true, _&&_}
 use mathlib.Core.List.{List, [], _∷_, map}
-use Prim.Native.Nat.{ℕ, zero, suc, _+_, _-_, _*_, _/_, _%_, _^_}
-use lib.Dec.{eqb, leb, ltb}
+use Prim.Native.Nat.{ℕ, zero, suc, _+_, _-_, _/_, _%_, _^_}
+use lib.Dec.{eqb, leb}
 use lib.ListN.{length, getD, take, drop}
 use Rattle.octets.specs.Choice.{pick, within}
 use Rattle.octets.specs.Lists.{every, keep, distinct, sumOf, upTo0}
 use Rattle.octets.specs.Texts.{part, same, allZero}
-use Rattle.table.specs.TheTable.{sums, Entry, Access, Subscriber, places, line, usedBits, rowLength, block, readEntries, orderLine, readRow}
+use Rattle.table.specs.TheTable.{sums, Entry, Access, Subscriber, places, line, usedBits, rowLength, block, orderLine, readRow}
 
 -- THE FORM
 

@@ -5,7 +5,7 @@ use Prim.Native.Nat.{ℕ, zero, suc, _+_, _*_, _/_, _%_}
 use lib.Dec.{eqb}
 use lib.ListN.{length, getD, take, drop}
 use Rattle.octets.specs.Choice.{pick, require, within}
-use Rattle.octets.specs.Lists.{every, keep, firstOr, counted, isOn, upTo0}
+use Rattle.octets.specs.Lists.{counted, isOn, upTo0}
 use Rattle.octets.specs.Texts.{part, zeros, filled, same, put}
 
 -- THE SUMS

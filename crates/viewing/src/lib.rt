@@ -34,7 +34,7 @@ fn show_row(table: &[u8], i: usize, out: &mut [u8; 4096]) {
     if octets::all_zero(row) {
         return;
     }
-    if !table::row_sound(row) {
+    if !soundness::row_sound(row) {
         let n = showing::unsound(out, i, row);
         files::print(out, n);
         return;

@@ -6,7 +6,7 @@ ghost use mathlib.Core.Path.{_≡_};
 ghost use Prim.Native.Nat.{ℕ};
 ghost use Rattle.message.specs.Codes.{kindOf};
 ghost use Rattle.message.specs.Kinds.{codeFrom};
-ghost use Rattle.changes.specs.SetUp.{left, clear, enter, add};
+ghost use Rattle.setup.specs.SetUp.{left, clear, enter, add};
 ghost use Rattle.decision.specs.Calls.{handle};
 ghost use Rattle.decision.specs.Outcomes.{callOf, cutHost, cutMade, cutSession, resultSaid};
 ghost use Rattle.wm.specs.InC.{in32, inC, leavesInC, narrowed, saidInC};
@@ -18,7 +18,7 @@ ghost use Rattle.wm.specs.InC.{in32, inC, leavesInC, narrowed, saidInC};
 pub extern "C" fn wm_clear(table: &mut [u8]) -> u32
     ensures { λ r. ⌜ left r (now (table .exit)) ≡ clear (now (table .entry)) ⌝ }
 {
-    changes::clear(table)
+    setup::clear(table)
 }
 
 // A subscriber of that name, in the first row that is wholly zero.
@@ -26,7 +26,7 @@ pub extern "C" fn wm_clear(table: &mut [u8]) -> u32
 pub extern "C" fn wm_enter(table: &mut [u8], name: &[u8]) -> u32
     ensures { λ r. ⌜ left r (now (table .exit)) ≡ enter (now (table .entry)) (now (name .entry)) ⌝ }
 {
-    changes::enter(table, name)
+    setup::enter(table, name)
 }
 
 // An access point name for the subscriber of that name.
@@ -35,7 +35,7 @@ pub extern "C" fn wm_add(table: &mut [u8], name: &[u8], label: &[u8], limit: u8,
     ensures { λ r. ⌜ left r (now (table .exit))
         ≡ add (now (table .entry)) (now (name .entry)) (record { label = now (label .entry); flags = flags; limit = limit }) ⌝ }
 {
-    changes::add(table, name, label, limit, flags)
+    setup::add(table, name, label, limit, flags)
 }
 
 // A REQUEST

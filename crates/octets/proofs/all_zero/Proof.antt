@@ -4,17 +4,13 @@ use mathlib.Core.Bool.{_&&_, true, and-true}
 use lib.Dec.{eqb}
 use Rattle.octets.specs.Texts.{allZero}
 use Rattle.octets.proofs.Texts.{zero-step, zero-end, most-larger, most-stays}
-use mathlib.Core.Path.{_≡_, refl, sym, ap, _∙_}
-use mathlib.Core.List.{List, [], _∷_, _++_}
-use Prim.Native.Nat.{ℕ, suc, _+_, _-_, _*_, _/_, _%_, _^_, _<_, _≤_}
+use mathlib.Core.Path.{_≡_, sym, _∙_}
+use Prim.Native.Nat.{_+_, _-_, _≤_}
 use native.Mathlib.Omega.{arith}
-use native.Mathlib.Numerals.{add-one}
-use lib.ListN.{length, getD, take, drop, set, length-set, length-append, length-take, length-drop}
+use lib.ListN.{length, getD, drop}
 use borrow.Author.Needs.{needs}
 use Rattle.octets.proofs.all_zero.Statement.{statement}
 use Rattle.octets.proofs.all_zero.Tie as tie
-use Rattle.octets.proofs.all_zero.Reads as reads
-use Rattle.octets.proofs.all_zero.Lts as lts
 
 abbrev Inv-loop : tie.InvT-loop
 Inv-loop s most₀ i₀ most i = (i ≤ length s) × (eqb most 0 && allZero (drop i s) ≡ allZero s)

@@ -3,17 +3,14 @@ use mathlib.Core.List.{append-nil}
 use lib.Seq.{drop-length}
 use borrow.Author.Fill.{fill-more}
 use Rattle.octets.specs.Texts.{zeros}
-use mathlib.Core.Path.{_≡_, refl, sym, ap, _∙_}
-use mathlib.Core.List.{List, [], _∷_, _++_}
-use Prim.Native.Nat.{ℕ, suc, _+_, _-_, _*_, _/_, _%_, _^_, _<_, _≤_}
+use mathlib.Core.Path.{_≡_, refl, _∙_}
+use mathlib.Core.List.{_++_}
+use Prim.Native.Nat.{_+_, _-_, _≤_}
 use native.Mathlib.Omega.{arith}
-use native.Mathlib.Numerals.{add-one}
-use lib.ListN.{length, getD, take, drop, set, length-set, length-append, length-take, length-drop}
+use lib.ListN.{length, drop, length-set}
 use borrow.Author.Needs.{needs}
 use Rattle.octets.proofs.clear.Statement.{statement}
 use Rattle.octets.proofs.clear.Tie as tie
-use Rattle.octets.proofs.clear.Reads as reads
-use Rattle.octets.proofs.clear.Lts as lts
 
 abbrev Inv-loop : tie.InvT-loop
 Inv-loop s₀ i₀ s i = (i ≤ length s₀) × (length s ≡ length s₀) × (s ≡ zeros i ++ drop i s₀)

@@ -1,17 +1,14 @@
 -- After j turns the first j bytes of the source stand in the room.
 use lib.Seq.{paste, paste-zero, paste-suc}
 use Rattle.octets.proofs.Texts.{put-all}
-use mathlib.Core.Path.{_≡_, refl, sym, ap, _∙_}
-use mathlib.Core.List.{List, [], _∷_, _++_}
-use Prim.Native.Nat.{ℕ, suc, _+_, _-_, _*_, _/_, _%_, _^_, _<_, _≤_}
+use mathlib.Core.Path.{_≡_, _∙_}
+use Prim.Native.Nat.{_-_, _≤_}
 use native.Mathlib.Omega.{arith}
 use native.Mathlib.Numerals.{add-one}
-use lib.ListN.{length, getD, take, drop, set, length-set, length-append, length-take, length-drop}
+use lib.ListN.{length, length-set}
 use borrow.Author.Needs.{needs}
 use Rattle.octets.proofs.put_bytes.Statement.{statement}
 use Rattle.octets.proofs.put_bytes.Tie as tie
-use Rattle.octets.proofs.put_bytes.Reads as reads
-use Rattle.octets.proofs.put_bytes.Lts as lts
 
 abbrev Inv-loop : tie.InvT-loop
 Inv-loop room₀ at src j₀ room j = (j ≤ length src) × (length room ≡ length room₀) × (room ≡ paste room₀ at src j)

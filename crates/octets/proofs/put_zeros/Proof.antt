@@ -1,18 +1,12 @@
 -- A part of the room is lent and comes back as zeros.
-use Rattle.octets.specs.Texts.{put, zeros}
+use Rattle.octets.specs.Texts.{zeros}
 use Rattle.octets.proofs.Texts.{length-zeros, length-part, back-put}
-use mathlib.Core.Path.{_≡_, refl, sym, ap, _∙_}
-use mathlib.Core.List.{List, [], _∷_, _++_}
-use Prim.Native.Nat.{ℕ, suc, _+_, _-_, _*_, _/_, _%_, _^_, _<_, _≤_}
+use mathlib.Core.Path.{_≡_, sym, ap, _∙_}
+use Prim.Native.Nat.{_+_, _-_}
 use native.Mathlib.Omega.{arith}
-use native.Mathlib.Numerals.{add-one}
-use lib.ListN.{length, getD, take, drop, set, length-set, length-append, length-take, length-drop}
 use borrow.Author.Needs.{needs}
 use Rattle.octets.proofs.put_zeros.Statement.{statement}
 use Rattle.octets.proofs.put_zeros.Tie as tie
-use Rattle.octets.proofs.put_zeros.Reads as reads
-use Rattle.octets.proofs.put_zeros.Lts as lts
-use Rattle.octets.proofs.clear.Reads as clear-reads
 
 add-end : tie.Need-add-end
 add-end c = search needs

@@ -1,17 +1,9 @@
 -- Four bytes as a number, by the definition.
 use Rattle.octets.specs.Numbers.{net24, net32}
-use mathlib.Core.Path.{_≡_, refl, sym, ap, _∙_}
-use mathlib.Core.List.{List, [], _∷_, _++_}
-use Prim.Native.Nat.{ℕ, suc, _+_, _-_, _*_, _/_, _%_, _^_, _<_, _≤_}
-use native.Mathlib.Omega.{arith}
-use native.Mathlib.Numerals.{add-one}
-use lib.ListN.{length, getD, take, drop, set, length-set, length-append, length-take, length-drop}
+use Prim.Native.Nat.{_-_}
 use borrow.Author.Needs.{needs}
 use Rattle.octets.proofs.read32.Statement.{statement}
 use Rattle.octets.proofs.read32.Tie as tie
-use Rattle.octets.proofs.read32.Reads as reads
-use Rattle.octets.proofs.read32.Lts as lts
-use Rattle.octets.proofs.wide.Reads as wide-reads
 
 shared-slice-read-wide : tie.Need-shared-slice-read-wide
 shared-slice-read-wide c = search needs

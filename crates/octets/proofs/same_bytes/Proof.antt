@@ -1,17 +1,13 @@
 -- The rest of the two texts being the same stays the same answer.
 use Rattle.octets.specs.Texts.{same}
 use Rattle.octets.proofs.Texts.{same-step, same-differ, same-end, same-lengths}
-use mathlib.Core.Path.{_≡_, refl, sym, ap, _∙_}
-use mathlib.Core.List.{List, [], _∷_, _++_}
-use Prim.Native.Nat.{ℕ, suc, _+_, _-_, _*_, _/_, _%_, _^_, _<_, _≤_}
+use mathlib.Core.Path.{_≡_, sym, _∙_}
+use Prim.Native.Nat.{_-_, _≤_}
 use native.Mathlib.Omega.{arith}
-use native.Mathlib.Numerals.{add-one}
-use lib.ListN.{length, getD, take, drop, set, length-set, length-append, length-take, length-drop}
+use lib.ListN.{length, drop}
 use borrow.Author.Needs.{needs}
 use Rattle.octets.proofs.same_bytes.Statement.{statement}
 use Rattle.octets.proofs.same_bytes.Tie as tie
-use Rattle.octets.proofs.same_bytes.Reads as reads
-use Rattle.octets.proofs.same_bytes.Lts as lts
 
 abbrev Inv-loop : tie.InvT-loop
 Inv-loop a b i₀ i = (i ≤ length a) × (same (drop i a) (drop i b) ≡ same a b)

@@ -1,9 +1,8 @@
 -- Case by case of the plan: what it means is what the change leaves.
 use Rattle.decision.specs.declared.Cut.the-variants.{NoCut}
-use mathlib.Core.Path.{_≡_, refl, sym, ap, _∙_}
+use mathlib.Core.Path.{_≡_, refl}
 use mathlib.Core.Bool.{true, false, _&&_}
-use mathlib.Core.List.{List, [], _∷_, _++_}
-use Prim.Native.Nat.{ℕ, _+_, _-_, _*_, _<_, _≤_}
+use Prim.Native.Nat.{_-_, _<_, _≤_}
 use native.Mathlib.Omega.{arith}
 use borrow.Author.Tests.{ltb-true, eq-eqb, ne-eqb}
 use lib.Dec.{eqb, ltb}
@@ -13,20 +12,14 @@ use Rattle.octets.specs.Lists.{isOn}
 use Rattle.octets.proofs.Lists.{and-left, and-right, within-low, within-high}
 use Rattle.message.specs.Codes.{numberOf}
 use Rattle.table.specs.TheTable.{orderLine, readRow, rowAt}
-use Rattle.decision.specs.declared.Plan.the-variants.{Open, Route, Free}
-use Rattle.decision.specs.Deciding.{refuse, grant, openOn}
+use Rattle.deciding.specs.declared.Plan.the-variants.{Open, Route, Free}
+use Rattle.deciding.specs.Deciding.{refuse, grant, openOn}
 use Rattle.decision.specs.Calls.{noticeRoom}
-use Rattle.decision.specs.Plans.{planned, fitPlan, cutFor, doneFor, tableAfter}
+use Rattle.deciding.specs.Plans.{planned, fitPlan}
 use borrow.Author.Needs.{needs}
 use Rattle.decision.proofs.carrying.carry.Statement.{statement}
 use Rattle.decision.proofs.carrying.carry.Tie as tie
-use Rattle.decision.proofs.carrying.carry.Reads as reads
-use Rattle.decision.proofs.carrying.carry.Lts as lts
-use Rattle.changes.proofs.free.Reads as free-reads
-use Rattle.changes.proofs.open.Reads as open-reads
-use Rattle.changes.proofs.route.Reads as route-reads
-use Rattle.decision.proofs.carrying.nothing.Reads as nothing-reads
-use Rattle.decision.proofs.carrying.open_with_cut.Reads as open-with-cut-reads
+use Rattle.decision.specs.Outcomes.{cutFor, doneFor, tableAfter}
 
 enum-known-plan : tie.Need-enum-known-plan
 enum-known-plan c = search needs

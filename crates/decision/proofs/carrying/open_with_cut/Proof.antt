@@ -1,20 +1,13 @@
 -- The row after the cut is sound, says what is left, and has room for the new access.
-use mathlib.Core.Path.{_≡_, refl, sym, ap, _∙_}
-use mathlib.Core.List.{List, [], _∷_, _++_}
-use Prim.Native.Nat.{ℕ, _+_, _-_, _*_, _<_, _≤_}
+use mathlib.Core.Path.{_≡_, ap, _∙_}
+use Prim.Native.Nat.{_-_}
 use native.Mathlib.Omega.{arith}
-use lib.ListN.{length}
 use Rattle.table.specs.TheTable.{Subscriber, readRow, rowAt}
 use Rattle.changes.specs.Changes.{freed, opened, lowestFree}
 use Rattle.decision.proofs.Rooms.{cut-length, cut-sound, cut-says, cut-room, cut-then}
 use borrow.Author.Needs.{needs}
 use Rattle.decision.proofs.carrying.open_with_cut.Statement.{statement}
 use Rattle.decision.proofs.carrying.open_with_cut.Tie as tie
-use Rattle.decision.proofs.carrying.open_with_cut.Reads as reads
-use Rattle.decision.proofs.carrying.open_with_cut.Lts as lts
-use Rattle.changes.proofs.free.Reads as free-reads
-use Rattle.changes.proofs.open.Reads as open-reads
-use Rattle.decision.proofs.carrying.write_notice.Reads as write-notice-reads
 
 write-notice-requires : tie.Need-write-notice-requires
 write-notice-requires c κs = search needs

@@ -1,23 +1,18 @@
 -- In a sound row the two texts stand side by side, zero filled, as in the notice.
 use Rattle.decision.specs.declared.Cut.the-variants.{Lengths}
 use Rattle.octets.specs.Texts.{part, filled}
-use Rattle.table.specs.TheTable.{block, readAccess, readRow, rowAt}
+use Rattle.table.specs.TheTable.{block, readAccess, rowAt}
 use Rattle.decision.specs.Calls.{noticeRoom}
-use Rattle.decision.specs.Deciding.{atPlace}
-use Rattle.decision.specs.Plans.{cutFor}
 use Rattle.decision.proofs.Rooms.{at-most, at-place-is, texts-are, session-long, host-long, notice-is, part-in, byte-in}
-use mathlib.Core.Path.{_≡_, refl, sym, ap, _∙_}
-use mathlib.Core.List.{List, [], _∷_, _++_}
-use Prim.Native.Nat.{ℕ, _+_, _-_, _*_, _<_, _≤_}
+use mathlib.Core.Path.{_≡_, sym, ap, _∙_}
+use mathlib.Core.List.{[], _∷_, _++_}
+use Prim.Native.Nat.{_+_, _-_, _*_, _≤_}
 use native.Mathlib.Omega.{arith}
-use lib.ListN.{length, getD, take, drop}
+use lib.ListN.{length}
 use borrow.Author.Needs.{needs}
 use Rattle.decision.proofs.carrying.write_notice.Statement.{statement}
 use Rattle.decision.proofs.carrying.write_notice.Tie as tie
-use Rattle.decision.proofs.carrying.write_notice.Reads as reads
-use Rattle.decision.proofs.carrying.write_notice.Lts as lts
-use Rattle.octets.proofs.long.Reads as long-reads
-use Rattle.octets.proofs.put_bytes.Reads as put-bytes-reads
+use Rattle.decision.specs.Outcomes.{cutFor}
 
 mul-at : tie.Need-mul-at
 mul-at c = search needs

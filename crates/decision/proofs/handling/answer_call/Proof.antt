@@ -1,16 +1,9 @@
 -- What the answer's writer promises, with the outcome around it.
-use mathlib.Core.Path.{_≡_, refl, sym, ap, _∙_}
-use mathlib.Core.Bool.{Bool, true, false, _&&_}
-use mathlib.Core.List.{List, [], _∷_, _++_}
-use Prim.Native.Nat.{ℕ, _+_, _-_, _*_, _<_, _≤_}
-use native.Mathlib.Omega.{arith}
-use lib.ListN.{length, take, drop}
+use Prim.Native.Nat.{_-_}
+use lib.ListN.{length}
 use borrow.Author.Needs.{needs}
 use Rattle.decision.proofs.handling.answer_call.Statement.{statement}
 use Rattle.decision.proofs.handling.answer_call.Tie as tie
-use Rattle.decision.proofs.handling.answer_call.Reads as reads
-use Rattle.decision.proofs.handling.answer_call.Lts as lts
-use Rattle.answers.proofs.answer.Reads as answer-reads
 
 answer-requires : tie.Need-answer-requires
 answer-requires c κs = search needs

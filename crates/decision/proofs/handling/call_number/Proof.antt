@@ -1,11 +1,9 @@
 -- Each way out is the law of the first test that fails.
 use borrow.Author.Tests.{not-true, not-false}
-use mathlib.Core.Path.{_≡_, refl, sym, ap, _∙_}
-use mathlib.Core.Bool.{Bool, true, false, _&&_}
-use mathlib.Core.List.{List, [], _∷_, _++_}
-use Prim.Native.Nat.{ℕ, _+_, _-_, _*_, _<_, _≤_}
-use native.Mathlib.Omega.{arith}
-use lib.ListN.{length, take, drop}
+use mathlib.Core.Path.{_≡_, sym, _∙_}
+use mathlib.Core.Bool.{true}
+use Prim.Native.Nat.{_-_}
+use lib.ListN.{length}
 use Rattle.octets.specs.Choice.{within}
 use Rattle.table.specs.TheTable.{tableNumber}
 use Rattle.decision.specs.Outcomes.{callOf}
@@ -13,11 +11,6 @@ use Rattle.decision.proofs.Numbers.{number-table, number-host, number-r
 use borrow.Author.Needs.{needs}
 use Rattle.decision.proofs.handling.call_number.Statement.{statement}
 use Rattle.decision.proofs.handling.call_number.Tie as tie
-use Rattle.decision.proofs.handling.call_number.Reads as reads
-use Rattle.decision.proofs.handling.call_number.Lts as lts
-use Rattle.decision.proofs.handling.name_fits.Reads as name-fits-reads
-use Rattle.message.proofs.number.Reads as number-reads
-use Rattle.table.proofs.table_number.Reads as table-number-reads
 
 table-number-requires : tie.Need-table-number-requires
 table-number-requires c κs = search needs

@@ -1,16 +1,9 @@
 -- Case by case of the plan.
-use mathlib.Core.Path.{_≡_, refl, sym, ap, _∙_}
-use mathlib.Core.Bool.{Bool, true, false, _&&_}
-use mathlib.Core.List.{List, [], _∷_, _++_}
-use Prim.Native.Nat.{ℕ, _+_, _-_, _*_, _<_, _≤_}
-use native.Mathlib.Omega.{arith}
-use lib.ListN.{length, take, drop}
+use Prim.Native.Nat.{_-_}
 use Rattle.decision.specs.Outcomes.{planCode}
 use borrow.Author.Needs.{needs}
 use Rattle.decision.proofs.handling.code_of.Statement.{statement}
 use Rattle.decision.proofs.handling.code_of.Tie as tie
-use Rattle.decision.proofs.handling.code_of.Reads as reads
-use Rattle.decision.proofs.handling.code_of.Lts as lts
 
 enum-told : tie.Need-enum-told
 enum-told c = search needs

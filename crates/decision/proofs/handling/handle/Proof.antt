@@ -1,10 +1,7 @@
 -- A number, a refusal in reading, or the request: the three ways of a call.
-use mathlib.Core.Path.{_≡_, refl, sym, ap, _∙_}
-use mathlib.Core.Bool.{Bool, true, false, _&&_}
-use mathlib.Core.List.{List, [], _∷_, _++_}
-use Prim.Native.Nat.{ℕ, _+_, _-_, _*_, _<_, _≤_}
-use native.Mathlib.Omega.{arith}
-use lib.ListN.{length, take, drop}
+use mathlib.Core.Path.{_≡_, sym, ap, _∙_}
+use mathlib.Core.Bool.{true, _&&_}
+use Prim.Native.Nat.{_-_}
 use Rattle.octets.specs.Lists.{every}
 use Rattle.octets.proofs.Lists.{and-left, and-right}
 use Rattle.message.specs.Kinds.{codeFrom}
@@ -17,12 +14,6 @@ use Rattle.decision.proofs.Numbers.{handled, is-ready, notice-fits, sil
 use borrow.Author.Needs.{needs}
 use Rattle.decision.proofs.handling.handle.Statement.{statement}
 use Rattle.decision.proofs.handling.handle.Tie as tie
-use Rattle.decision.proofs.handling.handle.Reads as reads
-use Rattle.decision.proofs.handling.handle.Lts as lts
-use Rattle.decision.proofs.handling.call_number.Reads as call-number-reads
-use Rattle.decision.proofs.handling.on_request.Reads as on-request-reads
-use Rattle.decision.proofs.handling.refuse.Reads as refuse-reads
-use Rattle.message.proofs.read.Reads as read-reads
 
 call-number-requires : tie.Need-call-number-requires
 call-number-requires c κs = search needs

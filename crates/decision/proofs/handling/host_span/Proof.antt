@@ -1,11 +1,9 @@
 -- Case by case of the request.
 use borrow.Author.Tests.{le-leb}
-use mathlib.Core.Path.{_≡_, refl, sym, ap, _∙_}
-use mathlib.Core.Bool.{Bool, true, false, _&&_}
-use mathlib.Core.List.{List, [], _∷_, _++_}
-use Prim.Native.Nat.{ℕ, _+_, _-_, _*_, _<_, _≤_}
+use mathlib.Core.Path.{refl}
+use Prim.Native.Nat.{_-_}
 use native.Mathlib.Omega.{arith}
-use lib.ListN.{length, take, drop}
+use lib.ListN.{length}
 use Rattle.octets.specs.Lists.{every}
 use Rattle.octets.proofs.Lists.{and-left, and-right}
 use Rattle.message.specs.Spans.{bytesOf, spansIn, isInside}
@@ -13,8 +11,6 @@ use Rattle.decision.specs.Outcomes.{hostText}
 use borrow.Author.Needs.{needs}
 use Rattle.decision.proofs.handling.host_span.Statement.{statement}
 use Rattle.decision.proofs.handling.host_span.Tie as tie
-use Rattle.decision.proofs.handling.host_span.Reads as reads
-use Rattle.decision.proofs.handling.host_span.Lts as lts
 
 enum-known-asked : tie.Need-enum-known-asked
 enum-known-asked c = search needs

@@ -1,10 +1,9 @@
 -- No row, an unsound row, or the request settled on the row.
 use mathlib.Core.Path.{_≡_, refl, sym, ap, _∙_}
-use mathlib.Core.Bool.{Bool, true, false, _&&_}
-use mathlib.Core.List.{List, [], _∷_, _++_}
-use Prim.Native.Nat.{ℕ, _+_, _-_, _*_, _<_, _≤_}
+use mathlib.Core.Bool.{true, false}
+use Prim.Native.Nat.{_+_, _-_, _*_, _≤_}
 use native.Mathlib.Omega.{arith}
-use lib.ListN.{length, take, drop}
+use lib.ListN.{length}
 use borrow.Author.Tests.{not-true, not-false}
 use Rattle.octets.specs.Choice.{pick}
 use Rattle.message.specs.Kinds.{codeFrom}
@@ -18,13 +17,6 @@ use Rattle.decision.specs.Outcomes.{callOf}
 use borrow.Author.Needs.{needs}
 use Rattle.decision.proofs.handling.on_request.Statement.{statement}
 use Rattle.decision.proofs.handling.on_request.Tie as tie
-use Rattle.decision.proofs.handling.on_request.Reads as reads
-use Rattle.decision.proofs.handling.on_request.Lts as lts
-use Rattle.decision.proofs.handling.refuse.Reads as refuse-reads
-use Rattle.decision.proofs.handling.settle.Reads as settle-reads
-use Rattle.decision.proofs.handling.text.Reads as text-reads
-use Rattle.table.proofs.lookup.Reads as lookup-reads
-use Rattle.table.proofs.row_sound.Reads as row-sound-reads
 
 text-requires : tie.Need-text-requires
 text-requires c κs = search needs

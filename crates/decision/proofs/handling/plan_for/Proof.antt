@@ -1,26 +1,18 @@
 -- Case by case of the request: its own plan, with the texts of its spans.
-use mathlib.Core.Path.{_≡_, refl, sym, ap, _∙_}
-use mathlib.Core.Bool.{Bool, true, false, _&&_}
-use mathlib.Core.List.{List, [], _∷_, _++_}
-use Prim.Native.Nat.{ℕ, _+_, _-_, _*_, _<_, _≤_}
-use native.Mathlib.Omega.{arith}
-use lib.ListN.{length, take, drop}
+use mathlib.Core.Path.{_≡_}
+use mathlib.Core.Bool.{true}
+use mathlib.Core.List.{[]}
+use Prim.Native.Nat.{_-_}
 use Rattle.octets.specs.Lists.{every}
 use Rattle.octets.proofs.Lists.{and-left, and-right}
 use Rattle.message.specs.Spans.{asks, bytesOf, spansIn, isInside}
 use Rattle.table.specs.TheTable.{readRow}
-use Rattle.decision.specs.Deciding.{decide, type0, type1, terminate}
-use Rattle.decision.specs.Plans.{planned, fitPlan}
-use Rattle.decision.specs.Outcomes.{sessionText, hostText, routeText, fitting}
+use Rattle.deciding.specs.Deciding.{decide}
+use Rattle.deciding.specs.Plans.{fitting}
+use Rattle.decision.specs.Outcomes.{sessionText, hostText, routeText}
 use borrow.Author.Needs.{needs}
 use Rattle.decision.proofs.handling.plan_for.Statement.{statement}
 use Rattle.decision.proofs.handling.plan_for.Tie as tie
-use Rattle.decision.proofs.handling.plan_for.Reads as reads
-use Rattle.decision.proofs.handling.plan_for.Lts as lts
-use Rattle.decision.proofs.deciding.plan_policy.Reads as plan-policy-reads
-use Rattle.decision.proofs.deciding.plan_termination.Reads as plan-termination-reads
-use Rattle.decision.proofs.deciding.plan_tunnel.Reads as plan-tunnel-reads
-use Rattle.decision.proofs.handling.text.Reads as text-reads
 
 enum-known-asked : tie.Need-enum-known-asked
 enum-known-asked c = search needs

@@ -1,21 +1,14 @@
 -- The reply of a refusal, from the answer that was written.
-use mathlib.Core.Path.{_≡_, refl, sym, ap, _∙_}
-use mathlib.Core.Bool.{Bool, true, false, _&&_}
-use mathlib.Core.List.{List, [], _∷_, _++_}
-use Prim.Native.Nat.{ℕ, _+_, _-_, _*_, _<_, _≤_}
-use native.Mathlib.Omega.{arith}
-use lib.ListN.{length, take, drop}
-use Rattle.message.specs.Kinds.{codeFrom}
+use mathlib.Core.Path.{refl}
+use mathlib.Core.List.{[]}
+use Prim.Native.Nat.{_-_}
 use Rattle.message.specs.WritingTheAnswer.{answer}
 use Rattle.decision.specs.Calls.{refusal, noticeRoom}
-use Rattle.decision.specs.Plans.{cutFor}
 use Rattle.decision.proofs.Answered.{answered-is}
 use borrow.Author.Needs.{needs}
 use Rattle.decision.proofs.handling.refuse.Statement.{statement}
 use Rattle.decision.proofs.handling.refuse.Tie as tie
-use Rattle.decision.proofs.handling.refuse.Reads as reads
-use Rattle.decision.proofs.handling.refuse.Lts as lts
-use Rattle.decision.proofs.handling.answer_call.Reads as answer-call-reads
+use Rattle.decision.specs.Outcomes.{cutFor}
 
 answer-call-requires : tie.Need-answer-call-requires
 answer-call-requires c κs =

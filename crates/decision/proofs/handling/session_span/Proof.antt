@@ -1,20 +1,13 @@
 -- Case by case of the request.
-use borrow.Author.Tests.{le-leb}
-use mathlib.Core.Path.{_≡_, refl, sym, ap, _∙_}
-use mathlib.Core.Bool.{Bool, true, false, _&&_}
-use mathlib.Core.List.{List, [], _∷_, _++_}
-use Prim.Native.Nat.{ℕ, _+_, _-_, _*_, _<_, _≤_}
-use native.Mathlib.Omega.{arith}
-use lib.ListN.{length, take, drop}
+use mathlib.Core.Path.{refl}
+use Prim.Native.Nat.{_-_}
 use Rattle.octets.specs.Lists.{every}
-use Rattle.octets.proofs.Lists.{and-left, and-right}
+use Rattle.octets.proofs.Lists.{and-left}
 use Rattle.message.specs.Spans.{bytesOf, spansIn, isInside}
 use Rattle.decision.specs.Outcomes.{sessionText}
 use borrow.Author.Needs.{needs}
 use Rattle.decision.proofs.handling.session_span.Statement.{statement}
 use Rattle.decision.proofs.handling.session_span.Tie as tie
-use Rattle.decision.proofs.handling.session_span.Reads as reads
-use Rattle.decision.proofs.handling.session_span.Lts as lts
 
 enum-known-asked : tie.Need-enum-known-asked
 enum-known-asked c = search needs

@@ -1,15 +1,14 @@
 -- What was planned is what is decided; what was carried out and answered is what it leaves.
 use Rattle.message.specs.Kinds.{codeFrom}
-use Rattle.decision.specs.Deciding.{Verdict, decide}
-use Rattle.decision.specs.Plans.{planned, fitPlan, doneFor, tableAfter}
+use Rattle.deciding.specs.Deciding.{Verdict, decide}
+use Rattle.deciding.specs.Plans.{planned, fitPlan}
 use Rattle.decision.specs.Calls.{noticeRoom}
-use Rattle.decision.specs.Outcomes.{sessionText, hostText, routeText}
+use Rattle.decision.specs.Outcomes.{sessionText, hostText, routeText, doneFor, tableAfter}
 use mathlib.Core.Path.{_≡_, refl, sym, ap, _∙_}
-use mathlib.Core.Bool.{Bool, true, false, _&&_}
-use mathlib.Core.List.{List, [], _∷_, _++_}
-use Prim.Native.Nat.{ℕ, _+_, _-_, _*_, _<_, _≤_}
+use mathlib.Core.Bool.{true}
+use Prim.Native.Nat.{_-_, _*_}
 use native.Mathlib.Omega.{arith}
-use lib.ListN.{length, take, drop}
+use lib.ListN.{length}
 use Rattle.message.specs.Spans.{asks}
 use Rattle.table.specs.TheTable.{rowAt, readRow}
 use Rattle.table.specs.Soundness.{sound}
@@ -18,17 +17,6 @@ use Rattle.decision.proofs.Answered.{request-fits, user-holds, user-sho
 use borrow.Author.Needs.{needs}
 use Rattle.decision.proofs.handling.settle.Statement.{statement}
 use Rattle.decision.proofs.handling.settle.Tie as tie
-use Rattle.decision.proofs.handling.settle.Reads as reads
-use Rattle.decision.proofs.handling.settle.Lts as lts
-use Rattle.decision.proofs.carrying.carry.Reads as carry-reads
-use Rattle.decision.proofs.handling.answer_call.Reads as answer-call-reads
-use Rattle.decision.proofs.handling.code_of.Reads as code-of-reads
-use Rattle.decision.proofs.handling.host_span.Reads as host-span-reads
-use Rattle.decision.proofs.handling.kind_of.Reads as kind-of-reads
-use Rattle.decision.proofs.handling.plan_for.Reads as plan-for-reads
-use Rattle.decision.proofs.handling.route_span.Reads as route-span-reads
-use Rattle.decision.proofs.handling.session_span.Reads as session-span-reads
-use Rattle.decision.proofs.handling.text.Reads as text-reads
 
 mul-a : tie.Need-mul-a
 mul-a c = search needs

@@ -1,17 +1,13 @@
 -- The part that is lent is the text of the span.
-use mathlib.Core.Path.{_≡_, refl, sym, ap, _∙_}
-use mathlib.Core.Bool.{Bool, true, false, _&&_}
-use mathlib.Core.List.{List, [], _∷_, _++_}
-use Prim.Native.Nat.{ℕ, _+_, _-_, _*_, _<_, _≤_}
+use mathlib.Core.Path.{_≡_}
+use Prim.Native.Nat.{_+_, _-_}
 use native.Mathlib.Omega.{arith}
-use lib.ListN.{length, take, drop}
+use lib.ListN.{length}
 use borrow.Author.Tests.{leb-true}
 use Rattle.message.specs.Spans.{bytesOf, isInside}
 use borrow.Author.Needs.{needs}
 use Rattle.decision.proofs.handling.text.Statement.{statement}
 use Rattle.decision.proofs.handling.text.Tie as tie
-use Rattle.decision.proofs.handling.text.Reads as reads
-use Rattle.decision.proofs.handling.text.Lts as lts
 
 add-end : tie.Need-add-end
 unfolding isInside

@@ -1,0 +1,5 @@
+pub mod Search
+pub mod Found
+pub mod Entries
+pub mod Stay
+pub mod Verdicts

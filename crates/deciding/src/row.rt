@@ -1,0 +1,165 @@
+// What a request speaks of, read from a sound row.
+ghost use mathlib.Core.Path.{_≡_};
+ghost use mathlib.Core.Bool.{true, _&&_};
+ghost use Prim.Native.Nat.{ℕ, _+_, _-_, _*_, _≤_, _<_};
+ghost use lib.Dec.{eqb};
+ghost use lib.ListN.{length, getD};
+ghost use Rattle.octets.specs.Texts.{same};
+ghost use Rattle.table.specs.TheTable.{block, orderLine, readAccess, readRow};
+ghost use Rattle.table.specs.Soundness.{sound, onEntry, sameLabel};
+ghost use Rattle.deciding.specs.Deciding.{entryNamed, entryAt, withSession, placeOf, firstOn};
+
+// The i-th place on the order line, first opened first; 0 where the line is over.
+fn line_at(row: &[u8], i: usize) -> usize
+    requires { ⌜ sound (now row) ≡ true ⌝ }
+    ensures { λ r. ⌜ r ≡ getD (orderLine (now (row .entry))) i 0 ⌝ }
+{
+    if 8 <= i {
+        return 0;
+    }
+    octets::long(row[20 + i])
+}
+
+// Whether the access at a place is on this entry.
+fn on_entry(row: &[u8], place: usize, entry: usize) -> bool
+    requires { ⌜ (length (now row) ≡ 4608) × (place ≤ 8) ⌝ }
+    ensures { λ r. ⌜ r ≡ eqb ((readAccess place (block (now (row .entry)) place)) .entry) entry ⌝ }
+{
+    octets::long(row[place * 512 + 1]) == entry
+}
+
+// Whether the access at a place has this Session-Id.
+fn has_session(row: &[u8], place: usize, session: &[u8]) -> bool
+    requires { ⌜ (length (now row) ≡ 4608) × (place ≤ 8) ⌝ }
+    ensures { λ r. ⌜ r ≡ same ((readAccess place (block (now (row .entry)) place)) .session) (now (session .entry)) ⌝ }
+{
+    let from = place * 512 + 8;
+    let end = from + octets::long(row[place * 512 + 2]);
+    octets::same_bytes(&row[from..end], session)
+}
+
+// Whether the access at a place is on this entry and has this Session-Id.
+fn is_access(row: &[u8], place: usize, entry: usize, session: &[u8]) -> bool
+    requires { ⌜ (length (now row) ≡ 4608) × (place ≤ 8) ⌝ }
+    ensures { λ r.
+        ⌜
+        r
+        ≡ eqb ((readAccess place (block (now (row .entry)) place)) .entry) entry
+        && same ((readAccess place (block (now (row .entry)) place)) .session) (now (session .entry))
+        ⌝ }
+{
+    if on_entry(row, place, entry) {
+        return has_session(row, place, session);
+    }
+    false
+}
+
+// The place of the entry's first-opened access: the search along the order line yields it by break; 0 where there is none.
+pub fn first_on(row: &[u8], entry: usize) -> usize
+    requires { ⌜ sound (now row) ≡ true ⌝ }
+    ensures { λ r. ⌜ (r ≡ firstOn entry ((readRow (now (row .entry))) .accesses)) × (r ≤ 8) ⌝ }
+{
+    let mut i: usize = 0;
+    loop {
+        let place = line_at(row, i);
+        if place == 0 {
+            break 0;
+        }
+        if on_entry(row, place, entry) {
+            break place;
+        }
+        i += 1;
+    }
+}
+
+// The place of the access with this Session-Id, 0 where there is none.
+pub fn place_of(row: &[u8], session: &[u8]) -> usize
+    requires { ⌜ sound (now row) ≡ true ⌝ }
+    ensures { λ r. ⌜ (r ≡ placeOf (withSession (now (session .entry)) ((readRow (now (row .entry))) .accesses))) × (r ≤ 8) ⌝ }
+{
+    let mut i: usize = 0;
+    loop {
+        let place = line_at(row, i);
+        if place == 0 {
+            break 0;
+        }
+        if has_session(row, place, session) {
+            break place;
+        }
+        i += 1;
+    }
+}
+
+// The place of the access with this Session-Id on this entry, 0 where there is none.
+pub fn place_on(row: &[u8], entry: usize, session: &[u8]) -> usize
+    requires { ⌜ sound (now row) ≡ true ⌝ }
+    ensures { λ r. ⌜ (r ≡ placeOf (withSession (now (session .entry)) (onEntry entry ((readRow (now (row .entry))) .accesses)))) × (r ≤ 8) ⌝ }
+{
+    let mut i: usize = 0;
+    loop {
+        let place = line_at(row, i);
+        if place == 0 {
+            break 0;
+        }
+        if is_access(row, place, entry, session) {
+            break place;
+        }
+        i += 1;
+    }
+}
+
+// How many entries there are.
+fn entry_count(row: &[u8]) -> usize
+    requires { ⌜ sound (now row) ≡ true ⌝ }
+    ensures { λ r. ⌜ (r ≡ length ((readRow (now (row .entry))) .entries)) × (r ≤ 4) ⌝ }
+{
+    octets::long(row[18])
+}
+
+// Whether entry n, counted from 1, has this label.
+fn has_label(row: &[u8], n: usize, label: &[u8]) -> bool
+    requires { ⌜ (sound (now row) ≡ true) × (1 ≤ n) × (n ≤ length ((readRow (now row)) .entries)) ⌝ }
+    ensures { λ r. ⌜ r ≡ sameLabel (now (label .entry)) ((entryAt n (readRow (now (row .entry)))) .label) ⌝ }
+{
+    let from = 104 * n - 71;
+    let end = from + octets::long(row[104 * n - 72]);
+    forms::same_label(label, &row[from..end])
+}
+
+// The number of the entry with this label, counted from 1; 0 where no entry has it.
+pub fn entry_named(row: &[u8], label: &[u8]) -> usize
+    requires { ⌜ sound (now row) ≡ true ⌝ }
+    ensures { λ r.
+        ⌜
+        (r ≡ entryNamed (now (label .entry)) (readRow (now (row .entry))))
+        × (r ≤ length ((readRow (now (row .entry))) .entries))
+        ⌝ }
+{
+    let count = entry_count(row);
+    let mut n: usize = 1;
+    loop {
+        if count < n {
+            break 0;
+        }
+        if has_label(row, n, label) {
+            break n;
+        }
+        n += 1;
+    }
+}
+
+// The flags of entry n.
+pub fn flags_of(row: &[u8], n: usize) -> u8
+    requires { ⌜ (sound (now row) ≡ true) × (1 ≤ n) × (n ≤ length ((readRow (now row)) .entries)) ⌝ }
+    ensures { λ r. ⌜ r ≡ (entryAt n (readRow (now (row .entry)))) .flags ⌝ }
+{
+    row[104 * n + 29]
+}
+
+// The limit of entry n.
+pub fn limit_of(row: &[u8], n: usize) -> u8
+    requires { ⌜ (sound (now row) ≡ true) × (1 ≤ n) × (n ≤ length ((readRow (now row)) .entries)) ⌝ }
+    ensures { λ r. ⌜ r ≡ (entryAt n (readRow (now (row .entry)))) .limit ⌝ }
+{
+    row[104 * n + 30]
+}

@@ -1,0 +1,163 @@
+-- The three rooms and the rest in order; each way out is the first that fails.
+use native.Mathlib.Omega.{arith}
+use lib.ListN.{getD}
+use borrow.Author.Needs.{needs}
+use Rattle.octets.specs.Texts.{part}
+use Rattle.octets.proofs.Texts.{length-part}
+use Rattle.table.proofs.Tests.{behind-said, fails, passes-on}
+use Rattle.forms.proofs.access_rooms.Statement.{statement}
+use Rattle.forms.proofs.access_rooms.Tie as tie
+
+sub-zero-behind : tie.Need-sub-zero-behind
+sub-zero-behind c = search needs
+
+part-zero-behind-start : tie.Need-part-zero-behind-start
+part-zero-behind-start c = search needs
+
+part-zero-behind-end : tie.Need-part-zero-behind-end
+part-zero-behind-end c = search needs
+
+shared-slice-read-long : tie.Need-shared-slice-read-long
+shared-slice-read-long c = search needs
+
+long-requires : tie.Need-long-requires
+long-requires c κs = search needs
+
+zero-behind-requires : tie.Need-zero-behind-requires
+zero-behind-requires c κs =
+    let given = c .before .before .before .before .args in
+    let long-was = c .long in
+    omega (arith, length-part (given .b .now) 8 128 (omega arith), long-was .ensures .0)
+
+returns : tie.Need-returns
+returns c =
+    let given = c .before .before .before .before .before .before .args in
+    let long-was = c .before .before .long in
+    let zero-behind-was = c .before .zero-behind in
+    let test1 = c .if1 in
+    rw (fails (behind-said (part (given .b .now) 8 128) (long-was .result) (getD (given .b .now) 2 0) (long-was .ensures .0) (zero-behind-was .ensures)) (test1 .taken))
+
+sub-zero-behind-2 : tie.Need-sub-zero-behind-2
+sub-zero-behind-2 c = search needs
+
+part-zero-behind-start-2 : tie.Need-part-zero-behind-start-2
+part-zero-behind-start-2 c = search needs
+
+part-zero-behind-end-2 : tie.Need-part-zero-behind-end-2
+part-zero-behind-end-2 c = search needs
+
+shared-slice-read-long-2 : tie.Need-shared-slice-read-long-2
+shared-slice-read-long-2 c = search needs
+
+long-requires-2 : tie.Need-long-requires-2
+long-requires-2 c κs = search needs
+
+zero-behind-requires-2 : tie.Need-zero-behind-requires-2
+zero-behind-requires-2 c κs =
+    let given = c .before .before .before .before .before .before .before .before .before .args in
+    let long2-was = c .long2 in
+    omega (arith, length-part (given .b .now) 136 128 (omega arith), long2-was .ensures .0)
+
+returns-2 : tie.Need-returns-2
+returns-2 c =
+    let given = c .before .before .before .before .before .before .before .before .before .before .before .args in
+    let long-was = c .before .before .before .before .before .before .before .long in
+    let zero-behind-was = c .before .before .before .before .before .before .zero-behind in
+    let test1 = c .before .before .before .before .before .if1 in
+    let long2-was = c .before .before .long2 in
+    let zero-behind2-was = c .before .zero-behind2 in
+    let test2 = c .if2 in
+    rw (passes-on (behind-said (part (given .b .now) 8 128) (long-was .result) (getD (given .b .now) 2 0) (long-was .ensures .0) (zero-behind-was .ensures)) (test1 .left), fails (behind-said (part (given .b .now) 136 128) (long2-was .result) (getD (given .b .now) 3 0) (long2-was .ensures .0) (zero-behind2-was .ensures)) (test2 .taken))
+
+sub-zero-behind-3 : tie.Need-sub-zero-behind-3
+sub-zero-behind-3 c = search needs
+
+part-zero-behind-start-3 : tie.Need-part-zero-behind-start-3
+part-zero-behind-start-3 c = search needs
+
+part-zero-behind-end-3 : tie.Need-part-zero-behind-end-3
+part-zero-behind-end-3 c = search needs
+
+shared-slice-read-long-3 : tie.Need-shared-slice-read-long-3
+shared-slice-read-long-3 c = search needs
+
+long-requires-3 : tie.Need-long-requires-3
+long-requires-3 c κs = search needs
+
+zero-behind-requires-3 : tie.Need-zero-behind-requires-3
+zero-behind-requires-3 c κs =
+    let given = c .before .before .before .before .before .before .before .before .before .before .before .before .before .before .args in
+    let long3-was = c .long3 in
+    omega (arith, length-part (given .b .now) 264 128 (omega arith), long3-was .ensures .0)
+
+returns-3 : tie.Need-returns-3
+returns-3 c =
+    let given = c .before .before .before .before .before .before .before .before .before .before .before .before .before .before .before .before .args in
+    let long-was = c .before .before .before .before .before .before .before .before .before .before .before .before .long in
+    let zero-behind-was = c .before .before .before .before .before .before .before .before .before .before .before .zero-behind in
+    let test1 = c .before .before .before .before .before .before .before .before .before .before .if1 in
+    let long2-was = c .before .before .before .before .before .before .before .long2 in
+    let zero-behind2-was = c .before .before .before .before .before .before .zero-behind2 in
+    let test2 = c .before .before .before .before .before .if2 in
+    let long3-was = c .before .before .long3 in
+    let zero-behind3-was = c .before .zero-behind3 in
+    let test3 = c .if3 in
+    rw (passes-on (behind-said (part (given .b .now) 8 128) (long-was .result) (getD (given .b .now) 2 0) (long-was .ensures .0) (zero-behind-was .ensures)) (test1 .left), passes-on (behind-said (part (given .b .now) 136 128) (long2-was .result) (getD (given .b .now) 3 0) (long2-was .ensures .0) (zero-behind2-was .ensures)) (test2 .left), fails (behind-said (part (given .b .now) 264 128) (long3-was .result) (getD (given .b .now) 5 0) (long3-was .ensures .0) (zero-behind3-was .ensures)) (test3 .taken))
+
+sub-all-zero : tie.Need-sub-all-zero
+sub-all-zero c = search needs
+
+part-all-zero-start : tie.Need-part-all-zero-start
+part-all-zero-start c = search needs
+
+part-all-zero-end : tie.Need-part-all-zero-end
+part-all-zero-end c = search needs
+
+all-zero-requires : tie.Need-all-zero-requires
+all-zero-requires c κs = search needs
+
+returns-4 : tie.Need-returns-4
+returns-4 c =
+    let given = c .before .before .before .before .before .before .before .before .before .before .before .before .before .before .before .before .before .before .args in
+    let long-was = c .before .before .before .before .before .before .before .before .before .before .before .before .before .before .long in
+    let zero-behind-was = c .before .before .before .before .before .before .before .before .before .before .before .before .before .zero-behind in
+    let test1 = c .before .before .before .before .before .before .before .before .before .before .before .before .if1 in
+    let long2-was = c .before .before .before .before .before .before .before .before .before .long2 in
+    let zero-behind2-was = c .before .before .before .before .before .before .before .before .zero-behind2 in
+    let test2 = c .before .before .before .before .before .before .before .if2 in
+    let long3-was = c .before .before .before .before .long3 in
+    let zero-behind3-was = c .before .before .before .zero-behind3 in
+    let test3 = c .before .before .if3 in
+    let all-zero-was = c .all-zero in
+    rw (passes-on (behind-said (part (given .b .now) 8 128) (long-was .result) (getD (given .b .now) 2 0) (long-was .ensures .0) (zero-behind-was .ensures)) (test1 .left), passes-on (behind-said (part (given .b .now) 136 128) (long2-was .result) (getD (given .b .now) 3 0) (long2-was .ensures .0) (zero-behind2-was .ensures)) (test2 .left), passes-on (behind-said (part (given .b .now) 264 128) (long3-was .result) (getD (given .b .now) 5 0) (long3-was .ensures .0) (zero-behind3-was .ensures)) (test3 .left)) (all-zero-was .ensures)
+
+pub access-rooms-spec : {M : Type 1} → statement M
+access-rooms-spec =
+    tie.close
+    (tie.spec
+    sub-zero-behind
+    part-zero-behind-start
+    part-zero-behind-end
+    shared-slice-read-long
+    long-requires
+    zero-behind-requires
+    returns
+    sub-zero-behind-2
+    part-zero-behind-start-2
+    part-zero-behind-end-2
+    shared-slice-read-long-2
+    long-requires-2
+    zero-behind-requires-2
+    returns-2
+    sub-zero-behind-3
+    part-zero-behind-start-3
+    part-zero-behind-end-3
+    shared-slice-read-long-3
+    long-requires-3
+    zero-behind-requires-3
+    returns-3
+    sub-all-zero
+    part-all-zero-start
+    part-all-zero-end
+    all-zero-requires
+    returns-4)

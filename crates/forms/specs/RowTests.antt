@@ -1,0 +1,29 @@
+-- The clauses of a sound row, block by block, as the code tests them. That together they are the paper's is `sound-by`
+-- of proofs/Tested.
+use mathlib.Core.Bool.{Bool, _&&_}
+use mathlib.Core.List.{List}
+use Prim.Native.Nat.{ℕ}
+use lib.Dec.{eqb, leb}
+use lib.ListN.{getD, take}
+use Rattle.octets.specs.Choice.{pick, within}
+use Rattle.octets.specs.Lists.{distinct, sumOf}
+use Rattle.octets.specs.Texts.{part, same, allZero}
+use Rattle.table.specs.TheTable.{sums, block, readRow}
+use Rattle.table.specs.Soundness.{accessForm, entriesForm, headForm, inUse, labels, limits, sameLabel}
+
+-- A place in use, where the subscriber has n entries: its form; byte 5 is 1 or more exactly if byte 4 is 1; its entry
+-- exists; its sums agree.
+unfoldable pub accessSound : ℕ → List ℕ → Bool
+accessSound n b =
+    accessForm b && (eqb (getD b 4 0) (pick (leb 1 (getD b 5 0)) 1 0)
+    && (within 1 n (getD b 1 0) && same (part b 510 2) (sums (take 510 b))))
+
+-- A place of a row. A free one is zero, and the sums of a zero block agree.
+unfoldable pub placeSound : ℕ → List ℕ → ℕ → Bool
+placeSound n r k = pick (inUse r k) (accessSound n (block r k)) (allZero (block r k))
+
+-- Block 0 but for its sums and for what its order line says: its form, the entries' form, their labels and limits.
+unfoldable pub headSound : List ℕ → Bool
+headSound r =
+    headForm (block r 0) && (entriesForm (getD (block r 0) 18 0) (part (block r 0) 32 416)
+    && (distinct sameLabel (labels ((readRow r) .entries)) && leb (sumOf (limits ((readRow r) .entries))) 8))

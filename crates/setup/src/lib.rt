@@ -1,0 +1,172 @@
+// The three set-up operations: clear a table, enter a subscriber, add a W-APN. A number other than 0 leaves the
+// table as it was.
+use table::RowFound;
+ghost use mathlib.Core.Path.{_≡_};
+ghost use mathlib.Core.Bool.{not, true, _&&_};
+ghost use lib.Dec.{leb};
+ghost use Prim.Native.Nat.{_+_, _-_, _*_, _≤_, _<_};
+ghost use lib.ListN.{length};
+ghost use Rattle.octets.specs.Choice.{within};
+ghost use Rattle.octets.specs.Lists.{every};
+ghost use Rattle.table.specs.TheTable.{readEntries, readRow, rowAt, rowBytes, withRow};
+ghost use Rattle.table.specs.Soundness.{entriesForm, isName, labels, sameLabel, sound};
+ghost use Rattle.setup.specs.SetUp.{add, clear, enter, entryNumber, left};
+ghost use Rattle.changes.specs.Changes.{named, withEntry};
+
+// Every byte zero.
+pub fn clear(table: &mut [u8]) -> u32
+    ensures { λ r. ⌜ left r (now (table .exit)) ≡ clear (now (table .entry)) ⌝ }
+{
+    let number = table::table_number(table);
+    if number != 0 {
+        return number;
+    }
+    octets::clear(table);
+    0
+}
+
+// A name: 1 to 15 digits.
+fn is_name(name: &[u8]) -> bool
+    ensures { λ r. ⌜ r ≡ isName (now (name .entry)) ⌝ }
+{
+    if name.len() < 1 {
+        return false;
+    }
+    if 15 < name.len() {
+        return false;
+    }
+    forms::digits(name)
+}
+
+// Row i is that of a new subscriber.
+fn enter_row(table: &mut [u8], i: usize, name: &[u8])
+    requires { ⌜ (4608 * i + 4608 ≤ length (now table)) × (length (now name) ≤ 15) ⌝ }
+    ensures { λ _. ⌜ now (table .exit) ≡ withRow (now (table .entry)) i (rowBytes (named (now (name .entry)))) ⌝ }
+{
+    let a = 4608 * i;
+    let e = a + 4608;
+    changes::new_row(&mut table[a..e], name);
+}
+
+// A new subscriber takes the first wholly zero row.
+pub fn enter(table: &mut [u8], name: &[u8]) -> u32
+    ensures { λ r. ⌜ left r (now (table .exit)) ≡ enter (now (table .entry)) (now (name .entry)) ⌝ }
+{
+    let n = table::table_number(table);
+    if n != 0 {
+        return n;
+    }
+    if !is_name(name) {
+        return 9;
+    }
+    let RowFound::Nothing = table::lookup(table, name) else {
+        return 10;
+    };
+    let RowFound::At(i) = table::first_zero_row(table) else {
+        return 11;
+    };
+    enter_row(table, i, name);
+    0
+}
+
+// None of the n labels in the room of entries is the one given.
+fn label_new(room: &[u8], n: usize, label: &[u8]) -> bool
+    requires { ⌜ (length (now room) ≡ 416) × (n ≤ 4) × (entriesForm n (now room) ≡ true) ⌝ }
+    ensures { λ r. ⌜ r ≡ every (λ l. not (sameLabel l (now (label .entry)))) (labels (readEntries n (now (room .entry)))) ⌝ }
+{
+    let mut i: usize = 0;
+    while i < n {
+        let from = 104 * i + 1;
+        let to = from + octets::long(room[104 * i]);
+        if forms::same_label(&room[from..to], label) {
+            return false;
+        }
+        i += 1;
+    }
+    true
+}
+
+// What an entry is given: a label of 1 to 100 bytes, flags of at most 3, a limit of 1 to 8.
+fn entry_given(label: &[u8], limit: u8, flags: u8) -> bool
+    ensures { λ r. ⌜ r ≡ within 1 100 (length (now (label .entry))) && (leb flags 3 && within 1 8 limit) ⌝ }
+{
+    if label.len() < 1 {
+        return false;
+    }
+    if 100 < label.len() {
+        return false;
+    }
+    if 3 < flags {
+        return false;
+    }
+    if limit < 1 {
+        return false;
+    }
+    limit <= 8
+}
+
+// The number that a sound row gives to an entry, 0 where it may be added.
+fn next_number(row: &[u8], label: &[u8], limit: u8, flags: u8) -> u32
+    requires { ⌜ sound (now row) ≡ true ⌝ }
+    ensures { λ r. ⌜ r ≡ entryNumber (now (row .entry)) (record { label = now (label .entry); flags = flags; limit = limit }) ⌝ }
+{
+    if !entry_given(label, limit, flags) {
+        return 14;
+    }
+    let n = octets::long(row[18]);
+    if !label_new(&row[32..448], n, label) {
+        return 15;
+    }
+    if 4 <= n {
+        return 16;
+    }
+    if 8 < forms::limits_sum(&row[32..448], n) + octets::wide(limit) {
+        return 17;
+    }
+    0
+}
+
+// The entry behind the others of row i.
+fn add_entry(table: &mut [u8], i: usize, label: &[u8], flags: u8, limit: u8)
+    requires { ⌜ (4608 * i + 4608 ≤ length (now table)) × (sound (rowAt (now table) i) ≡ true) × (length ((readRow (rowAt (now table) i)) .entries) < 4)
+        × (length (now label) ≤ 100) ⌝ }
+    ensures { λ _. ⌜ now (table .exit)
+        ≡ withRow (now (table .entry)) i (rowBytes (withEntry (record { label = now (label .entry); flags = flags; limit = limit }) (readRow (rowAt (now (table .entry)) i)))) ⌝ }
+{
+    let a = 4608 * i;
+    let e = a + 4608;
+    changes::append_entry(&mut table[a..e], label, flags, limit);
+}
+
+// The number that a row gives to an entry. Nothing but its soundness is tested in an unsound row.
+fn entry_number(row: &[u8], label: &[u8], limit: u8, flags: u8) -> u32
+    requires { ⌜ length (now row) ≡ 4608 ⌝ }
+    ensures { λ r. ⌜ r ≡ entryNumber (now (row .entry)) (record { label = now (label .entry); flags = flags; limit = limit }) ⌝ }
+{
+    if !soundness::row_sound(row) {
+        return 13;
+    }
+    next_number(row, label, limit, flags)
+}
+
+// A W-APN for a subscriber.
+pub fn add(table: &mut [u8], name: &[u8], label: &[u8], limit: u8, flags: u8) -> u32
+    ensures { λ r. ⌜ left r (now (table .exit))
+        ≡ add (now (table .entry)) (now (name .entry)) (record { label = now (label .entry); flags = flags; limit = limit }) ⌝ }
+{
+    let n = table::table_number(table);
+    if n != 0 {
+        return n;
+    }
+    let RowFound::At(i) = table::lookup(table, name) else {
+        return 12;
+    };
+    let a = 4608 * i;
+    let e = a + 4608;
+    let m = entry_number(&table[a..e], label, limit, flags);
+    if m != 0 {
+        return m;
+    }
+    add_entry(table, i, label, flags, limit);
+    0
+}

@@ -1,0 +1,4 @@
+pub mod Accesses
+pub mod Bits
+pub mod Line
+pub mod Tested

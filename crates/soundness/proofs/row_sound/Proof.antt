@@ -1,0 +1,162 @@
+-- The tests in the code's order are the paper's clauses: `sound-by` of Tested. Each way out is the first that fails.
+use native.Mathlib.Omega.{arith}
+use borrow.Author.Needs.{needs}
+use Rattle.table.specs.Soundness.{sumsAgree}
+use Rattle.table.proofs.Tests.{fails, passes-on}
+use Rattle.soundness.proofs.Tested.{few-entries, sound-by, tested}
+use Rattle.soundness.proofs.row_sound.Statement.{statement}
+use Rattle.soundness.proofs.row_sound.Tie as tie
+
+head-sound-requires : tie.Need-head-sound-requires
+head-sound-requires c κs = search needs
+
+returns : tie.Need-returns
+unfolding tested
+returns c =
+    let given = c .before .before .before .args in
+    let pre-was = c .before .before .before .pre in
+    let head-sound-was = c .before .head-sound in
+    let test1 = c .if1 in
+    rw (sound-by (given .r .now) pre-was, fails (head-sound-was .ensures) (test1 .taken))
+
+line-exact-requires : tie.Need-line-exact-requires
+line-exact-requires c κs = search needs
+
+returns-2 : tie.Need-returns-2
+unfolding tested
+returns-2 c =
+    let given = c .before .before .before .before .before .args in
+    let pre-was = c .before .before .before .before .before .pre in
+    let head-sound-was = c .before .before .before .head-sound in
+    let test1 = c .before .before .if1 in
+    let line-exact-was = c .before .line-exact in
+    let test2 = c .if2 in
+    rw (sound-by (given .r .now) pre-was, passes-on (head-sound-was .ensures) (test1 .left), fails (line-exact-was .ensures) (test2 .taken))
+
+shared-slice-read-places-sound : tie.Need-shared-slice-read-places-sound
+shared-slice-read-places-sound c = search needs
+
+places-sound-requires : tie.Need-places-sound-requires
+places-sound-requires c κs = search needs
+
+returns-3 : tie.Need-returns-3
+unfolding tested
+returns-3 c =
+    let given = c .before .before .before .before .before .before .before .before .args in
+    let pre-was = c .before .before .before .before .before .before .before .before .pre in
+    let head-sound-was = c .before .before .before .before .before .before .head-sound in
+    let test1 = c .before .before .before .before .before .if1 in
+    let line-exact-was = c .before .before .before .before .line-exact in
+    let test2 = c .before .before .before .if2 in
+    let places-sound-was = c .before .places-sound in
+    let test3 = c .if3 in
+    rw (sound-by (given .r .now) pre-was, passes-on (head-sound-was .ensures) (test1 .left), passes-on (line-exact-was .ensures) (test2 .left), fails (places-sound-was .ensures) (test3 .taken))
+
+sessions-differ-requires : tie.Need-sessions-differ-requires
+sessions-differ-requires c κs =
+    let pre-was = c .before .before .before .before .before .before .before .before .pre in
+    let line-exact-was = c .before .before .before .before .line-exact in
+    let test2 = c .before .before .before .if2 in
+    (pre-was, passes-on (line-exact-was .ensures) (test2 .left))
+
+returns-4 : tie.Need-returns-4
+unfolding tested
+returns-4 c =
+    let given = c .before .before .before .before .before .before .before .before .before .before .args in
+    let pre-was = c .before .before .before .before .before .before .before .before .before .before .pre in
+    let head-sound-was = c .before .before .before .before .before .before .before .before .head-sound in
+    let test1 = c .before .before .before .before .before .before .before .if1 in
+    let line-exact-was = c .before .before .before .before .before .before .line-exact in
+    let test2 = c .before .before .before .before .before .if2 in
+    let places-sound-was = c .before .before .before .places-sound in
+    let test3 = c .before .before .if3 in
+    let sessions-differ-was = c .before .sessions-differ in
+    let test4 = c .if4 in
+    rw (sound-by (given .r .now) pre-was, passes-on (head-sound-was .ensures) (test1 .left), passes-on (line-exact-was .ensures) (test2 .left), passes-on (places-sound-was .ensures) (test3 .left), fails (sessions-differ-was .ensures) (test4 .taken))
+
+shared-slice-read-long : tie.Need-shared-slice-read-long
+shared-slice-read-long c = search needs
+
+long-requires : tie.Need-long-requires
+long-requires c κs = search needs
+
+under-limits-requires : tie.Need-under-limits-requires
+under-limits-requires c κs =
+    let pre-was = c .before .before .before .before .before .before .before .before .before .before .before .before .pre in
+    let line-exact-was = c .before .before .before .before .before .before .before .before .line-exact in
+    let test2 = c .before .before .before .before .before .before .before .if2 in
+    let long-was = c .long in
+    let given = c .before .before .before .before .before .before .before .before .before .before .before .before .args in
+    let head-sound-was = c .before .before .before .before .before .before .before .before .before .before .head-sound in
+    let test1 = c .before .before .before .before .before .before .before .before .before .if1 in
+    (pre-was, passes-on (line-exact-was .ensures) (test2 .left), long-was .ensures .0, omega (arith, few-entries (given .r .now) (passes-on (head-sound-was .ensures) (test1 .left)), long-was .ensures .0))
+
+returns-5 : tie.Need-returns-5
+unfolding tested
+returns-5 c =
+    let given = c .before .before .before .before .before .before .before .before .before .before .before .before .before .before .args in
+    let pre-was = c .before .before .before .before .before .before .before .before .before .before .before .before .before .before .pre in
+    let head-sound-was = c .before .before .before .before .before .before .before .before .before .before .before .before .head-sound in
+    let test1 = c .before .before .before .before .before .before .before .before .before .before .before .if1 in
+    let line-exact-was = c .before .before .before .before .before .before .before .before .before .before .line-exact in
+    let test2 = c .before .before .before .before .before .before .before .before .before .if2 in
+    let places-sound-was = c .before .before .before .before .before .before .before .places-sound in
+    let test3 = c .before .before .before .before .before .before .if3 in
+    let sessions-differ-was = c .before .before .before .before .before .sessions-differ in
+    let test4 = c .before .before .before .before .if4 in
+    let under-limits-was = c .before .under-limits in
+    let test5 = c .if5 in
+    rw (sound-by (given .r .now) pre-was, passes-on (head-sound-was .ensures) (test1 .left), passes-on (line-exact-was .ensures) (test2 .left), passes-on (places-sound-was .ensures) (test3 .left), passes-on (sessions-differ-was .ensures) (test4 .left), fails (under-limits-was .ensures) (test5 .taken))
+
+sub-block-sums-agree : tie.Need-sub-block-sums-agree
+sub-block-sums-agree c = search needs
+
+part-block-sums-agree-start : tie.Need-part-block-sums-agree-start
+part-block-sums-agree-start c = search needs
+
+part-block-sums-agree-end : tie.Need-part-block-sums-agree-end
+part-block-sums-agree-end c = search needs
+
+block-sums-agree-requires : tie.Need-block-sums-agree-requires
+block-sums-agree-requires c κs = search needs
+
+returns-6 : tie.Need-returns-6
+unfolding tested sumsAgree
+returns-6 c =
+    let given = c .before .before .before .before .before .before .before .before .before .before .before .before .before .before .before .before .args in
+    let pre-was = c .before .before .before .before .before .before .before .before .before .before .before .before .before .before .before .before .pre in
+    let head-sound-was = c .before .before .before .before .before .before .before .before .before .before .before .before .before .before .head-sound in
+    let test1 = c .before .before .before .before .before .before .before .before .before .before .before .before .before .if1 in
+    let line-exact-was = c .before .before .before .before .before .before .before .before .before .before .before .before .line-exact in
+    let test2 = c .before .before .before .before .before .before .before .before .before .before .before .if2 in
+    let places-sound-was = c .before .before .before .before .before .before .before .before .before .places-sound in
+    let test3 = c .before .before .before .before .before .before .before .before .if3 in
+    let sessions-differ-was = c .before .before .before .before .before .before .before .sessions-differ in
+    let test4 = c .before .before .before .before .before .before .if4 in
+    let under-limits-was = c .before .before .before .under-limits in
+    let test5 = c .before .before .if5 in
+    let block-sums-agree-was = c .block-sums-agree in
+    rw (sound-by (given .r .now) pre-was, passes-on (head-sound-was .ensures) (test1 .left), passes-on (line-exact-was .ensures) (test2 .left), passes-on (places-sound-was .ensures) (test3 .left), passes-on (sessions-differ-was .ensures) (test4 .left), passes-on (under-limits-was .ensures) (test5 .left)) (block-sums-agree-was .ensures)
+
+pub row-sound-spec : {M : Type 1} → statement M
+row-sound-spec =
+    tie.close
+    (tie.spec
+    head-sound-requires
+    returns
+    line-exact-requires
+    returns-2
+    shared-slice-read-places-sound
+    places-sound-requires
+    returns-3
+    sessions-differ-requires
+    returns-4
+    shared-slice-read-long
+    long-requires
+    under-limits-requires
+    returns-5
+    sub-block-sums-agree
+    part-block-sums-agree-start
+    part-block-sums-agree-end
+    block-sums-agree-requires
+    returns-6)

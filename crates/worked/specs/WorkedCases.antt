@@ -1,0 +1,107 @@
+-- The worked cases: the twelve with a star as one list, and others that shut out what the twelve let pass.
+use mathlib.Core.Bool.{Bool, true, _&&_}
+use mathlib.Core.List.{List, [], _∷_}
+use Prim.Native.Nat.{ℕ}
+use lib.Dec.{eqb}
+use lib.ListN.{take, drop}
+use Rattle.setup.specs.SetUp.{add, clear, enter}
+use Rattle.message.specs.WorkedCases.{board, capitalBoard, case10, case9, endAt, gate, gateway, name, openAt, openVisited, ownHost, ownRealm, routeBy, session, yard}
+use Rattle.octets.specs.Texts.{filled, same, zeros}
+use Rattle.table.specs.TheTable.{orderLine}
+use Rattle.table.specs.WorkedCases.{case8}
+use Rattle.decision.specs.Calls.{Left, handle}
+
+-- THE TABLE OF THE CASES, made by the set-up operations: one row, the subscriber with "board" (limit 2, no flags) and
+-- "yard" (limit 1, barred).
+unfoldable pub withLabel : List ℕ → (label : List ℕ) → (flags limit : ℕ) → List ℕ
+withLabel t label flags limit = (add t name (record { label = label; flags = flags; limit = limit })) .table
+
+unfoldable pub start : List ℕ
+start = withLabel (withLabel ((enter ((clear (zeros 4608)) .table) name) .table) board 0 2) yard 1 1
+
+-- A call: the server's own names, an answer room and a notice room of zeros, and yes from the WAG.
+unfoldable pub ask : List ℕ → List ℕ → Left
+ask t message =
+    handle t (record { message = message; host = ownHost; realm = ownRealm; answer = zeros 5120; notice = zeros 256; wag = true })
+
+-- WHAT IS EXPECTED
+
+-- No cut: no lengths, and the notice room untouched.
+unfoldable pub noCut : Left → Bool
+noCut l =
+    eqb (l .reply .result .cut) 0 && (eqb (l .reply .result .cutSession) 0 && (eqb (l .reply .result .cutHost) 0
+    && same (l .reply .notice) (zeros 256)))
+
+-- The cut of the access of that letter: its texts' lengths, and the notice.
+unfoldable pub cutOf : ℕ → Left → Bool
+cutOf letter l =
+    eqb (l .reply .result .cut) 1 && (eqb (l .reply .result .cutSession) 3 && (eqb (l .reply .result .cutHost) 2
+    && (same (take 128 (l .reply .notice)) (filled (session letter) 128) && same (drop 128 (l .reply .notice)) (filled gateway 128))))
+
+-- Success: 2001, the place, what is said of a cut, and the order line afterwards.
+unfoldable pub granted : Left → (place : ℕ) → (cut : Left → Bool) → (line : List ℕ) → Bool
+granted l place cut line =
+    eqb (l .reply .result .code) 2001 && (eqb (l .reply .result .kind) 1 && (eqb (l .reply .result .place) place
+    && (cut l && same (orderLine (l .table)) line)))
+
+-- A refusal: the code and its kind, place 0, no cut, and the table as it was.
+unfoldable pub denied : Left → (before : List ℕ) → (code kind : ℕ) → Bool
+denied l before code kind =
+    eqb (l .reply .result .code) code && (eqb (l .reply .result .kind) kind && (eqb (l .reply .result .place) 0
+    && (noCut l && same (l .table) before)))
+
+-- THE TWELVE
+
+unfoldable pub twelve : List Bool
+twelve =
+    let a : Left = ask start (openAt (session 97) board) in
+    let b : Left = ask (a .table) (openAt (session 98) board) in
+    let c : Left = ask (b .table) (openAt (session 99) board) in
+    let d : Left = ask (c .table) (openAt (session 100) board) in
+    -- 1 to 4: a, then b, then c (a is cut), then d (b is cut)
+    granted a 1 noCut (1 ∷ [])
+    ∷ granted b 2 noCut (1 ∷ 2 ∷ [])
+    ∷ granted c 1 (cutOf 97) (2 ∷ 1 ∷ [])
+    ∷ granted d 2 (cutOf 98) (1 ∷ 2 ∷ [])
+    -- 5: after 3, b again
+    ∷ denied (ask (c .table) (openAt (session 98) board)) (c .table) 5012 1
+    -- 6: after 3, termination of c on board; and of a, W-APN_UNUSED_BY_USER
+    ∷ (granted (ask (c .table) (endAt (session 99) board)) 0 noCut (2 ∷ [])
+    && denied (ask (c .table) (endAt (session 97) board)) (c .table) 5042 2)
+    -- 7: visited on yard, visited on board (ROAMING_NOT_ALLOWED), "Board" (USER_NO_W-APN_SUBSCRIPTION)
+    ∷ denied (ask start (openVisited (session 97) yard)) start 5003 1
+    ∷ denied (ask start (openVisited (session 97) board)) start 5004 2
+    ∷ denied (ask start (openAt (session 97) capitalBoard)) start 5044 2
+    -- 8 to 10: the sums, Result-Code 2001, USER_UNKNOWN
+    ∷ case8
+    ∷ case9
+    ∷ case10
+    ∷ []
+
+-- OTHERS
+
+-- A second subscriber has a third entry, "gate" (limit 1, may roam). The gate's tunnel g is opened first, then a and b on
+-- board: g counts for the gate alone, so that b is no cut, and c cuts a, which is not the head of the line.
+unfoldable pub gated : List ℕ
+gated = withLabel start gate 2 1
+
+unfoldable pub others : List Bool
+others =
+    let g : Left = ask gated (openVisited (session 103) gate) in
+    let a : Left = ask (g .table) (openAt (session 97) board) in
+    let b : Left = ask (a .table) (openAt (session 98) board) in
+    let c : Left = ask (b .table) (openAt (session 99) board) in
+    let e : Left = ask (c .table) (endAt (session 98) board) in
+    granted g 1 noCut (1 ∷ [])
+    ∷ granted a 2 noCut (1 ∷ 2 ∷ [])
+    ∷ granted b 3 noCut (1 ∷ 2 ∷ 3 ∷ [])
+    ∷ granted c 2 (cutOf 97) (1 ∷ 3 ∷ 2 ∷ [])
+    -- a Session-Id that stands, ended on another W-APN: W-APN_UNUSED_BY_USER
+    ∷ denied (ask (c .table) (endAt (session 98) gate)) (c .table) 5042 2
+    -- ended on its own, the line closes up; then a new one takes the lowest free place and the end of the line
+    ∷ granted e 0 noCut (1 ∷ 2 ∷ [])
+    ∷ granted (ask (e .table) (openAt (session 100) board)) 3 noCut (1 ∷ 2 ∷ 3 ∷ [])
+    -- a policy for a Session-Id that stands, and for one that does not
+    ∷ granted (ask (e .table) (routeBy (session 99) board)) 0 noCut (1 ∷ 2 ∷ [])
+    ∷ denied (ask (e .table) (routeBy (session 100) board)) (e .table) 5012 1
+    ∷ []
