@@ -50,6 +50,7 @@ pub fn refuse_word(word: &[u8], what: &[u8]) {
 
 // The same with the system's own reason.
 pub fn refuse_file(path: &[u8]) {
+    io::write_all(STDERR_FILENO, b"play: ");
     os::fail(path);
     mark();
 }

@@ -34,6 +34,10 @@ fn run(word: &[u8], table: &mut [u8; 4718593]) {
         viewing::show(table);
         return;
     }
+    if is_called(word, b"handle", 6, 7) {
+        handling::handle(table);
+        return;
+    }
     files::refuse_word(
         word,
         b": no such command, or not with so many words: see help",
