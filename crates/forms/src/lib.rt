@@ -217,7 +217,7 @@ pub fn labels_differ(room: &[u8], n: usize) -> bool
 // A PLACE IN USE
 
 // Byte 4 is 1 exactly if byte 5, the policy's length, is 1 or more.
-fn policy_marked(mark: u8, size: u8) -> bool
+pub fn policy_marked(mark: u8, size: u8) -> bool
     ensures { λ r. ⌜ r ≡ eqb mark (pick (leb 1 size) 1 0) ⌝ }
 {
     if size < 1 {
@@ -259,7 +259,7 @@ fn access_rooms(b: &[u8]) -> bool
     octets::all_zero(&b[392..510])
 }
 
-fn access_form(b: &[u8]) -> bool
+pub fn access_form(b: &[u8]) -> bool
     requires { ⌜ length (now b) ≡ 512 ⌝ }
     ensures { λ r. ⌜ r ≡ accessForm (now (b .entry)) ⌝ }
 {

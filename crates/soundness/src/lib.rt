@@ -14,7 +14,7 @@ ghost use Rattle.forms.specs.RowTests.{placeSound, headSound};
 // THE ORDER LINE, AND BYTE 17
 
 // Bit k - 1 is set: place k is in use.
-fn in_use(bits: u8, k: usize) -> bool
+pub fn in_use(bits: u8, k: usize) -> bool
     requires { ⌜ (1 ≤ k) × (k ≤ 8) ⌝ }
     ensures { λ r. ⌜ r ≡ eqb (bits / 2 ^ (k - 1) % 2) 1 ⌝ }
 {
@@ -30,7 +30,7 @@ fn with_place(bits: u8, k: usize) -> u8
 }
 
 // The order line lists exactly the places in use, once each. Its bits are gathered, and none comes twice.
-fn line_exact(r: &[u8]) -> bool
+pub fn line_exact(r: &[u8]) -> bool
     requires { ⌜ length (now r) ≡ 4608 ⌝ }
     ensures { λ x. ⌜ x ≡ lineExact (now (r .entry)) ⌝ }
 {
@@ -110,7 +110,7 @@ fn session_once(r: &[u8], n: usize, i: usize) -> bool
     true
 }
 
-fn sessions_differ(r: &[u8]) -> bool
+pub fn sessions_differ(r: &[u8]) -> bool
     requires { ⌜ (length (now r) ≡ 4608) × (lineExact (now r) ≡ true) ⌝ }
     ensures { λ x. ⌜ x ≡ distinct same (sessions ((readRow (now (r .entry))) .accesses)) ⌝ }
 {
@@ -144,7 +144,7 @@ pub fn accesses_on(r: &[u8], e: usize) -> usize
 }
 
 // No entry has more accesses than its limit.
-fn under_limits(r: &[u8], n: usize) -> bool
+pub fn under_limits(r: &[u8], n: usize) -> bool
     requires { ⌜ (length (now r) ≡ 4608) × (lineExact (now r) ≡ true) × (n ≡ getD (now r) 18 0) × (n ≤ 4) ⌝ }
     ensures { λ x. ⌜ x ≡ underLimits 1 (limits ((readRow (now (r .entry))) .entries)) ((readRow (now (r .entry))) .accesses) ⌝ }
 {

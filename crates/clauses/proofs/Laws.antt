@@ -1,0 +1,207 @@
+-- The clauses of a row one by one: what the code tests is each clause, a law for each way out, and that the number is 0 exactly for a sound row.
+use mathlib.Core.Path.{_≡_, refl, sym, ap, _∙_}
+use mathlib.Core.Bool.{Bool, true, false, _&&_}
+use mathlib.Core.List.{List, [], _∷_}
+use Prim.Native.Nat.{ℕ, _+_, _-_, _*_, _≤_, _<_}
+use native.Mathlib.Omega.{arith}
+use borrow.Author.Tests.{eqb-true, eq-eqb, ne-eqb, lt-leb, le-leb}
+use lib.Dec.{eqb, leb}
+use lib.ListN.{length, getD, take, drop}
+use Rattle.octets.specs.Choice.{pick, require, firstOf, within}
+use Rattle.octets.specs.Lists.{every, counted, distinct, sumOf}
+use Rattle.octets.specs.Texts.{part, same}
+use Rattle.octets.proofs.Lists.{and-right, by-test, every-map}
+use Rattle.octets.proofs.Choice.{first-passes, others-pass, passed}
+use Rattle.table.specs.TheTable.{Access, places, rowLength, block, orderLine, readAccess, readEntries, readRow, sums}
+use Rattle.table.specs.Soundness.{hasForm, headForm, entriesForm, placeForm, sumsAgree, lineExact, sameLabel, labels, limits, sessions, underLimits, policyMarked, sound}
+use Rattle.table.proofs.Tests.{block-lent}
+use Rattle.soundness.proofs.Line.{head-byte, head-part, line-at}
+use Rattle.soundness.proofs.Accesses.{block-byte, count-is}
+use Rattle.clauses.specs.Clauses.{brokenForm, brokenContents, brokenClause}
+
+-- WHAT IS TESTED
+
+-- the nine blocks
+pub all-blocks : (f : ℕ → Bool) → every f (counted 0 (9 - 0)) ≡ every f (0 ∷ places)
+unfolding counted places
+all-blocks f = refl
+
+pub sums-lent : (r : List ℕ) (k : ℕ)
+    → same (part (take (512 * k + 512 - 512 * k) (drop (512 * k) r)) 510 2) (sums (take 510 (take (512 * k + 512 - 512 * k) (drop (512 * k) r)))) ≡ sumsAgree r k
+unfolding sumsAgree
+sums-lent r k = ap (λ (b : List ℕ). same (part b 510 2) (sums (take 510 b))) (block-lent r k)
+
+-- an access names an entry that exists, by its place
+pub namesEntry : List ℕ → ℕ → Bool
+namesEntry r k = within 1 (getD r 18 0) (getD (block r k) 1 0)
+
+pub names-all : (r : List ℕ) → every (λ (x : Access). within 1 (length ((readRow r) .entries)) (x .entry)) ((readRow r) .accesses) ≡ every (namesEntry r) (orderLine r)
+unfolding readRow readAccess namesEntry
+names-all r = rw (every-map, count-is r)
+
+-- along the line, by the bytes of the row
+module _ (r : List ℕ) (i k : ℕ) (size : length r ≡ 4608) (l : i < length (orderLine r)) (e : k ≡ getD r (20 + i) 0) where
+  place : getD (orderLine r) i 0 ≡ k
+  place = line-at r i size l ∙ sym e
+
+  pub names-at : namesEntry r (getD (orderLine r) i 0) ≡ within 1 (getD r 18 0) (getD r (512 * k + 1) 0)
+  unfolding namesEntry
+  names-at = rw (place, block-byte r k 1 (omega arith))
+
+  pub marked-at : policyMarked r (getD (orderLine r) i 0) ≡ eqb (getD r (512 * k + 4) 0) (pick (leb 1 (getD r (512 * k + 5) 0)) 1 0)
+  unfolding policyMarked
+  marked-at = rw (place, block-byte r k 4 (omega arith), block-byte r k 5 (omega arith))
+
+-- the entries
+pub entries-are : (r : List ℕ) (n : ℕ) → n ≡ getD r 18 0 → entriesForm (getD (block r 0) 18 0) (part (block r 0) 32 416) ≡ entriesForm n (part r 32 416)
+entries-are r n e = rw (head-byte r 18 (omega arith), head-part r 32 416 (omega arith), e)
+
+pub entries-read : (r : List ℕ) (n : ℕ) → n ≡ getD r 18 0 → (readRow r) .entries ≡ readEntries n (part r 32 416)
+unfolding readRow
+entries-read r n e = rw (head-byte r 18 (omega arith), head-part r 32 416 (omega arith), e)
+
+-- THE FORM AND THE SUMS
+
+module _ (r : List ℕ) (size : length r ≡ 4608) where
+  pub breaks-1 : headForm (block r 0) ≡ false → 1 ≡ brokenForm r
+  unfolding brokenForm firstOf require pick
+  breaks-1 h = rw (eq-eqb (length r) rowLength size, h)
+
+  module _ (h : headForm (block r 0) ≡ true) where
+    pub breaks-2 : entriesForm (getD (block r 0) 18 0) (part (block r 0) 32 416) ≡ false → 2 ≡ brokenForm r
+    unfolding brokenForm firstOf require pick
+    breaks-2 e = rw (eq-eqb (length r) rowLength size, h, e)
+
+    module _ (e : entriesForm (getD (block r 0) 18 0) (part (block r 0) 32 416) ≡ true) where
+      pub breaks-3 : every (placeForm r) places ≡ false → 3 ≡ brokenForm r
+      unfolding brokenForm firstOf require pick
+      breaks-3 p = rw (eq-eqb (length r) rowLength size, h, e, p)
+
+      module _ (p : every (placeForm r) places ≡ true) where
+        pub breaks-4 : every (sumsAgree r) (0 ∷ places) ≡ false → 4 ≡ brokenForm r
+        unfolding brokenForm firstOf require pick
+        breaks-4 s = rw (eq-eqb (length r) rowLength size, h, e, p, s)
+
+        pub form-kept : every (sumsAgree r) (0 ∷ places) ≡ true → 0 ≡ brokenForm r
+        unfolding brokenForm firstOf require pick
+        form-kept s = rw (eq-eqb (length r) rowLength size, h, e, p, s)
+
+pub form-holds : (r : List ℕ) → brokenForm r ≡ 0 → (headForm (block r 0) ≡ true) × (entriesForm (getD (block r 0) 18 0) (part (block r 0) 32 416) ≡ true)
+unfolding brokenForm
+form-holds r z =
+    let a : Bool = eqb (length r) rowLength && headForm (block r 0) in
+    let b : Bool = entriesForm (getD (block r 0) 18 0) (part (block r 0) 32 416) in
+    let z1 = others-pass (require a 1) _ z in (
+      and-right (eqb (length r) rowLength) (headForm (block r 0)) (passed a 1 (omega arith) (first-passes (require a 1) _ z)),
+      passed b 2 (omega arith) (first-passes (require b 2) _ z1),
+    )
+
+-- THE CONTENTS
+
+module _ (r : List ℕ) (n : ℕ) (e : n ≡ getD r 18 0) where
+  pub labels-are : distinct sameLabel (labels ((readRow r) .entries)) ≡ distinct sameLabel (labels (readEntries n (part r 32 416)))
+  labels-are = ap (λ es. distinct sameLabel (labels es)) (entries-read r n e)
+
+  limits-are : sumOf (limits ((readRow r) .entries)) ≡ sumOf (limits (readEntries n (part r 32 416)))
+  limits-are = ap (λ es. sumOf (limits es)) (entries-read r n e)
+
+  pub limits-over : 8 < sumOf (limits (readEntries n (part r 32 416))) → leb (sumOf (limits ((readRow r) .entries))) 8 ≡ false
+  limits-over h = rw limits-are (lt-leb (sumOf (limits (readEntries n (part r 32 416)))) 8 h)
+
+  pub limits-fit : sumOf (limits (readEntries n (part r 32 416))) ≤ 8 → leb (sumOf (limits ((readRow r) .entries))) 8 ≡ true
+  limits-fit h = rw limits-are (le-leb (sumOf (limits (readEntries n (part r 32 416)))) 8 h)
+
+module _ (r : List ℕ) where
+  pub breaks-5 : lineExact r ≡ false → 5 ≡ brokenContents r
+  unfolding brokenContents firstOf require pick
+  breaks-5 a = rw a
+
+  module _ (a : lineExact r ≡ true) where
+    pub breaks-6 : distinct sameLabel (labels ((readRow r) .entries)) ≡ false → 6 ≡ brokenContents r
+    unfolding brokenContents firstOf require pick
+    breaks-6 b = rw (a, b)
+
+    module _ (b : distinct sameLabel (labels ((readRow r) .entries)) ≡ true) where
+      pub breaks-7 : leb (sumOf (limits ((readRow r) .entries))) 8 ≡ false → 7 ≡ brokenContents r
+      unfolding brokenContents firstOf require pick
+      breaks-7 c = rw (a, b, c)
+
+      module _ (c : leb (sumOf (limits ((readRow r) .entries))) 8 ≡ true) where
+        pub breaks-8 : distinct same (sessions ((readRow r) .accesses)) ≡ false → 8 ≡ brokenContents r
+        unfolding brokenContents firstOf require pick
+        breaks-8 d = rw (a, b, c, d)
+
+        module _ (d : distinct same (sessions ((readRow r) .accesses)) ≡ true) where
+          pub breaks-9 : every (λ (x : Access). within 1 (length ((readRow r) .entries)) (x .entry)) ((readRow r) .accesses) ≡ false → 9 ≡ brokenContents r
+          unfolding brokenContents firstOf require pick
+          breaks-9 e = rw (a, b, c, d, e)
+
+          module _ (e : every (λ (x : Access). within 1 (length ((readRow r) .entries)) (x .entry)) ((readRow r) .accesses) ≡ true) where
+            pub breaks-10 : underLimits 1 (limits ((readRow r) .entries)) ((readRow r) .accesses) ≡ false → 10 ≡ brokenContents r
+            unfolding brokenContents firstOf require pick
+            breaks-10 f = rw (a, b, c, d, e, f)
+
+            module _ (f : underLimits 1 (limits ((readRow r) .entries)) ((readRow r) .accesses) ≡ true) where
+              pub breaks-11 : every (policyMarked r) (orderLine r) ≡ false → 11 ≡ brokenContents r
+              unfolding brokenContents firstOf require pick
+              breaks-11 g = rw (a, b, c, d, e, f, g)
+
+              pub contents-kept : every (policyMarked r) (orderLine r) ≡ true → 0 ≡ brokenContents r
+              unfolding brokenContents firstOf require pick
+              contents-kept g = rw (a, b, c, d, e, f, g)
+
+-- A ROW
+
+pub form-first : (r : List ℕ) → 1 ≤ brokenForm r → brokenForm r ≡ brokenClause r
+unfolding brokenClause firstOf pick
+form-first r h = rw (ne-eqb (brokenForm r) 0 (λ z. omega arith))
+
+contents-last : (n : ℕ) → n ≡ firstOf (n ∷ [])
+unfolding firstOf pick
+contents-last n = by-test (eqb n 0) (λ e. rw e (eqb-true n 0 e)) (λ e. rw e)
+
+pub form-then : (r : List ℕ) → brokenForm r ≡ 0 → brokenContents r ≡ brokenClause r
+unfolding brokenClause firstOf pick
+form-then r z = rw (eq-eqb (brokenForm r) 0 z) (contents-last (brokenContents r))
+
+-- no code is given exactly where all tests pass
+both-zero : (m n : ℕ) → eqb (firstOf (m ∷ n ∷ [])) 0 ≡ eqb m 0 && eqb n 0
+unfolding firstOf pick
+both-zero m n = by-test (eqb m 0) (λ e. rw e (ap (λ (k : ℕ). eqb k 0) (sym (contents-last n)))) (λ e. rw (e, e))
+
+four : (a b c d : Bool) → eqb (firstOf (require a 1 ∷ require b 2 ∷ require c 3 ∷ require d 4 ∷ [])) 0 ≡ a && (b && (c && d))
+unfolding firstOf require pick
+four false b c d = refl
+four true false c d = refl
+four true true false d = refl
+four true true true false = refl
+four true true true true = refl
+
+seven : (a b c d e f g : Bool)
+    → eqb (firstOf (require a 5 ∷ require b 6 ∷ require c 7 ∷ require d 8 ∷ require e 9 ∷ require f 10 ∷ require g 11 ∷ [])) 0
+    ≡ a && (b && (c && (d && (e && (f && g)))))
+unfolding firstOf require pick
+seven false b c d e f g = refl
+seven true false c d e f g = refl
+seven true true false d e f g = refl
+seven true true true false e f g = refl
+seven true true true true false f g = refl
+seven true true true true true false g = refl
+seven true true true true true true false = refl
+seven true true true true true true true = refl
+
+regroup : (a b c d e f : Bool) → ((a && b) && (c && (d && e))) && f ≡ (a && (b && (c && d))) && (e && f)
+regroup false b c d e f = refl
+regroup true false c d e f = refl
+regroup true true false d e f = refl
+regroup true true true false e f = refl
+regroup true true true true e f = refl
+
+-- no clause is broken exactly by a sound row
+pub unbroken : (r : List ℕ) → eqb (brokenClause r) 0 ≡ sound r
+unfolding brokenClause brokenForm brokenContents sound hasForm
+unbroken r =
+    let entries : Bool = entriesForm (getD (block r 0) 18 0) (part (block r 0) 32 416) in
+    both-zero (brokenForm r) (brokenContents r)
+    ∙ rw four (regroup (eqb (length r) rowLength) (headForm (block r 0)) entries (every (placeForm r) places) (every (sumsAgree r) (0 ∷ places)) (eqb (brokenContents r) 0)
+    ∙ rw seven)

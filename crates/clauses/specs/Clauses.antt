@@ -1,0 +1,57 @@
+-- Which clause of soundness a row breaks: the number of the first that fails, in the paper's order, 0 where none does.
+use mathlib.Core.Bool.{_&&_}
+use mathlib.Core.List.{List, [], _∷_}
+use Prim.Native.Nat.{ℕ}
+use lib.Dec.{eqb, leb}
+use lib.ListN.{length, getD}
+use Rattle.octets.specs.Choice.{require, firstOf, within}
+use Rattle.octets.specs.Lists.{every, distinct, sumOf}
+use Rattle.octets.specs.Texts.{part, same}
+use Rattle.table.specs.TheTable.{Access, places, rowLength, block, orderLine, readRow}
+use Rattle.table.specs.Soundness.{headForm, entriesForm, placeForm, sumsAgree, lineExact, sameLabel, labels, limits, sessions, underLimits, policyMarked}
+use Rattle.clauses.specs.declared.Clause.{Clause}
+use Rattle.clauses.specs.declared.Clause.the-variants.{NoClause, HeadForm, EntryForm, PlaceForm, Sums, Line, Labels, Limits, Sessions, NoEntry, OverLimit, PolicyMark}
+
+-- The number of each clause.
+unfoldable pub clauseNumber : Clause → ℕ
+clauseNumber NoClause = 0
+clauseNumber HeadForm = 1
+clauseNumber EntryForm = 2
+clauseNumber PlaceForm = 3
+clauseNumber Sums = 4
+clauseNumber Line = 5
+clauseNumber Labels = 6
+clauseNumber Limits = 7
+clauseNumber Sessions = 8
+clauseNumber NoEntry = 9
+clauseNumber OverLimit = 10
+clauseNumber PolicyMark = 11
+
+-- 1: a row has its length, and block 0 its form. 2: so have the entries. 3: so has each place. 4: all nine sums agree.
+unfoldable pub brokenForm : List ℕ → ℕ
+brokenForm r =
+    firstOf
+    (require (eqb (length r) rowLength && headForm (block r 0)) 1
+    ∷ require (entriesForm (getD (block r 0) 18 0) (part (block r 0) 32 416)) 2
+    ∷ require (every (placeForm r) places) 3
+    ∷ require (every (sumsAgree r) (0 ∷ places)) 4
+    ∷ [])
+
+-- 5: the order line lists exactly the places in use, once each. 6: labels differ. 7: limits sum to at most 8. 8: no Session-Id
+-- stands twice. 9: each access names an entry that exists. 10: no entry has more accesses than its limit. 11: byte 5 is 1 or
+-- more exactly if byte 4 is 1.
+unfoldable pub brokenContents : List ℕ → ℕ
+brokenContents r =
+    firstOf
+    (require (lineExact r) 5
+    ∷ require (distinct sameLabel (labels ((readRow r) .entries))) 6
+    ∷ require (leb (sumOf (limits ((readRow r) .entries))) 8) 7
+    ∷ require (distinct same (sessions ((readRow r) .accesses))) 8
+    ∷ require (every (λ (x : Access). within 1 (length ((readRow r) .entries)) (x .entry)) ((readRow r) .accesses)) 9
+    ∷ require (underLimits 1 (limits ((readRow r) .entries)) ((readRow r) .accesses)) 10
+    ∷ require (every (policyMarked r) (orderLine r)) 11
+    ∷ [])
+
+-- It is 0 exactly for a sound row: `unbroken` of proofs/Laws.antt.
+unfoldable pub brokenClause : List ℕ → ℕ
+brokenClause r = firstOf (brokenForm r ∷ brokenContents r ∷ [])

@@ -1,0 +1,168 @@
+// Why a row is unsound: the first clause that it breaks, in the order of document 01.
+ghost use mathlib.Core.Path.{_≡_};
+ghost use mathlib.Core.Bool.{true};
+ghost use mathlib.Core.List.{_∷_};
+ghost use Prim.Native.Nat.{_≤_};
+ghost use lib.ListN.{length};
+ghost use Rattle.octets.specs.Choice.{within};
+ghost use Rattle.octets.specs.Lists.{every};
+ghost use Rattle.table.specs.TheTable.{Access, places, orderLine, readRow};
+ghost use Rattle.table.specs.Soundness.{placeForm, sumsAgree, lineExact, policyMarked};
+ghost use Rattle.clauses.specs.Clauses.{clauseNumber, brokenForm, brokenContents, brokenClause};
+
+// The clauses in their order, and that none is broken.
+pub enum Clause {
+    NoClause,
+    HeadForm,
+    EntryForm,
+    PlaceForm,
+    Sums,
+    Line,
+    Labels,
+    Limits,
+    Sessions,
+    NoEntry,
+    OverLimit,
+    PolicyMark,
+}
+
+// THE FORM AND THE SUMS
+
+fn place_form(r: &[u8], k: usize) -> bool
+    requires { ⌜ (length (now r) ≡ 4608) × (1 ≤ k) × (k ≤ 8) ⌝ }
+    ensures { λ x. ⌜ x ≡ placeForm (now (r .entry)) k ⌝ }
+{
+    let at = 512 * k;
+    let end = at + 512;
+    if soundness::in_use(r[17], k) {
+        return forms::access_form(&r[at..end]);
+    }
+    octets::all_zero(&r[at..end])
+}
+
+fn places_form(r: &[u8]) -> bool
+    requires { ⌜ length (now r) ≡ 4608 ⌝ }
+    ensures { λ x. ⌜ x ≡ every (placeForm (now (r .entry))) places ⌝ }
+{
+    let mut k: usize = 1;
+    while k < 9 {
+        if !place_form(r, k) {
+            return false;
+        }
+        k += 1;
+    }
+    true
+}
+
+fn sums_agree(r: &[u8]) -> bool
+    requires { ⌜ length (now r) ≡ 4608 ⌝ }
+    ensures { λ x. ⌜ x ≡ every (sumsAgree (now (r .entry))) (0 ∷ places) ⌝ }
+{
+    let mut k: usize = 0;
+    while k < 9 {
+        let at = 512 * k;
+        let end = at + 512;
+        if !forms::block_sums_agree(&r[at..end]) {
+            return false;
+        }
+        k += 1;
+    }
+    true
+}
+
+fn broken_form(r: &[u8]) -> Clause
+    requires { ⌜ length (now r) ≡ 4608 ⌝ }
+    ensures { λ x. ⌜ clauseNumber x ≡ brokenForm (now (r .entry)) ⌝ }
+{
+    if !forms::head_form(&r[0..512]) {
+        return Clause::HeadForm;
+    }
+    if !forms::entries_form(&r[32..448], octets::long(r[18])) {
+        return Clause::EntryForm;
+    }
+    if !places_form(r) {
+        return Clause::PlaceForm;
+    }
+    if !sums_agree(r) {
+        return Clause::Sums;
+    }
+    Clause::NoClause
+}
+
+// THE CONTENTS, along an exact order line
+
+// Each access names an entry that exists.
+fn entries_exist(r: &[u8]) -> bool
+    requires { ⌜ (length (now r) ≡ 4608) × (lineExact (now r) ≡ true) ⌝ }
+    ensures { λ x. ⌜ x ≡ every (λ (x : Access). within 1 (length ((readRow (now (r .entry))) .entries)) (x .entry)) ((readRow (now (r .entry))) .accesses) ⌝ }
+{
+    let n = soundness::accesses_in_use(r);
+    let mut i: usize = 0;
+    while i < n {
+        let k = octets::long(r[20 + i]);
+        if !forms::is_within(1, r[18], r[512 * k + 1]) {
+            return false;
+        }
+        i += 1;
+    }
+    true
+}
+
+// Byte 5 of each access is 1 or more exactly if its byte 4 is 1.
+fn policies_marked(r: &[u8]) -> bool
+    requires { ⌜ (length (now r) ≡ 4608) × (lineExact (now r) ≡ true) ⌝ }
+    ensures { λ x. ⌜ x ≡ every (policyMarked (now (r .entry))) (orderLine (now (r .entry))) ⌝ }
+{
+    let n = soundness::accesses_in_use(r);
+    let mut i: usize = 0;
+    while i < n {
+        let k = octets::long(r[20 + i]);
+        if !forms::policy_marked(r[512 * k + 4], r[512 * k + 5]) {
+            return false;
+        }
+        i += 1;
+    }
+    true
+}
+
+fn broken_contents(r: &[u8]) -> Clause
+    requires { ⌜ (length (now r) ≡ 4608) × (brokenForm (now r) ≡ 0) ⌝ }
+    ensures { λ x. ⌜ clauseNumber x ≡ brokenContents (now (r .entry)) ⌝ }
+{
+    if !soundness::line_exact(r) {
+        return Clause::Line;
+    }
+    let n = octets::long(r[18]);
+    if !forms::labels_differ(&r[32..448], n) {
+        return Clause::Labels;
+    }
+    if 8 < forms::limits_sum(&r[32..448], n) {
+        return Clause::Limits;
+    }
+    if !soundness::sessions_differ(r) {
+        return Clause::Sessions;
+    }
+    if !entries_exist(r) {
+        return Clause::NoEntry;
+    }
+    if !soundness::under_limits(r, n) {
+        return Clause::OverLimit;
+    }
+    if !policies_marked(r) {
+        return Clause::PolicyMark;
+    }
+    Clause::NoClause
+}
+
+// A ROW
+
+pub fn broken(r: &[u8]) -> Clause
+    requires { ⌜ length (now r) ≡ 4608 ⌝ }
+    ensures { λ x. ⌜ clauseNumber x ≡ brokenClause (now (r .entry)) ⌝ }
+{
+    let c = broken_form(r);
+    let Clause::NoClause = c else {
+        return c;
+    };
+    broken_contents(r)
+}
