@@ -2,7 +2,6 @@
 use decision::Cut;
 use decision::Outcome;
 use message::Kind;
-use streams::Next;
 use words::number;
 use words::say;
 
@@ -121,10 +120,10 @@ fn turn(d: Desk, table: &mut [u8], t: Totals) -> Totals {
         return t;
     }
     let mut room = [0u8; 4096];
-    let found = streams::cut_next(d.requests, &mut room);
-    let Next::Message(n) = found else {
+    let n = streams::read(d.requests, &mut room);
+    if n == 0 {
         return broken(t);
-    };
+    }
     serve_one(d, table, &room, n, t)
 }
 
