@@ -43,12 +43,12 @@ pub fn head(out: &mut [u8; 4096], i: usize, row: &[u8]) -> usize {
     say(out, e, b" standing\n")
 }
 
-// Row i, which is not sound.
+// The start of the line of row i, which is not sound.
 pub fn unsound(out: &mut [u8; 4096], i: usize, row: &[u8]) -> usize {
     let a = which(out, i);
     let b = say(out, a, b": ");
     let c = name(out, b, row);
-    say(out, c, b", NOT SOUND\n")
+    say(out, c, b", NOT SOUND: ")
 }
 
 // One more, of at most 8.

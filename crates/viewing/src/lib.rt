@@ -1,5 +1,7 @@
 // The command that shows a table.
+use clauses::Clause;
 use table::RowFound;
+use words::say;
 
 // The labels of a sound row.
 fn entries(row: &[u8], out: &mut [u8; 4096]) {
@@ -21,6 +23,32 @@ fn accesses(row: &[u8], out: &mut [u8; 4096]) {
     }
 }
 
+// The clause of soundness that is broken.
+fn reason(out: &mut [u8; 4096], at: usize, broken: Clause) -> usize {
+    match broken {
+        Clause::NoClause => say(out, at, b"no clause is broken\n"),
+        Clause::HeadForm => say(out, at, b"block 0 has not its form\n"),
+        Clause::EntryForm => say(out, at, b"an entry has not its form\n"),
+        Clause::PlaceForm => say(out, at, b"a place has not its form\n"),
+        Clause::Sums => say(out, at, b"a block's sums do not agree\n"),
+        Clause::Line => say(
+            out,
+            at,
+            b"the order line does not list the places in use, once each\n",
+        ),
+        Clause::Labels => say(out, at, b"a label stands twice\n"),
+        Clause::Limits => say(out, at, b"the limits sum to over 8\n"),
+        Clause::Sessions => say(out, at, b"a Session-Id stands twice\n"),
+        Clause::NoEntry => say(out, at, b"an access names an entry that is not there\n"),
+        Clause::OverLimit => say(out, at, b"an entry has more accesses than its limit\n"),
+        Clause::PolicyMark => say(
+            out,
+            at,
+            b"byte 4 of a place does not fit the length of its policy\n",
+        ),
+    }
+}
+
 fn show_row(table: &[u8], i: usize, out: &mut [u8; 4096]) {
     if 1024 < i {
         return;
@@ -36,7 +64,8 @@ fn show_row(table: &[u8], i: usize, out: &mut [u8; 4096]) {
     }
     if !soundness::row_sound(row) {
         let n = showing::unsound(out, i, row);
-        files::print(out, n);
+        let end = reason(out, n, clauses::broken(row));
+        files::print(out, end);
         return;
     }
     let n = showing::head(out, i, row);

@@ -38,6 +38,10 @@ fn run(word: &[u8], table: &mut [u8; 4718593]) {
         handling::handle(table);
         return;
     }
+    if is_called(word, b"decode", 3, 3) {
+        listing::decode();
+        return;
+    }
     files::refuse_word(
         word,
         b": no such command, or not with so many words: see help",
