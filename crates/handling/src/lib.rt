@@ -45,7 +45,7 @@ fn serve(d: Desk, path: &[u8], table: &mut [u8], all: usize) {
         return;
     }
     if files::is_replaced(path, table) {
-        serving::summary(t);
+        totals::summary(t);
     }
 }
 

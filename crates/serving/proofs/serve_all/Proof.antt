@@ -11,6 +11,9 @@ Inv-loop d table₀ all t₀ left₀ table t left = length table ≡ length tabl
 abbrev μ-loop : tie.MeasureT-loop
 μ-loop d table₀ all t₀ left₀ table t left = left
 
+none-requires : tie.Need-none-requires Inv-loop μ-loop
+none-requires c κs = search needs
+
 loop-holds : tie.Need-loop-holds Inv-loop μ-loop
 loop-holds c = search needs
 
@@ -41,6 +44,7 @@ serve-all-spec =
     (tie.spec
     Inv-loop
     μ-loop
+    none-requires
     loop-holds
     sub-left
     turn-requires
