@@ -84,14 +84,33 @@ pub fn number(text: &[u8]) -> Said {
     Said::Number(n)
 }
 
-// Whether a file of that name is there.
-pub fn exists(path: &[u8]) -> bool {
-    let fd = os::open_read(path);
+// Whether a file of that name was made, which is empty then. A name that is taken is left alone; why it was not made is said.
+pub fn is_made(path: &[u8]) -> bool {
+    let fd = os::create(path);
     if fd < 0 {
+        refuse_file(path);
         return false;
     }
     libc::close(fd);
     true
+}
+
+// Whether a file can be written, or made. Nothing is changed; why it can not is said.
+pub fn is_open_to_writing(path: &[u8]) -> bool {
+    let fd = os::open_update(path);
+    if 0 <= fd {
+        libc::close(fd);
+        return true;
+    }
+    if os::errno() != libc::ENOENT {
+        refuse_file(path);
+        return false;
+    }
+    if is_made(path) {
+        os::unlink(path);
+        return true;
+    }
+    false
 }
 
 // The table in a file, put at the start of `table`: its length, or 0 where there is none, which is then said.
@@ -141,6 +160,22 @@ fn is_put(path: &[u8], beside: &[u8], bytes: &[u8]) -> bool {
         return false;
     }
     true
+}
+
+// Whether `other` is the name under which the file at `path` is written before it replaces it.
+pub fn is_beside(path: &[u8], other: &[u8]) -> bool {
+    let n = path.len();
+    if other.len() < 4 {
+        return false;
+    }
+    let k = other.len() - 4;
+    if k != n {
+        return false;
+    }
+    if !octets::same_bytes(&other[0..k], path) {
+        return false;
+    }
+    octets::same_bytes(&other[k..], b".new")
 }
 
 // The file at `path` made or replaced, but only once the new one is whole: it is written beside it, as `path` and .new. False where that

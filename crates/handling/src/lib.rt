@@ -4,21 +4,29 @@ mod following;
 
 use serving::Desk;
 
+// Whether a file that is written is no part of the table, by name.
+fn is_apart(table: &[u8], path: &[u8]) -> bool {
+    if octets::same_bytes(path, table) {
+        return false;
+    }
+    !files::is_beside(table, path)
+}
+
 // Whether the words that name files are such that no file is written twice, or read and written.
 fn are_apart(table: &[u8], requests: &[u8], answers: &[u8], notices: &[u8]) -> bool {
     if octets::same_bytes(answers, notices) {
         return false;
     }
-    if octets::same_bytes(answers, table) {
-        return false;
-    }
     if octets::same_bytes(answers, requests) {
         return false;
     }
-    if octets::same_bytes(notices, table) {
+    if octets::same_bytes(notices, requests) {
         return false;
     }
-    !octets::same_bytes(notices, requests)
+    if is_apart(table, answers) {
+        return is_apart(table, notices);
+    }
+    false
 }
 
 // The word behind the files: the gateway says yes to a policy unless it is there.
@@ -79,6 +87,12 @@ fn on_requests(requests: &[u8], path: &[u8], answers: &[u8], notices: &[u8], tab
     }
     let all = following::count(fd, requests);
     if all < 1 {
+        return;
+    }
+    if !files::is_open_to_writing(answers) {
+        return;
+    }
+    if !files::is_open_to_writing(notices) {
         return;
     }
     if libc::lseek(fd, 0, libc::SEEK_SET) != 0 {

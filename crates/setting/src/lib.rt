@@ -13,22 +13,17 @@ fn refused(number: u32) {
     files::mark();
 }
 
-// The first n bytes of the table kept in its file, and said.
-fn keep(path: &[u8], table: &[u8], n: usize, done: &[u8]) {
-    if table.len() < n {
-        return;
-    }
-    if files::is_replaced(path, &table[0..n]) {
+// The table kept in its file, and said.
+fn keep(path: &[u8], table: &[u8], done: &[u8]) -> bool {
+    if files::is_replaced(path, table) {
         files::say_word(path, done);
+        return true;
     }
+    false
 }
 
-// A table of so many free rows.
+// A table of so many free rows, under a name that no file has yet.
 fn make(path: &[u8], table: &mut [u8], rows: usize) {
-    if rows < 1 {
-        refused(1);
-        return;
-    }
     if 1024 < rows {
         refused(1);
         return;
@@ -42,7 +37,12 @@ fn make(path: &[u8], table: &mut [u8], rows: usize) {
         refused(number);
         return;
     }
-    keep(path, table, n, b": a new table, all rows free");
+    if !files::is_made(path) {
+        return;
+    }
+    if !keep(path, &table[0..n], b": a new table, all rows free") {
+        os::unlink(path);
+    }
 }
 
 fn new_at(path: &[u8], rows: &[u8], table: &mut [u8]) {
@@ -51,10 +51,6 @@ fn new_at(path: &[u8], rows: &[u8], table: &mut [u8]) {
         files::refuse_word(rows, b": no number of rows, 1 to 1,024");
         return;
     };
-    if files::exists(path) {
-        files::refuse_word(path, b": is already there; remove it first");
-        return;
-    }
     make(path, table, n);
 }
 
@@ -79,7 +75,7 @@ fn enter_at(path: &[u8], name: &[u8], table: &mut [u8]) {
         refused(number);
         return;
     }
-    keep(path, table, n, b": the subscriber is entered");
+    keep(path, &table[0..n], b": the subscriber is entered");
 }
 
 pub fn enter(table: &mut [u8]) {
@@ -103,7 +99,7 @@ fn add_at(path: &[u8], name: &[u8], label: &[u8], limit: u8, flags: u8, table: &
         refused(number);
         return;
     }
-    keep(path, table, n, b": the label is added");
+    keep(path, &table[0..n], b": the label is added");
 }
 
 // What the words behind the limit say: 1 barred, 2 may roam, 4 something else.

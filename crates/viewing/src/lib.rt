@@ -49,37 +49,61 @@ fn reason(out: &mut [u8; 4096], at: usize, broken: Clause) -> usize {
     }
 }
 
-fn show_row(table: &[u8], i: usize, out: &mut [u8; 4096]) {
+// Row i, said; whether it is free, and nothing is said.
+fn is_free(table: &[u8], i: usize, out: &mut [u8; 4096]) -> bool {
     if 1024 < i {
-        return;
+        return false;
     }
     let a = 4608 * i;
     let e = a + 4608;
     if table.len() < e {
-        return;
+        return false;
     }
     let row = &table[a..e];
     if octets::all_zero(row) {
-        return;
+        return true;
     }
     if !soundness::row_sound(row) {
         let n = showing::unsound(out, i, row);
         let end = reason(out, n, clauses::broken(row));
         files::print(out, end);
-        return;
+        return false;
     }
     let n = showing::head(out, i, row);
     files::print(out, n);
     entries(row, out);
     accesses(row, out);
+    false
+}
+
+// One more, of at most 1,024.
+fn more(n: usize) -> usize {
+    if n < 1024 {
+        return n + 1;
+    }
+    n
+}
+
+// All rows: how many are free.
+fn free_rows(table: &[u8], out: &mut [u8; 4096]) -> usize {
+    let mut free: usize = 0;
+    let mut i: usize = 0;
+    while i < 1024 {
+        if is_free(table, i, out) {
+            free = more(free);
+        }
+        i += 1;
+    }
+    free
 }
 
 fn show_all(table: &[u8], out: &mut [u8; 4096]) {
-    let mut i: usize = 0;
-    while i < 1024 {
-        show_row(table, i, out);
-        i += 1;
-    }
+    let free = free_rows(table, out);
+    let a = words::number(out, 0, free as u64);
+    let b = say(out, a, b" of ");
+    let c = words::number(out, b, (table.len() / 4608) as u64);
+    let d = say(out, c, b" rows free\n");
+    files::print(out, d);
 }
 
 fn show_one(table: &[u8], name: &[u8], out: &mut [u8; 4096]) {
@@ -91,7 +115,7 @@ fn show_one(table: &[u8], name: &[u8], out: &mut [u8; 4096]) {
         files::refuse_word(name, b": the table has no such subscriber");
         return;
     };
-    show_row(table, i, out);
+    is_free(table, i, out);
 }
 
 fn shown(path: &[u8], table: &mut [u8]) {
