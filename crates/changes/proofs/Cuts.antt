@@ -42,13 +42,13 @@ over-head y h o p l m g =
 
 module _ (r : List ℕ) (k : ℕ) (h : sound r ≡ true) (o : isOn (orderLine r) k ≡ true) where
   -- the row between
-  abbrev pub cut : List ℕ
+  abbrev cut : List ℕ
   cut = rowBytes (freed k (readRow r))
 
-  pub cut-sound : sound cut ≡ true
+  cut-sound : sound cut ≡ true
   cut-sound = sound-freed k r h
 
-  pub cut-says : readRow cut ≡ freed k (readRow r)
+  cut-says : readRow cut ≡ freed k (readRow r)
   cut-says = read-row _ (good-freed k (readRow r) (says-good r h))
 
   pub cut-fewer : length ((freed k (readRow r)) .accesses) < 8
@@ -58,10 +58,10 @@ module _ (r : List ℕ) (k : ℕ) (h : sound r ≡ true) (o : isOn (orderLine r)
       let f = find-at k a (ap (λ (l : List ℕ). isOn l k) (order-is r) ∙ o) in
       omega (arith, keep-split (λ (x : Access). eqb (x .place) k) a, ap length (f .on), at-most r h)
 
-  pub cut-room : length ((readRow cut) .accesses) < 8
+  cut-room : length ((readRow cut) .accesses) < 8
   cut-room = rw cut-says cut-fewer
 
-  pub cut-bits : getD r 17 0 - 2 ^ (k - 1) ≡ getD cut 17 0
+  cut-bits : getD r 17 0 - 2 ^ (k - 1) ≡ getD cut 17 0
   unfolding freed
   cut-bits = omega (arith, bit-in r k h o, row-bits (freed k (readRow r)))
 
@@ -74,7 +74,7 @@ module _ (r : List ℕ) (k : ℕ) (h : sound r ≡ true) (o : isOn (orderLine r)
   pub cut-lowest : lowestClear (getD r 17 0 - 2 ^ (k - 1)) ≡ lowestFree ((freed k (readRow r)) .accesses)
   cut-lowest = ap lowestClear cut-bits ∙ lowest-is cut cut-sound cut-room ∙ ap (λ (s : Subscriber). lowestFree (s .accesses)) cut-says
 
-  pub cut-bit : getD r 17 0 - 2 ^ (k - 1) + 2 ^ (lowestFree ((freed k (readRow r)) .accesses) - 1)
+  cut-bit : getD r 17 0 - 2 ^ (k - 1) + 2 ^ (lowestFree ((freed k (readRow r)) .accesses) - 1)
       ≡ usedBits (line ((freed k (readRow r)) .accesses) ++ (lowestFree ((freed k (readRow r)) .accesses) ∷ []))
   cut-bit =
       ap (λ (b : ℕ). b + 2 ^ (lowestFree ((freed k (readRow r)) .accesses) - 1)) cut-bits

@@ -5,4 +5,5 @@ pub mod Puts
 pub mod Steps
 pub mod Blocks
 pub mod Cuts
+pub mod Sums
 pub mod Rows

@@ -26,6 +26,7 @@ use Rattle.changes.proofs.Bits.{bits-bound, is-vacant, lowest-clear}
 use Rattle.changes.proofs.Blocks.{bits-with, bits-without, closed-filled, filled-more, filled-none, put-over, put-room, zeros-split, zeros-three}
 use Rattle.changes.proofs.Puts.{freed-puts, onPlace, opened-puts, putBlock, routed-puts, take-past}
 use Rattle.changes.proofs.Stays.{free-place, line-snoc}
+use Rattle.changes.proofs.Sums.{block-agrees}
 use Rattle.changes.proofs.Steps.{access-policy, free-byte, head-line, keep-map, room-entry, row-bits}
 
 -- THE FIRST BYTES OF A ROW
@@ -111,6 +112,16 @@ unfolding put
 head-stays r k b lo hi h =
     let l : length (take (512 * k) r) ≡ 512 * k = length-take-le (512 * k) r (omega arith) in
     take-append-le 512 (take (512 * k) r) (b ++ drop (512 * k + length b) r) (omega arith) ∙ take-take 512 (512 * k) r (omega arith)
+
+-- the sums of block 0 agree, whatever was written behind it
+head-sealed : (s : Subscriber) (u : List ℕ) → u ≡ headBytes s → u ≡ sealed (take 510 u)
+unfolding headBytes
+head-sealed s u e = block-agrees _ u (length-head s) e
+
+pub head-agrees : (r z : List ℕ) → sound r ≡ true → take 512 z ≡ take 512 r → (length (take 512 z) ≡ 512) × (take 512 z ≡ sealed (take 510 (take 512 z)))
+head-agrees r z h e =
+    let head : take 512 z ≡ headBytes (readRow r) = e ∙ head-of r h in
+    (ap length head ∙ length-head (readRow r), head-sealed (readRow r) (take 512 z) head)
 
 -- A PLACE IS FREED
 

@@ -57,24 +57,43 @@ fn line_without(line: &[u8], k: u8) -> [u8; 8]
     out
 }
 
-// Block 0 with other places in use and another order line.
-fn write_line(block: &mut [u8], bits: u8, line: &[u8; 8])
-    requires { ⌜ length (now block) ≡ 512 ⌝ }
-    ensures { λ _. ⌜ now (block .exit) ≡ headWith (now (block .entry)) bits (now (line .entry)) ⌝ }
+// Another byte in a block whose sums agree: the sums follow, the first by what the byte gains, the second by that as often as there are bytes
+// from it on. A loss is counted as 255 less it, which is the same remainder.
+fn put_byte(block: &mut [u8], at: usize, byte: u8)
+    requires { ⌜ (length (now block) ≡ 512) × (now block ≡ sealed (take 510 (now block))) × (at < 510) ⌝ }
+    ensures { λ _. ⌜ now (block .exit) ≡ sealed (set (take 510 (now (block .entry))) at byte) ⌝ }
 {
-    block[17] = bits;
-    octets::put_bytes(block, 20, line);
-    seal(block);
+    if block[at] == byte {
+        return;
+    }
+    let gain = octets::long(byte) + 255 - octets::long(block[at]);
+    let second = (octets::long(block[510]) + (510 - at) * gain) % 255;
+    let first = (octets::long(block[511]) + gain) % 255;
+    block[at] = byte;
+    block[510] = second as u8;
+    block[511] = first as u8;
+}
+
+// Block 0 with other places in use and another order line.
+fn write_line(block: &mut [u8], bits: u8, line: [u8; 8])
+    requires { ⌜ (length (now block) ≡ 512) × (now block ≡ sealed (take 510 (now block))) ⌝ }
+    ensures { λ _. ⌜ now (block .exit) ≡ headWith (now (block .entry)) bits line ⌝ }
+{
+    put_byte(block, 17, bits);
+    let mut i: usize = 0;
+    while i < 8 {
+        put_byte(block, 20 + i, line[i]);
+        i += 1;
+    }
 }
 
 // Block 0 with one place more at the end of its order line, behind the `count` that are there.
 fn enlist(block: &mut [u8], bits: u8, count: usize, place: u8)
-    requires { ⌜ (length (now block) ≡ 512) × (count < 8) ⌝ }
+    requires { ⌜ (length (now block) ≡ 512) × (now block ≡ sealed (take 510 (now block))) × (count < 8) ⌝ }
     ensures { λ _. ⌜ now (block .exit) ≡ headWith (now (block .entry)) bits (set (part (now (block .entry)) 20 8) count place) ⌝ }
 {
-    block[17] = bits;
-    block[20 + count] = place;
-    seal(block);
+    put_byte(block, 17, bits);
+    put_byte(block, 20 + count, place);
 }
 
 // The block of a new access.
@@ -136,7 +155,7 @@ pub fn free_place(row: &mut [u8], k: usize)
     let bits = row[17] - bit_of(k);
     let line = line_without(&row[20..28], k as u8);
     octets::put_zeros(row, 512 * k, 512);
-    write_line(&mut row[0..512], bits, &line);
+    write_line(&mut row[0..512], bits, line);
 }
 
 // A new access takes the lowest free place and the end of the order line. The ones of byte 17 are the accesses in use.
@@ -170,7 +189,7 @@ pub fn cut_and_open_place(row: &mut [u8], k: usize, entry: u8, session: &[u8], h
     let a = 512 * place;
     let e = a + 512;
     write_access(&mut row[a..e], entry, session, host);
-    write_line(&mut row[0..512], bits + bit_of(place), &line);
+    write_line(&mut row[0..512], bits + bit_of(place), line);
     place
 }
 

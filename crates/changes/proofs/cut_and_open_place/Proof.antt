@@ -3,7 +3,6 @@ use mathlib.Core.Path.{_≡_, ap, _∙_}
 use mathlib.Core.List.{List, _++_}
 use Prim.Native.Nat.{ℕ, _+_, _-_, _*_, _^_}
 use native.Mathlib.Omega.{arith}
-use lib.Seq.{length-take-le}
 use lib.Count.{ones}
 use lib.ListN.{length, getD, take, drop, set}
 use borrow.Rule.Slice.PartMut.{same-len-mid}
@@ -15,34 +14,34 @@ use Rattle.changes.specs.Changes.{freed, lowestFree}
 use Rattle.changes.specs.Writes.{closedUp, headWith, lowestClear, openedBytes}
 use Rattle.changes.proofs.Cuts.{cut-clear, cut-fewer, cut-fits, cut-law, cut-lowest, cut-ones}
 use Rattle.changes.proofs.Puts.{putBlock}
-use Rattle.changes.proofs.Rows.{bit-in, length-opened, place-in, row-size}
+use Rattle.changes.proofs.Rows.{bit-in, head-agrees, head-stays, length-opened, place-in, row-size}
 use Rattle.changes.proofs.cut_and_open_place.Statement.{statement}
 use Rattle.changes.proofs.cut_and_open_place.Tie as tie
 
 returns : tie.Need-returns
-returns c = let start = c .before .before .before .before .before .before .before .before .before .before .before .before .before .before .before .before .before .before .before .before .before .before .before in
+returns c = let start = c .before .before .before .before .before .before .before .before .before .before .before .before .before .before .before .before .before .before .before .before .before .before in
     let r = start .args .row .now in
     let k = start .args .k in
     let sid = start .args .session .now in
     let host = start .args .host .now in
     let n = start .args .entry in
-    let lowest = c .before .before .before .before .before .before .before .before .before .before .before .before .before .before .before .before .before .lowest-free in
-    let closed = c .before .before .before .before .before .before .before .before .before .before .before .before .before .before .line-without in
+    let lowest = c .before .before .before .before .before .before .before .before .before .before .before .before .before .before .before .before .lowest-free in
+    let closed = c .before .before .before .before .before .before .before .before .before .before .before .before .before .line-without in
     let p : ℕ = lowest .result in
     let a : ℕ = 512 * p in
     let o : List ℕ = openedBytes n sid host in
-    let w = c .before .before .before .before .before .before .before .before .write-access in
+    let w = c .before .before .before .before .before .before .before .write-access in
     let place : p ≡ lowestFree ((freed k (readRow r)) .accesses) =
-    lowest .ensures .0 ∙ ap (λ (x : ℕ). lowestClear (getD r 17 0 - x)) (c .before .before .before .before .before .before .before .before .before .before .before .before .before .before .before .before .before .before .bit-of .ensures) ∙ cut-lowest r k (start .pre .0) (start .pre .1) in
+    lowest .ensures .0 ∙ ap (λ (x : ℕ). lowestClear (getD r 17 0 - x)) (c .before .before .before .before .before .before .before .before .before .before .before .before .before .before .before .before .before .bit-of .ensures) ∙ cut-lowest r k (start .pre .0) (start .pre .1) in
     let size : length o ≡ a + 512 - a = length-opened n sid host ∙ omega arith in
-    let v : List ℕ = c .before .before .before .before .before .before .before .before .before .before .before .before .put-zeros .last .0 in
+    let v : List ℕ = c .before .before .before .before .before .before .before .before .before .before .before .put-zeros .last .0 in
     let z : List ℕ = take a v ++ (w .last .0 ++ drop (a + 512 - a) (drop a v)) in
-    let taken : z ≡ put (put r (512 * k) (zeros 512)) a o = back-put v a (a + 512) (w .last .0) o size (w .ensures) ∙ ap (λ (t : List ℕ). put t a o) (c .before .before .before .before .before .before .before .before .before .before .before .before .put-zeros .ensures) in
-    let bits : getD r 17 0 - c .before .before .before .before .before .before .before .before .before .before .before .before .before .before .before .before .before .before .bit-of .result ≡ getD r 17 0 - 2 ^ (k - 1) = ap (λ (x : ℕ). getD r 17 0 - x) (c .before .before .before .before .before .before .before .before .before .before .before .before .before .before .before .before .before .before .bit-of .ensures) in
+    let taken : z ≡ put (put r (512 * k) (zeros 512)) a o = back-put v a (a + 512) (w .last .0) o size (w .ensures) ∙ ap (λ (t : List ℕ). put t a o) (c .before .before .before .before .before .before .before .before .before .before .before .put-zeros .ensures) in
+    let bits : getD r 17 0 - c .before .before .before .before .before .before .before .before .before .before .before .before .before .before .before .before .before .bit-of .result ≡ getD r 17 0 - 2 ^ (k - 1) = ap (λ (x : ℕ). getD r 17 0 - x) (c .before .before .before .before .before .before .before .before .before .before .before .before .before .before .before .before .before .bit-of .ensures) in
     let m : ℕ = ones (getD r 17 0 - 2 ^ (k - 1)) in (
       ap (λ (t : List ℕ). t ++ drop 512 z)
           (c .before .before .write-line .ensures
-          ∙ (λ i. headWith (take 512 z) (bits i + c .before .before .before .before .bit-of2 .ensures i) (set (closed .ensures i) (ones (bits i)) p)))
+          ∙ (λ i. headWith (take 512 z) (bits i + c .before .before .before .bit-of2 .ensures i) (set (closed .ensures i) (ones (bits i)) p)))
           ∙ ap (λ (t : List ℕ). putBlock t 0 (headWith (take 512 t) (getD r 17 0 - 2 ^ (k - 1) + 2 ^ (p - 1)) (set (closedUp (part r 20 8) k) m p))) taken
           ∙ cut-law r k (start .pre .0) (start .pre .1) n sid host p m place (cut-ones r k (start .pre .0) (start .pre .1)),
       place,
@@ -151,12 +150,24 @@ add-write-line c = let start = c .before .before .before .before .before .before
     omega (arith, c .before .before .before .before .before .before .before .before .before .before .before .before .before .before .bit-of .ensures, cut-fits r k (start .pre .0) (start .pre .1))
 
 write-line-requires : tie.Need-write-line-requires
-write-line-requires c κs = let start = c .before .before .before .before .before .before .before .before .before .before .before .before .before .before .before .before .before .before .before .before in
-    let a : ℕ = 512 * c .before .before .before .before .before .before .before .before .before .before .before .before .before .before .lowest-free .result in
-    let w = c .before .before .before .before .before .write-access in
-    let u : List ℕ = c .before .before .before .before .before .before .before .before .before .put-zeros .last .0 in
-    let z : List ℕ = take a u ++ (w .last .0 ++ drop (a + 512 - a) (drop a u)) in
-    length-take-le 512 z (omega (arith, same-len-mid a (a + 512 - a) u (w .last .0) (w .kept .0), c .before .before .before .before .before .before .before .before .before .put-zeros .kept .0, row-size (start .args .row .now) (start .pre .0)))
+write-line-requires c κs = let start = c .before .before .before .before .before .before .before .before .before .before .before .before .before .before .before .before .before .before .before in
+    let r = start .args .row .now in
+    let k = start .args .k in
+    let lowest = c .before .before .before .before .before .before .before .before .before .before .before .before .before .lowest-free in
+    let a : ℕ = 512 * lowest .result in
+    let o : List ℕ = openedBytes (start .args .entry) (start .args .session .now) (start .args .host .now) in
+    let size : length o ≡ a + 512 - a = length-opened (start .args .entry) (start .args .session .now) (start .args .host .now) ∙ omega arith in
+    let w = c .before .before .before .before .write-access in
+    let v : List ℕ = c .before .before .before .before .before .before .before .before .put-zeros .last .0 in
+    let z : List ℕ = take a v ++ (w .last .0 ++ drop (a + 512 - a) (drop a v)) in
+    let long : length v ≡ 4608 = c .before .before .before .before .before .before .before .before .put-zeros .kept .0 ∙ row-size r (start .pre .0) in
+    let taken : z ≡ put v a o = back-put v a (a + 512) (w .last .0) o size (w .ensures) in
+    let in-8 = place-in r (start .pre .0) k (start .pre .1) in
+    head-agrees r z (start .pre .0)
+    (ap (take 512) taken
+    ∙ head-stays v (lowest .result) o (lowest .ensures .1) (lowest .ensures .2) long
+    ∙ ap (take 512) (c .before .before .before .before .before .before .before .before .put-zeros .ensures)
+    ∙ head-stays r k (zeros 512) (in-8 .0) (in-8 .1) (row-size r (start .pre .0)))
 
 same-length : tie.Need-same-length
 same-length c = search needs

@@ -3,7 +3,6 @@ use mathlib.Core.Path.{_≡_, ap, _∙_}
 use mathlib.Core.List.{List, _++_}
 use Prim.Native.Nat.{ℕ, _+_, _-_, _*_, _^_}
 use native.Mathlib.Omega.{arith}
-use lib.Seq.{length-take-le}
 use lib.Count.{ones}
 use lib.ListN.{length, getD, take, drop, set}
 use borrow.Rule.Slice.PartMut.{same-len-mid}
@@ -14,7 +13,7 @@ use Rattle.table.specs.TheTable.{readRow}
 use Rattle.changes.specs.Changes.{lowestFree}
 use Rattle.changes.specs.Writes.{headWith, openedBytes}
 use Rattle.changes.proofs.Puts.{putBlock}
-use Rattle.changes.proofs.Rows.{bit-fits, length-opened, lowest-is, open-law, row-size, some-clear}
+use Rattle.changes.proofs.Rows.{bit-fits, head-agrees, head-stays, length-opened, lowest-is, open-law, row-size, some-clear}
 use Rattle.changes.proofs.Steps.{ones-byte}
 use Rattle.changes.proofs.open_place.Statement.{statement}
 use Rattle.changes.proofs.open_place.Tie as tie
@@ -80,10 +79,15 @@ cast-enlist c = omega (arith, c .before .before .before .before .before .before 
 enlist-requires : tie.Need-enlist-requires
 enlist-requires c κs = let start = c .before .before .before .before .before .before .before .before .before .before .before in
     let r = start .args .row .now in
-    let a : ℕ = 512 * (c .before .before .before .before .before .before .lowest-free .result) in
+    let lowest = c .before .before .before .before .before .before .lowest-free in
+    let a : ℕ = 512 * lowest .result in
+    let o : List ℕ = openedBytes (start .args .entry) (start .args .session .now) (start .args .host .now) in
+    let size : length o ≡ a + 512 - a = length-opened (start .args .entry) (start .args .session .now) (start .args .host .now) ∙ omega arith in
     let w = c .before .before .before .before .write-access in
     let z : List ℕ = take a r ++ (w .last .0 ++ drop (a + 512 - a) (drop a r)) in
-    (length-take-le 512 z (omega (arith, same-len-mid a (a + 512 - a) r (w .last .0) (w .kept .0), row-size r (start .pre .0))), omega (arith, ones-byte r (start .pre .0), start .pre .1))
+    let taken : z ≡ put r a o = back-put r a (a + 512) (w .last .0) o size (w .ensures) in
+    let agrees = head-agrees r z (start .pre .0) (ap (take 512) taken ∙ head-stays r (lowest .result) o (lowest .ensures .1) (lowest .ensures .2) (row-size r (start .pre .0))) in
+    (agrees .0, agrees .1, omega (arith, ones-byte r (start .pre .0), start .pre .1))
 
 same-length : tie.Need-same-length
 same-length c = search needs
