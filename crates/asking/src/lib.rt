@@ -1,0 +1,66 @@
+// What a message asks, in words.
+use message::Asked;
+use message::Span;
+use message::Told;
+use words::say;
+use words::text;
+
+// A part of the message.
+fn part(out: &mut [u8; 4096], at: usize, m: &[u8], s: Span) -> usize {
+    let from = s.at;
+    let n = s.len;
+    if m.len() < from {
+        return at;
+    }
+    if m.len() - from < n {
+        return at;
+    }
+    let end = from + n;
+    text(out, at, &m[from..end])
+}
+
+// A Session-Id and a label.
+fn both(out: &mut [u8; 4096], at: usize, m: &[u8], session: Span, label: Span) -> usize {
+    let a = part(out, at, m, session);
+    let b = say(out, a, b" on ");
+    part(out, b, m, label)
+}
+
+fn request(out: &mut [u8; 4096], at: usize, m: &[u8], asked: Asked) -> usize {
+    match asked {
+        Asked::Tunnel {
+            session,
+            host: _,
+            label,
+            visited: _,
+        } => {
+            let a = say(out, at, b"open ");
+            both(out, a, m, session, label)
+        }
+        Asked::Policy { session, route: _ } => {
+            let a = say(out, at, b"policy for ");
+            part(out, a, m, session)
+        }
+        Asked::Termination { session, label } => {
+            let a = say(out, at, b"terminate ");
+            both(out, a, m, session, label)
+        }
+    }
+}
+
+// Who asks for what; a message that is no whole request is only said to be one.
+pub fn asked(out: &mut [u8; 4096], at: usize, m: &[u8]) -> usize {
+    if m.len() < 20 {
+        return say(out, at, b"no request");
+    }
+    let heard = message::read(m);
+    let told = heard.told;
+    match told {
+        Told::Refused(_) => say(out, at, b"no whole request"),
+        Told::Request(user, what) => {
+            let a = part(out, at, m, user);
+            let b = say(out, a, b", ");
+            request(out, b, m, what)
+        }
+    }
+}

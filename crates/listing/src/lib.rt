@@ -1,0 +1,127 @@
+// The command that says what messages a file has, as far as it can be followed.
+use reader::Step;
+use streams::Way;
+
+// ONE MESSAGE
+
+// The AVP at a place, said behind `margin`; where the next one stands, 0 where there is none.
+fn one(m: &[u8], at: usize, margin: &[u8]) -> usize {
+    let mut out = [0u8; 4096];
+    let step = reader::avp_at(m, at);
+    match step {
+        Step::End => 0,
+        Step::Bad(f) => {
+            let n = values::fault(&mut out, margin, at, f);
+            files::print(&out, n);
+            0
+        }
+        Step::One(s) => {
+            let n = values::avp(&mut out, margin, m, s);
+            files::print(&out, n);
+            s.next
+        }
+    }
+}
+
+// The AVPs of a group, up to its end. A message has at most 512 AVPs.
+fn inner(m: &[u8], from: usize) {
+    let mut at = from;
+    let mut turns: usize = 512;
+    while turns > 0 {
+        turns -= 1;
+        at = one(m, at, b"    ");
+        if at == 0 {
+            return;
+        }
+    }
+}
+
+// The AVPs inside the one at a place, where that is a group.
+fn group(m: &[u8], at: usize) {
+    let step = reader::avp_at(m, at);
+    let Step::One(s) = step else {
+        return;
+    };
+    if !values::is_group(s) {
+        return;
+    }
+    let from = s.value;
+    let n = s.len;
+    if m.len() < from {
+        return;
+    }
+    if m.len() - from < n {
+        return;
+    }
+    let end = from + n;
+    inner(&m[0..end], from);
+}
+
+// The AVPs of a message.
+fn outer(m: &[u8]) {
+    let mut at: usize = 20;
+    let mut turns: usize = 512;
+    while turns > 0 {
+        turns -= 1;
+        let next = one(m, at, b"  ");
+        group(m, at);
+        at = next;
+        if at == 0 {
+            return;
+        }
+    }
+}
+
+// Header, AVPs, and the first test that fails.
+fn message(k: usize, from: usize, room: &[u8; 4096], n: usize) {
+    let mut out = [0u8; 4096];
+    let all: &[u8] = room;
+    if all.len() < n {
+        return;
+    }
+    let m = &all[0..n];
+    let a = decoding::header(&mut out, k, from, m);
+    files::print(&out, a);
+    outer(m);
+    let b = decoding::verdict(&mut out, m);
+    files::print(&out, b);
+}
+
+// A FILE
+
+fn step(fd: i32, path: &[u8], w: Way) -> Way {
+    let mut room = [0u8; 4096];
+    let v = streams::look(fd, path, w, &mut room);
+    if v.last > 0 {
+        message(v.messages, v.from, &room, v.last);
+    }
+    v
+}
+
+// A proved loop has to end, and nothing says that a file does, so the turns are counted down.
+fn list(fd: i32, path: &[u8]) {
+    let mut w = streams::start();
+    let mut turns: usize = 4294967296;
+    while turns > 0 {
+        turns -= 1;
+        w = step(fd, path, w);
+        if w.last == 0 {
+            return;
+        }
+    }
+}
+
+fn open(path: &[u8]) {
+    let fd = os::open_read(path);
+    if fd < 0 {
+        files::refuse_file(path);
+        return;
+    }
+    list(fd, path);
+}
+
+pub fn decode() {
+    let mut path = io::buffer();
+    let n = os::arg(2, &mut path);
+    open(&path[..n]);
+}

@@ -1,0 +1,62 @@
+-- The place stays within the row.
+use Prim.Native.Nat.{_-_, _≤_}
+use borrow.Author.Needs.{needs}
+use Rattle.showing.proofs.standing.Statement.{statement}
+use Rattle.showing.proofs.standing.Tie as tie
+
+abbrev Inv-loop : tie.InvT-loop
+Inv-loop row e n₀ k₀ n k = k ≤ 9
+
+abbrev μ-loop : tie.MeasureT-loop
+μ-loop row e n₀ k₀ n k = 9 - k
+
+returns : tie.Need-returns Inv-loop μ-loop
+returns c = search needs
+
+loop-holds : tie.Need-loop-holds Inv-loop μ-loop
+loop-holds c = search needs
+
+mul-long : tie.Need-mul-long Inv-loop μ-loop
+mul-long c = search needs
+
+add-long : tie.Need-add-long Inv-loop μ-loop
+add-long c = search needs
+
+shared-slice-read-long : tie.Need-shared-slice-read-long Inv-loop μ-loop
+shared-slice-read-long c = search needs
+
+long-requires : tie.Need-long-requires Inv-loop μ-loop
+long-requires c κs = search needs
+
+more-requires : tie.Need-more-requires Inv-loop μ-loop
+more-requires c κs = search needs
+
+add-k : tie.Need-add-k Inv-loop μ-loop
+add-k c = search needs
+
+loop-less : tie.Need-loop-less Inv-loop μ-loop
+loop-less c = search needs
+
+loop-again : tie.Need-loop-again Inv-loop μ-loop
+loop-again c = search needs
+
+returns-2 : tie.Need-returns-2 Inv-loop μ-loop
+returns-2 c = search needs
+
+pub standing-spec : {M : Type 1} → statement M
+standing-spec =
+    tie.close
+    (tie.spec
+    Inv-loop
+    μ-loop
+    returns
+    loop-holds
+    mul-long
+    add-long
+    shared-slice-read-long
+    long-requires
+    more-requires
+    add-k
+    loop-less
+    loop-again
+    returns-2)

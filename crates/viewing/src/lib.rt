@@ -1,0 +1,143 @@
+// The command that shows a table.
+use clauses::Clause;
+use table::RowFound;
+use words::say;
+
+// The labels of a sound row.
+fn entries(row: &[u8], out: &mut [u8; 4096]) {
+    let mut e: usize = 1;
+    while e < 5 {
+        let n = showing::entry(out, row, e);
+        files::print(out, n);
+        e += 1;
+    }
+}
+
+// The accesses of a sound row, from the oldest on.
+fn accesses(row: &[u8], out: &mut [u8; 4096]) {
+    let mut i: usize = 1;
+    while i < 9 {
+        let n = showing::access(out, row, i);
+        files::print(out, n);
+        i += 1;
+    }
+}
+
+// The clause of soundness that is broken.
+fn reason(out: &mut [u8; 4096], at: usize, broken: Clause) -> usize {
+    match broken {
+        Clause::NoClause => say(out, at, b"no clause is broken\n"),
+        Clause::HeadForm => say(out, at, b"block 0 has not its form\n"),
+        Clause::EntryForm => say(out, at, b"an entry has not its form\n"),
+        Clause::PlaceForm => say(out, at, b"a place has not its form\n"),
+        Clause::Sums => say(out, at, b"a block's sums do not agree\n"),
+        Clause::Line => say(
+            out,
+            at,
+            b"the order line does not list the places in use, once each\n",
+        ),
+        Clause::Labels => say(out, at, b"a label stands twice\n"),
+        Clause::Limits => say(out, at, b"the limits sum to over 8\n"),
+        Clause::Sessions => say(out, at, b"a Session-Id stands twice\n"),
+        Clause::NoEntry => say(out, at, b"an access names an entry that is not there\n"),
+        Clause::OverLimit => say(out, at, b"an entry has more accesses than its limit\n"),
+        Clause::PolicyMark => say(
+            out,
+            at,
+            b"byte 4 of a place does not fit the length of its policy\n",
+        ),
+    }
+}
+
+// Row i, said; whether it is free, and nothing is said.
+fn is_free(table: &[u8], i: usize, out: &mut [u8; 4096]) -> bool {
+    if 1024 < i {
+        return false;
+    }
+    let a = 4608 * i;
+    let e = a + 4608;
+    if table.len() < e {
+        return false;
+    }
+    let row = &table[a..e];
+    if octets::all_zero(row) {
+        return true;
+    }
+    if !soundness::row_sound(row) {
+        let n = showing::unsound(out, i, row);
+        let end = reason(out, n, clauses::broken(row));
+        files::print(out, end);
+        return false;
+    }
+    let n = showing::head(out, i, row);
+    files::print(out, n);
+    entries(row, out);
+    accesses(row, out);
+    false
+}
+
+// One more, of at most 1,024.
+fn more(n: usize) -> usize {
+    if n < 1024 {
+        return n + 1;
+    }
+    n
+}
+
+// All rows: how many are free.
+fn free_rows(table: &[u8], out: &mut [u8; 4096]) -> usize {
+    let mut free: usize = 0;
+    let mut i: usize = 0;
+    while i < 1024 {
+        if is_free(table, i, out) {
+            free = more(free);
+        }
+        i += 1;
+    }
+    free
+}
+
+fn show_all(table: &[u8], out: &mut [u8; 4096]) {
+    let free = free_rows(table, out);
+    let a = words::number(out, 0, free as u64);
+    let b = say(out, a, b" of ");
+    let c = words::number(out, b, (table.len() / 4608) as u64);
+    let d = say(out, c, b" rows free\n");
+    files::print(out, d);
+}
+
+fn show_one(table: &[u8], name: &[u8], out: &mut [u8; 4096]) {
+    if table::table_number(table) != 0 {
+        return;
+    }
+    let found = table::lookup(table, name);
+    let RowFound::At(i) = found else {
+        files::refuse_word(name, b": the table has no such subscriber");
+        return;
+    };
+    is_free(table, i, out);
+}
+
+fn shown(path: &[u8], table: &mut [u8]) {
+    let n = files::read_table(path, table);
+    if n < 1 {
+        return;
+    }
+    if table.len() < n {
+        return;
+    }
+    let mut out = [0u8; 4096];
+    if os::arg_count() < 4 {
+        show_all(&table[0..n], &mut out);
+        return;
+    }
+    let mut name = io::buffer();
+    let k = os::arg(3, &mut name);
+    show_one(&table[0..n], &name[..k], &mut out);
+}
+
+pub fn show(table: &mut [u8]) {
+    let mut path = io::buffer();
+    let n = os::arg(2, &mut path);
+    shown(&path[..n], table);
+}

@@ -1,0 +1,15 @@
+// The built-in example: the worked cases on a fresh table.
+
+pub fn play() {
+    let mut table = [0u8; 4608];
+    let mut room = [0u8; 4100];
+    let mut answer = [0u8; 5120];
+    let mut notice = [0u8; 256];
+    let mut out = [0u8; 4096];
+    let mut k: usize = 0;
+    while k < 37 {
+        let n = played::step(k, &mut table, &mut room, &mut answer, &mut notice, &mut out);
+        files::print(&out, n);
+        k += 1;
+    }
+}

@@ -1,0 +1,60 @@
+// The tool: puts captured Diameter messages to the proved server and says what it answers, cuts and keeps. `help` lists its commands.
+mod example;
+mod help;
+
+// What the command is called with, its own name included.
+fn is_called(word: &[u8], name: &[u8], least: usize, most: usize) -> bool {
+    if !octets::same_bytes(word, name) {
+        return false;
+    }
+    if os::arg_count() < least {
+        return false;
+    }
+    os::arg_count() <= most
+}
+
+fn run(word: &[u8], table: &mut [u8; 4718593]) {
+    if is_called(word, b"help", 2, 2) {
+        help::say();
+        return;
+    }
+    if is_called(word, b"new", 4, 4) {
+        setting::new(table);
+        return;
+    }
+    if is_called(word, b"enter", 4, 4) {
+        setting::enter(table);
+        return;
+    }
+    if is_called(word, b"add", 6, 8) {
+        setting::add(table);
+        return;
+    }
+    if is_called(word, b"show", 3, 4) {
+        viewing::show(table);
+        return;
+    }
+    if is_called(word, b"handle", 6, 7) {
+        handling::handle(table);
+        return;
+    }
+    if is_called(word, b"decode", 3, 3) {
+        listing::decode();
+        return;
+    }
+    files::refuse_word(
+        word,
+        b": no such command, or not with so many words: see help",
+    );
+}
+
+fn main() {
+    if os::arg_count() < 2 {
+        example::play();
+        return;
+    }
+    let mut table = [0u8; 4718593];
+    let mut word = io::buffer();
+    let n = os::arg(1, &mut word);
+    run(&word[..n], &mut table);
+}
