@@ -1,6 +1,5 @@
 // A whole call.
 use super::Cut;
-use super::Done;
 use super::Outcome;
 use super::carrying;
 use deciding::Plan;
@@ -11,22 +10,20 @@ use message::Told;
 use table::RowFound;
 ghost use mathlib.Core.Path.{_≡_};
 ghost use mathlib.Core.Bool.{Bool, true};
-ghost use mathlib.Core.List.{List, []};
+ghost use mathlib.Core.List.{List};
 ghost use Prim.Native.Nat.{ℕ, _+_, _*_, _≤_};
 ghost use lib.ListN.{length};
 ghost use Rattle.octets.specs.Choice.{within};
 ghost use Rattle.octets.specs.Lists.{every};
 ghost use Rattle.message.specs.Kinds.{codeFrom};
 ghost use Rattle.message.specs.Spans.{asks, bytesOf, hasProxies, isInside, spansIn};
-ghost use Rattle.message.specs.WritingTheAnswer.{answer, answerRoom};
-ghost use Rattle.answers.specs.Answers.{Answerable};
 ghost use Rattle.decision.specs.Calls.{callNumber, handle, onRow, refusal, settled};
 ghost use Rattle.message.specs.ReadingAMessage.{read, request};
 ghost use Rattle.table.specs.TheTable.{lookup, readRow, rowAt, tableNumber};
 ghost use Rattle.table.specs.Soundness.{sound};
 ghost use Rattle.deciding.specs.Deciding.{decide};
 ghost use Rattle.deciding.specs.Plans.{planned, fitPlan, fitting};
-ghost use Rattle.decision.specs.Outcomes.{resultSaid, leaves, callOf, planKind, planCode, sessionText, hostText, routeText, Ready};
+ghost use Rattle.decision.specs.Outcomes.{leaves, callOf, planKind, planCode, sessionText, hostText, routeText, Ready};
 
 // An own name of 1 to 128 bytes.
 fn name_fits(s: &[u8]) -> bool
@@ -96,34 +93,6 @@ fn code_of(plan: Plan) -> u32
         Plan::Open(n, k) => 2001,
         Plan::Route(k) => 2001,
         Plan::Free(k) => 2001,
-    }
-}
-
-// The answer written, and what the call returns.
-fn answer_call(
-    m: &[u8],
-    host: &[u8],
-    realm: &[u8],
-    kind: Kind,
-    code: u32,
-    user: Span,
-    proxies: bool,
-    done: Done,
-    room: &mut [u8],
-) -> Outcome
-    requires { ⌜ Answerable (now m) (now host) (now realm) code user proxies (now room) ⌝ }
-    ensures { λ r. ⌜ (now (room .exit) ≡ answerRoom (now (m .entry)) (now (host .entry)) (now (realm .entry)) (codeFrom kind code) (now (room .entry)))
-        × (r ≡ record { code = code; kind = kind; length = length (answer (now (m .entry)) (now (host .entry)) (now (realm .entry)) (codeFrom kind code)); place = done .place; cut = done .cut }) ⌝ }
-{
-    let size = answers::answer(m, host, realm, kind, code, user, proxies, room);
-    let place = done.place;
-    let cut = done.cut;
-    Outcome {
-        code: code,
-        kind: kind,
-        length: size,
-        place: place,
-        cut: cut,
     }
 }
 
@@ -222,21 +191,15 @@ fn refuse(
     ensures { λ r. ⌜ ((table notice : List ℕ) (wag : Bool) → leaves r table (now (room .exit)) notice
         ≡ refusal table (callOf (now (m .entry)) (now (host .entry)) (now (realm .entry)) (now (room .entry)) notice wag) (codeFrom kind code)) ⌝ }
 {
-    let none = Done {
+    let none = Span { at: 0, len: 0 };
+    let size = answers::answer(m, host, realm, kind, code, none, proxies, room);
+    Outcome {
+        code: code,
+        kind: kind,
+        length: size,
         place: 0,
         cut: Cut::NoCut,
-    };
-    answer_call(
-        m,
-        host,
-        realm,
-        kind,
-        code,
-        Span { at: 0, len: 0 },
-        proxies,
-        none,
-        room,
-    )
+    }
 }
 
 // A request on row i, which is sound: what is decided is carried out and answered.
@@ -267,17 +230,18 @@ fn settle(
     let gateway = text(m, host_span(asked));
     let route = text(m, route_span(asked));
     let done = carrying::carry(table, i, plan, session, gateway, route, notice);
-    answer_call(
-        m,
-        host,
-        realm,
-        kind_of(plan),
-        code_of(plan),
-        user,
-        proxies,
-        done,
-        room,
-    )
+    let kind = kind_of(plan);
+    let code = code_of(plan);
+    let written = answers::answer(m, host, realm, kind, code, user, proxies, room);
+    let place = done.place;
+    let cut = done.cut;
+    Outcome {
+        code: code,
+        kind: kind,
+        length: written,
+        place: place,
+        cut: cut,
+    }
 }
 
 // A request that was read: the user's row is found and tested, then the request is settled on it.

@@ -9,9 +9,10 @@ use borrow.Author.Needs.{needs}
 use Rattle.decision.proofs.handling.refuse.Statement.{statement}
 use Rattle.decision.proofs.handling.refuse.Tie as tie
 use Rattle.decision.specs.Outcomes.{cutFor}
+use Rattle.decision.specs.declared.Cut.the-variants.{NoCut}
 
-answer-call-requires : tie.Need-answer-call-requires
-answer-call-requires c κs =
+answer-requires : tie.Need-answer-requires
+answer-requires c κs =
     let start = c .before .before .before .before .before in
     let ready = start .pre .0 in
     record {
@@ -32,9 +33,9 @@ returns : tie.Need-returns
 unfolding refusal noticeRoom cutFor
 returns c =
     let a = c .before .before .before .before .before .before .before .before .args in
-    let done = c .before .before .answer-call .ensures in
+    let done = c .before .before .answer .ensures in
     λ table notice wag. answered-is (a .kind) (a .code) (a .m .now) (a .host .now) (a .realm .now) (a .room .now) notice wag 0 [] _ table _ notice
-    (done .0) (done .1) refl
+    (done .room-is) (λ j. record { code = a .code; kind = a .kind; length = done .length-is j; place = 0; cut = NoCut }) refl
 
 pub refuse-spec : {M : Type 1} → statement M
-refuse-spec = tie.close (tie.spec answer-call-requires same-length returns)
+refuse-spec = tie.close (tie.spec answer-requires same-length returns)

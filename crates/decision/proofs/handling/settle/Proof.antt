@@ -31,7 +31,7 @@ returns c =
     let s = readRow (rowAt (a .table .now) (a .i)) in
     let v = decide (asks m (a .asked)) (a .wag) s in
     let carried = c .before .before .before .before .before .before .before .before .before .before .carry .ensures in
-    let answered = c .before .before .answer-call .ensures in
+    let answered = c .before .before .answer .ensures in
     let by : planned (sessionText m (a .asked)) (hostText m (a .asked)) (routeText m (a .asked)) plan s ≡ v = rw row at (c .before .before .before .before .before .before .before .before .before .before .before .before .before .before .before .before .before .before .before .plan-for .ensures .0) in
     let is : planned (c .before .before .before .before .before .before .before .before .before .before .before .before .before .before .before .before .before .text .result .now) (c .before .before .before .before .before .before .before .before .before .before .before .before .before .before .before .text2 .result .now) (c .before .before .before .before .before .before .before .before .before .before .before .before .before .text3 .result .now) plan s ≡ v =
     (λ j. planned (session j) (gateway j) (route j) plan s) ∙ by in
@@ -41,7 +41,7 @@ returns c =
     ap (λ (x : Verdict). x .code) (sym by) ∙ plan-code (sessionText m (a .asked)) (hostText m (a .asked)) (routeText m (a .asked)) plan s ∙ (λ j. codeFrom (sym kind j) (sym code j)) in
     settled-is (a .table .now) (a .i) m (a .host .now) (a .realm .now) (a .room .now) (a .notice .now) (a .wag) v (c .before .before .before .before .before .kind-of .result) (c .before .before .before .before .code-of .result) (c .before .before .before .before .before .before .before .before .before .before .carry .result) _ _ _ _
     coded (carried .0 ∙ ap (tableAfter (a .table .now) (a .i)) is) (carried .1 ∙ ap (λ (x : Verdict). noticeRoom (x .cut) (a .notice .now)) is) (carried .2 ∙ ap doneFor is)
-    (answered .0) (answered .1)
+    (answered .room-is) (λ j. record { code = c .before .before .before .before .code-of .result; kind = c .before .before .before .before .before .kind-of .result; length = answered .length-is j; place = c .before .before .before .before .before .before .before .before .before .before .carry .result .place; cut = c .before .before .before .before .before .before .before .before .before .before .carry .result .cut })
 
 mul-a : tie.Need-mul-a
 mul-a c = search needs
@@ -113,8 +113,8 @@ kind-of-requires c κs = search needs
 code-of-requires : tie.Need-code-of-requires
 code-of-requires c κs = search needs
 
-answer-call-requires : tie.Need-answer-call-requires
-answer-call-requires c κs =
+answer-requires : tie.Need-answer-requires
+answer-requires c κs =
     let start = c .before .before .before .before .before .before .before .before .before .before .before .before .before .before .before .before .before .before .before .before .before .before .before .before .before in
     let a = start .args in
     let m = a .m .now in
@@ -158,7 +158,7 @@ settle-spec =
     carry-requires
     kind-of-requires
     code-of-requires
-    answer-call-requires
+    answer-requires
     same-length
     same-length-2
     same-length-3
