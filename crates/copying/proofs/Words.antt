@@ -1,11 +1,14 @@
 -- Words one behind the other, and a word over the end of the one before.
 use mathlib.Core.Path.{_≡_, sym, ap, _∙_}
 use mathlib.Core.List.{List, [], _++_, append-assoc, append-nil}
-use Prim.Native.Nat.{ℕ, _+_, _-_, _≤_}
+use Prim.Native.Nat.{ℕ, _+_, _-_, _≤_, _<_}
 use native.Mathlib.Omega.{arith}
 use lib.ListN.{length, take, drop, length-drop, take-append-drop, drop-of-length-le}
-use lib.Seq.{take-add, take-all, take-take, drop-drop, length-take-le, take-append-le, take-append-add, drop-append-add}
+use borrow.Author.Tests.{leb-true, leb-false}
+use lib.Dec.{leb}
+use lib.Seq.{drop-at, drop-append-le, take-add, take-all, take-take, drop-drop, length-take-le, take-append-le, take-append-add, drop-append-add}
 use Rattle.octets.specs.Texts.{part, put}
+use Rattle.octets.proofs.Lists.{by-test}
 use Rattle.octets.proofs.Texts.{length-part, put-then}
 
 -- a word that fills its array
@@ -56,3 +59,66 @@ put-last d at s a j h l m =
 -- a last word as it is read
 pub tail-part : (s : List ℕ) (a k : ℕ) → a + k ≡ length s → part s a k ≡ drop a s
 tail-part s a k e = take-all k (drop a s) (rw length-drop (omega (arith, e)))
+
+-- a word that starts within the first j bytes and ends behind them
+pub put-over : (d : List ℕ) (at : ℕ) (s : List ℕ) (a k j : ℕ) → at + length s ≤ length d → a ≤ j → j ≤ a + k → a + k ≤ length s
+    → put (put d at (take j s)) (at + a) (part s a k) ≡ put d at (take (a + k) s)
+put-over d at s a k j h l m n =
+    let t : List ℕ = take (a + k) s in
+    let lt : length t ≡ a + k = length-take-le (a + k) s n in
+    let front : take j t ≡ take j s = take-take j (a + k) s m in
+    let back : drop a t ≡ part s a k =
+    ap (drop a) (take-add a k s) ∙ drop-at (take a s) (part s a k) a (length-take-le a s (omega arith)) in
+    let p : put (put d at (take j t)) (at + a) (drop a t) ≡ put d at t = put-last d at t a j (omega (arith, lt)) l (omega (arith, lt)) in
+    rw (front, back) at p
+
+-- a word that stands there already
+there : (d : List ℕ) (at : ℕ) (s : List ℕ) (a k j : ℕ) → at + length s ≤ length d → a + k ≤ j → j ≤ length s
+    → take k (drop (at + a) (put d at (take j s))) ≡ part s a k
+unfolding put
+there d at s a k j h l m =
+    let f : List ℕ = take at d in
+    let r : List ℕ = drop (at + length (take j s)) d in
+    let lf : length f ≡ at = length-take-le at d (omega arith) in
+    let lj : length (take j s) ≡ j = length-take-le j s m in
+    let e : a + (j - a) ≡ j = omega arith in
+    let inner : drop a (take j s) ≡ take (j - a) (drop a s) =
+    ap (λ (n : ℕ). drop a (take n s)) (sym e) ∙ ap (drop a) (take-add a (j - a) s)
+    ∙ drop-at (take a s) (take (j - a) (drop a s)) a (length-take-le a s (omega arith)) in
+    let li : length (drop a (take j s)) ≡ j - a = length-drop a (take j s) ∙ rw lj in
+    ap (λ (n : ℕ). take k (drop (n + a) (f ++ (take j s ++ r)))) (sym lf)
+    ∙ ap (take k) (drop-append-add f (take j s ++ r) a ∙ drop-append-le a (take j s) r (omega (arith, lj)))
+    ∙ take-append-le k (drop a (take j s)) r (omega (arith, li))
+    ∙ ap (take k) inner
+    ∙ take-take k (j - a) (drop a s) (omega arith)
+
+put-same : (x : List ℕ) (p k : ℕ) (w : List ℕ) → length w ≡ k → take k (drop p x) ≡ w → put x p w ≡ x
+unfolding put
+put-same x p k w l e =
+    rw (l, ← e) (ap (λ (y : List ℕ). take p x ++ (take k (drop p x) ++ y)) (sym (drop-drop k p x))
+    ∙ ap (λ (y : List ℕ). take p x ++ y) (take-append-drop k (drop p x)) ∙ take-append-drop p x)
+
+pub put-within : (d : List ℕ) (at : ℕ) (s : List ℕ) (a k j : ℕ) → at + length s ≤ length d → a + k ≤ j → j ≤ length s
+    → put (put d at (take j s)) (at + a) (part s a k) ≡ put d at (take j s)
+put-within d at s a k j h l m =
+    put-same (put d at (take j s)) (at + a) k (part s a k) (length-part s a k (omega arith)) (there d at s a k j h l m)
+
+-- four words from both ends
+pub four-words : (d : List ℕ) (at : ℕ) (s : List ℕ) → at + length s ≤ length d → 32 < length s → length s ≤ 64
+    → put (put (put (put d at (take 16 s)) (at + 16) (part s 16 16)) (at + (length s - 32)) (part s (length s - 32) 16)) (at + (length s - 16)) (part s (length s - 16) 16)
+    ≡ put d at s
+four-words d at s h l m =
+    let n : ℕ = length s in
+    let two : put (put d at (take 16 s)) (at + 16) (part s 16 16) ≡ put d at (take 32 s) = put-next d at s 16 16 h (omega arith) in
+    let t : part s (n - 16) 16 ≡ drop (n - 16) s = tail-part s (n - 16) 16 (omega arith) in
+    by-test (leb n 48)
+    (λ u.
+    let q = leb-true n 48 u in
+    let three : put (put d at (take 32 s)) (at + (n - 32)) (part s (n - 32) 16) ≡ put d at (take 32 s) =
+    put-within d at s (n - 32) 16 32 h (omega arith) (omega arith) in
+    rw (two, three, t) (put-last d at s (n - 16) 32 h (omega arith) (omega arith)))
+    (λ u.
+    let q = leb-false n 48 u in
+    let three : put (put d at (take 32 s)) (at + (n - 32)) (part s (n - 32) 16) ≡ put d at (take (n - 32 + 16) s) =
+    put-over d at s (n - 32) 16 32 h (omega arith) (omega arith) (omega arith) in
+    rw (two, three, t) (put-last d at s (n - 16) (n - 32 + 16) h (omega arith) (omega arith)))

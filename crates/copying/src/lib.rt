@@ -55,6 +55,23 @@ fn put_short(room: &mut [u8], at: usize, src: &[u8])
     octets::put_bytes(room, at, src);
 }
 
+// A text of 16 to 64 bytes: words from both ends, and no loop.
+fn put_medium(room: &mut [u8], at: usize, src: &[u8])
+    requires { ⌜ (16 ≤ length (now src)) × (length (now src) ≤ 64) × (at + length (now src) ≤ length (now room)) ⌝ }
+    ensures { λ _. ⌜ now (room .exit) ≡ put (now (room .entry)) at (now (src .entry)) ⌝ }
+{
+    let n = src.len();
+    if n <= 32 {
+        put_16(room, at, src, 0);
+        put_16(room, at + (n - 16), src, n - 16);
+        return;
+    }
+    put_16(room, at, src, 0);
+    put_16(room, at + 16, src, 16);
+    put_16(room, at + (n - 32), src, n - 32);
+    put_16(room, at + (n - 16), src, n - 16);
+}
+
 // The bytes of `src` written into `room` from `at` on.
 pub fn put_text(room: &mut [u8], at: usize, src: &[u8])
     requires { ⌜ at + length (now src) ≤ length (now room) ⌝ }
@@ -63,6 +80,10 @@ pub fn put_text(room: &mut [u8], at: usize, src: &[u8])
     let n = src.len();
     if n < 16 {
         put_short(room, at, src);
+        return;
+    }
+    if n <= 64 {
+        put_medium(room, at, src);
         return;
     }
     let last = n - 16;

@@ -229,10 +229,10 @@ heard-walk m n d e h =
     let c = first-go (headerCode m) (walkCode m ∷ listCode (command m) (avps m) ∷ []) d ∙ first-stop (walkCode m) n (listCode (command m) (avps m) ∷ []) e p in
     record { reading = rw c (rw (ne-eqb n 0 h)); inside = refl; proxies = rw e (rw (eq-eqb (headerCode m) 0 d, ne-eqb n 0 h)) }
 
-pub heard-lists : (m index : List ℕ) (t : Told) → Gathered m index → headerCode m ≡ 0 → walkCode m ≡ 0 → Listed m (readingCode m) (requestOf (command m) (avps m)) t
-    → HeardOf m (record { told = t; proxies = not (eqb (getD index 9 0) 0) })
+pub heard-lists : (m : List ℕ) (t : Told) (p : Bool) → p ≡ hasProxies m → Listed m (readingCode m) (requestOf (command m) (avps m)) t
+    → HeardOf m (record { told = t; proxies = p })
 unfolding read verdict
-heard-lists m index t g h w l = record { reading = l .reading; inside = l .inside; proxies = proxies-are m index g h w }
+heard-lists m t p e l = record { reading = l .reading; inside = l .inside; proxies = e }
 
 -- REQUESTS
 

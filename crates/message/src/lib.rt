@@ -8,7 +8,7 @@ ghost use Rattle.octets.specs.Numbers.{net32};
 ghost use Rattle.message.specs.CallsThatGetNoAnswer.{messageNumber};
 ghost use Rattle.message.specs.ReadingAMessage.{base, vendor, command, headerCode, avps, walkCode, sessionId, originHost, userName, startsWith, numberField, requestOf};
 ghost use Rattle.message.specs.Positions.{slotOf, nameAt, headOf, headAt, Gathered};
-ghost use Rattle.message.specs.Spans.{bytesField, codeOf, isFound, Holds, Reads, BothRead, restCode, tunnelCode, tunnelOf, policyCode, policyOf, Listed, HeardOf};
+ghost use Rattle.message.specs.Spans.{bytesField, codeOf, isFound, Holds, Reads, BothRead, restCode, tunnelCode, tunnelOf, policyCode, policyOf, Listed, hasProxies, HeardOf};
 
 // Which kind of code a call is answered with.
 pub enum Kind {
@@ -488,6 +488,14 @@ pub struct Heard {
     pub proxies: bool,
 }
 
+// Whether the answer has a Proxy-Info to copy.
+fn proxies_seen(m: &[u8], index: &[usize]) -> bool
+    requires { ⌜ (headerCode (now m) ≡ 0) × (walkCode (now m) ≡ 0) × Gathered (now m) (now index) ⌝ }
+    ensures { λ r. ⌜ r ≡ hasProxies (now (m .entry)) ⌝ }
+{
+    index[9] != 0
+}
+
 // A 265 whose header passed, and a 275: the walk, then both lists. The walk has two callers, so that the compiler keeps it apart,
 // with all registers to itself.
 fn read_265(m: &[u8]) -> Heard
@@ -502,7 +510,7 @@ fn read_265(m: &[u8]) -> Heard
             proxies: false,
         };
     }
-    let proxies = index[9] != 0;
+    let proxies = proxies_seen(m, &index);
     let b = first_five(m, &index);
     match b {
         Both::Failed(n) => Heard {
@@ -528,7 +536,7 @@ fn read_275(m: &[u8]) -> Heard
             proxies: false,
         };
     }
-    let proxies = index[9] != 0;
+    let proxies = proxies_seen(m, &index);
     let b = first_five(m, &index);
     match b {
         Both::Failed(n) => Heard {

@@ -25,9 +25,18 @@ same-length c = search needs
 returns : tie.Need-returns Inv-loop μ-loop
 returns c = search needs
 
+put-medium-requires : tie.Need-put-medium-requires Inv-loop μ-loop
+put-medium-requires c κs = search needs
+
+same-length-2 : tie.Need-same-length-2 Inv-loop μ-loop
+same-length-2 c = search needs
+
+returns-2 : tie.Need-returns-2 Inv-loop μ-loop
+returns-2 c = search needs
+
 loop-holds : tie.Need-loop-holds Inv-loop μ-loop
 loop-holds c =
-    let a = c .before .before .before .args in
+    let a = c .before .before .before .before .args in
     (search needs, search needs, sym (put-nothing (a .room .now) (a .at)))
 
 add-put-16 : tie.Need-add-put-16 Inv-loop μ-loop
@@ -45,12 +54,12 @@ loop-less c = search needs
 loop-again : tie.Need-loop-again Inv-loop μ-loop
 loop-again c =
     let l = c .before .before .before .before .before .loop in
-    let a = c .before .before .before .before .before .before .before .before .before .args in
+    let a = c .before .before .before .before .before .before .before .before .before .before .args in
     let s = a .src .now in
     let e = c .before .before .put-16 .ensures in (
       omega arith,
       c .before .before .put-16 .kept .0 ∙ l .inv .1,
-      e ∙ rw (l .inv .2) (put-next (a .room .now) (a .at) s (l .j) 16 (c .before .before .before .before .before .before .before .before .before .pre) (omega arith)),
+      e ∙ rw (l .inv .2) (put-next (a .room .now) (a .at) s (l .j) 16 (c .before .before .before .before .before .before .before .before .before .before .pre) (omega arith)),
     )
 
 add-put-16-2 : tie.Need-add-put-16-2 Inv-loop μ-loop
@@ -59,19 +68,19 @@ add-put-16-2 c = search needs
 put-16-requires-2 : tie.Need-put-16-requires-2 Inv-loop μ-loop
 put-16-requires-2 c κs = search needs
 
-same-length-2 : tie.Need-same-length-2 Inv-loop μ-loop
-same-length-2 c = search needs
+same-length-3 : tie.Need-same-length-3 Inv-loop μ-loop
+same-length-3 c = search needs
 
-returns-2 : tie.Need-returns-2 Inv-loop μ-loop
-returns-2 c =
+returns-3 : tie.Need-returns-3 Inv-loop μ-loop
+returns-3 c =
     let l = c .before .before .before .before .before .loop in
-    let a = c .before .before .before .before .before .before .before .before .before .args in
+    let a = c .before .before .before .before .before .before .before .before .before .before .args in
     let s = a .src .now in
     let n = length s in
     let t : part s (n - 16) 16 ≡ drop (n - 16) s = tail-part s (n - 16) 16 (omega arith) in
     c .before .before .put-162 .ensures
     ∙ rw (l .inv .2, t)
-    (put-last (a .room .now) (a .at) s (n - 16) (l .j) (c .before .before .before .before .before .before .before .before .before .pre) (omega arith) (l .inv .0))
+    (put-last (a .room .now) (a .at) s (n - 16) (l .j) (c .before .before .before .before .before .before .before .before .before .before .pre) (omega arith) (l .inv .0))
 
 pub put-text-spec : {M : Type 1} → statement M
 put-text-spec =
@@ -82,6 +91,9 @@ put-text-spec =
     put-short-requires
     same-length
     returns
+    put-medium-requires
+    same-length-2
+    returns-2
     loop-holds
     add-put-16
     put-16-requires
@@ -90,5 +102,5 @@ put-text-spec =
     loop-again
     add-put-16-2
     put-16-requires-2
-    same-length-2
-    returns-2)
+    same-length-3
+    returns-3)

@@ -22,16 +22,21 @@ returns c =
     let g = c .before .before .gather in
     heard-walk (s .args .m .now) (g .result) (s .pre .1) (sym (g .ensures .0)) (c .if1 .taken)
 
-array-read-proxies : tie.Need-array-read-proxies
-array-read-proxies c = search needs
+slice-aggregate-proxies-seen : tie.Need-slice-aggregate-proxies-seen
+slice-aggregate-proxies-seen c = search needs
+
+proxies-seen-requires : tie.Need-proxies-seen-requires
+proxies-seen-requires c κs =
+    let g = c .before .before .before .gather .ensures in
+    (c .before .before .before .before .before .before .pre .1, sym (g .0) ∙ c .before .if1 .left, g .1)
 
 slice-aggregate-first-five : tie.Need-slice-aggregate-first-five
 slice-aggregate-first-five c = search needs
 
 first-five-requires : tie.Need-first-five-requires
 first-five-requires c κs =
-    let g = c .before .before .before .gather .ensures in
-    (c .before .before .before .before .before .before .pre .0, sym (g .0) ∙ c .before .if1 .left, g .1)
+    let g = c .before .before .before .before .before .gather .ensures in
+    (c .before .before .before .before .before .before .before .before .pre .0, sym (g .0) ∙ c .before .before .before .if1 .left, g .1)
 
 enum-known-b : tie.Need-enum-known-b
 enum-known-b c = search needs
@@ -46,31 +51,31 @@ list-275-requires : tie.Need-list-275-requires
 list-275-requires c κs =
     let b = c .before .before .b2 .given in
     let r = c .before .before .before .before .first-five .ensures in
-    (c .before .before .before .before .before .before .before .before .gather .ensures .1, r .session (b .0 .0) (b .0 .1 .0) (b .1))
+    (c .before .before .before .before .before .before .before .before .before .before .gather .ensures .1, r .session (b .0 .0) (b .0 .1 .0) (b .1))
 
 returns-2 : tie.Need-returns-2
 unfolding failedWith
 returns-2 c =
-    let s = c .before .before .before .before .before .before .before .before .before .before in
+    let s = c .before .before .before .before .before .before .before .before .before .before .before .before in
     let m = s .args .m .now in
-    let g = c .before .before .before .before .before .before .before .gather in
-    let w = sym (g .ensures .0) ∙ c .before .before .before .before .before .if1 .left in
+    let w = sym (c .before .before .before .before .before .before .before .before .before .gather .ensures .0) ∙ c .before .before .before .before .before .before .before .if1 .left in
     let b = c .before .b .given in
     let r = c .before .before .before .first-five .ensures in
+    let p = c .before .before .before .before .before .proxies-seen in
     let n = b .0 .0 in
-    heard-lists m (g .last .1 .0) (Refused n) (g .ensures .1) (s .pre .1) w
+    heard-lists m (Refused n) (p .result) (p .ensures)
     (listed-refused m (readingCode m) (requestOf (command m) (avps m)) n
     (lists-failed m n (s .pre .1) w (r .code ∙ ap failedWith (b .1)) (r .real n (b .1))) (r .real n (b .1)))
 
 returns-3 : tie.Need-returns-3
 unfolding failedWith
 returns-3 c =
-    let s = c .before .before .before .before .before .before .before .before .before .before .before .before in
+    let s = c .before .before .before .before .before .before .before .before .before .before .before .before .before .before in
     let m = s .args .m .now in
-    let g = c .before .before .before .before .before .before .before .before .before .gather in
-    let w = sym (g .ensures .0) ∙ c .before .before .before .before .before .before .before .if1 .left in
+    let w = sym (c .before .before .before .before .before .before .before .before .before .before .before .gather .ensures .0) ∙ c .before .before .before .before .before .before .before .before .before .if1 .left in
+    let p = c .before .before .before .before .before .before .before .proxies-seen in
     let z = lists-rest m (s .pre .1) w (c .before .before .before .before .before .first-five .ensures .code ∙ ap failedWith (c .before .before .before .b2 .given .1)) in
-    heard-lists m (g .last .1 .0) (c .list-275 .result) (g .ensures .1) (s .pre .1) w (rw (z, s .pre .2) (c .list-275 .ensures))
+    heard-lists m (c .list-275 .result) (p .result) (p .ensures) (rw (z, s .pre .2) (c .list-275 .ensures))
 
 pub read-275-spec : {M : Type 1} → statement M
 read-275-spec =
@@ -79,7 +84,8 @@ read-275-spec =
     slice-aggregate-gather
     gather-requires
     returns
-    array-read-proxies
+    slice-aggregate-proxies-seen
+    proxies-seen-requires
     slice-aggregate-first-five
     first-five-requires
     enum-known-b
