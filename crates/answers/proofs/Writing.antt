@@ -1,35 +1,29 @@
 -- The answer's parts, each a write behind the one before, and what they come to.
 use mathlib.Core.Path.{_≡_, refl, sym, ap, _∙_}
 use mathlib.Core.Bool.{Bool, true, false, _&&_, not}
-use mathlib.Core.List.{List, [], _∷_, _++_, append-assoc, append-nil}
-use Prim.Native.Nat.{ℕ, zero, suc, _+_, _-_, _≤_, _<_}
+use mathlib.Core.List.{List, [], _++_, append-assoc, append-nil}
+use Prim.Native.Nat.{ℕ, zero, suc, _+_, _-_, _≤_}
 use native.Mathlib.Omega.{arith}
-use borrow.Author.Tests.{eqb-true, eq-eqb, ne-eqb, le-leb, lt-leb}
+use borrow.Author.Tests.{eqb-true, eq-eqb, ne-eqb}
 use lib.Dec.{eqb}
-use lib.ListN.{length, take, drop, length-append, length-drop}
-use lib.Seq.{drop-drop, drop-at, length-take-le}
+use lib.ListN.{length, take, drop, replicate, length-append, length-drop, length-replicate, replicate-append-replicate}
+use lib.Seq.{drop-at, take-append-le, drop-append-le, drop-append-add, take-take, length-take-le}
 use Rattle.octets.specs.Choice.{pick, within}
 use Rattle.octets.specs.Lists.{keep}
 use Rattle.octets.specs.Texts.{part, zeros, put}
-use Rattle.octets.specs.Numbers.{net24, in24, in32, up4}
-use Rattle.octets.proofs.Lists.{by-test, and-left, and-right, in-within, within-high}
+use Rattle.octets.specs.Numbers.{in24, in32, up4}
+use Rattle.octets.proofs.Lists.{by-test, and-left, and-right, within-high}
 use Rattle.octets.proofs.Texts.{length-zeros, length-part, length-put, put-then, put-nothing}
 use Rattle.message.specs.Codes.{Code, none, plain, experimental, numberOf}
-use Rattle.message.specs.ReadingAMessage.{command, headerCode, Name, sameName, Avp, behind, walkOne, walkUpTo, walk, headLength, avpLength, avpCode, avpOf, avps, walkCode, having, present, valueOf, sessionId, userName, proxyInfo}
+use Rattle.message.specs.ReadingAMessage.{command, headerCode, Name, sameName, behind, walkOne, walkUpTo, walk, avpLength, avpCode, avpOf, avps, walkCode, having, valueOf, sessionId, userName, proxyInfo}
 use Rattle.message.specs.WritingTheAnswer.{avpBytes, sessionAvp, is3xxx, authAvps, resultAvp, subscriptionAvp, allBytes, proxyAvps, answerBody, answerFlags, answer, answerRoom}
-use Rattle.message.specs.declared.Spot.{Spot}
 use Rattle.message.specs.declared.Span.{Span}
 use Rattle.message.specs.declared.Kind.{Kind}
 use Rattle.message.specs.declared.Kind.the-variants.{NoAnswer, Plain, Experimental}
-use Rattle.message.specs.declared.Head.the-variants.{One, Bad}
-use Rattle.message.specs.Positions.{names, nameAt, headOf, slotOf, spotAt, headAt}
-use Rattle.message.specs.Spans.{Holds, hasProxies}
+use Rattle.message.specs.Spans.{Holds}
 use Rattle.message.specs.Kinds.{codeFrom}
 use Rattle.answers.specs.Answers.{headBytes, answerHead, Written, Answerable, Answered}
 use Rattle.message.proofs.Walks.{Passed, passes, up4-least}
-use Rattle.message.proofs.Heads.{net24-drop}
-use Rattle.message.proofs.Gathering.{walk-end, walk-bad, walk-one, head-is-one, head-is-bad, next-place, slot-named, slot-other, having-is, having-not, ahead}
-use Rattle.message.proofs.Readers.{slot-head}
 
 -- LENGTHS
 
@@ -47,6 +41,14 @@ length-number code n = refl
 
 -- WRITES
 
+drop-zeros : (k n : ℕ) → n ≤ k → drop (k - n) (zeros k) ≡ zeros n
+unfolding zeros
+drop-zeros k n h =
+    let e : k - n + n ≡ k = omega arith in
+    ap (λ (x : ℕ). drop (k - n) (replicate x 0)) (sym e)
+    ∙ ap (drop (k - n)) (sym (replicate-append-replicate (k - n) n 0))
+    ∙ drop-at (replicate (k - n) 0) (replicate n 0) (k - n) (length-replicate (k - n) 0)
+
 pub written-nothing : (d : List ℕ) (at : ℕ) → Written d d at at []
 written-nothing d at = record { place = omega arith; bytes-put = sym (put-nothing d at) }
 
@@ -61,16 +63,41 @@ written-then d e f at k n a b p q h =
       bytes-put = q .bytes-put ∙ rw (p .bytes-put) (put-then d at a b k (p .place) h);
     }
 
--- the head of an AVP, and its value and padding behind it
+-- bytes written over zeros that end behind them
+over-zeros : (d : List ℕ) (at : ℕ) (s : List ℕ) (q k n : ℕ) → q + k ≡ at + length s + n → n ≤ k → at ≤ q → q + k ≤ length d
+    → put (put d q (zeros k)) at s ≡ put d at (s ++ zeros n)
+unfolding put
+over-zeros d at s q k n e h l r =
+    let f : List ℕ = take q d in
+    let b : List ℕ = drop (q + length (zeros k)) d in
+    let lf : length f ≡ q = length-take-le q d (omega arith) in
+    let lz : length (zeros k) ≡ k = length-zeros k in
+    let ln : length (s ++ zeros n) ≡ length s + n = length-append s (zeros n) ∙ rw (length-zeros n) in
+    let front : take at (f ++ (zeros k ++ b)) ≡ take at d = take-append-le at f (zeros k ++ b) (omega (arith, lf)) ∙ take-take at q d l in
+    let split : at + length s ≡ length f + (k - n) = omega (arith, lf) in
+    let rest : drop (k - n) (zeros k) ≡ zeros n = drop-zeros k n h in
+    let back : drop (at + length s) (f ++ (zeros k ++ b)) ≡ zeros n ++ b =
+    ap (λ (x : ℕ). drop x (f ++ (zeros k ++ b))) split
+    ∙ drop-append-add f (zeros k ++ b) (k - n)
+    ∙ drop-append-le (k - n) (zeros k) b (omega (arith, lz))
+    ∙ ap (λ (x : List ℕ). x ++ b) rest in
+    let end : q + length (zeros k) ≡ at + length (s ++ zeros n) = omega (arith, lz, ln) in
+    rw (front, back, end) (simp append-assoc)
+
+-- the head of an AVP and its value behind it, over zeros where its padding stands
 pub avp-put : (d : List ℕ) (at code : ℕ) (v : List ℕ) → at + length v + 12 ≤ length d
-    → put (put (put d at (headBytes code (8 + length v))) (at + 8) v) (at + 8 + length v) (zeros (up4 (length v) - length v)) ≡ put d at (avpBytes code v)
+    → put (put (put d (at + 4 + up4 (length v)) (zeros 4)) at (headBytes code (8 + length v))) (at + 8) v ≡ put d at (avpBytes code v)
 unfolding avpBytes headBytes in32 in24
 avp-put d at code v h =
     let a : List ℕ = headBytes code (8 + length v) in
     let l : length (a ++ v) ≡ 8 + length v = length-append a v in
-    ap (λ (x : List ℕ). put x (at + 8 + length v) (zeros (up4 (length v) - length v))) (put-then d at a v (at + 8) refl (omega arith))
-    ∙ put-then d at (a ++ v) (zeros (up4 (length v) - length v)) (at + 8 + length v) (omega arith) (omega arith)
-    ∙ ap (put d at) (append-assoc a v (zeros (up4 (length v) - length v)))
+    let n : ℕ = up4 (length v) - length v in
+    let e : List ℕ = put d (at + 4 + up4 (length v)) (zeros 4) in
+    let le : length e ≡ length d = length-put d (at + 4 + up4 (length v)) (zeros 4) (rw (length-zeros 4) (omega (arith, up4-most (length v)))) in
+    put-then e at a v (at + 8) refl (omega (arith, le))
+    ∙ over-zeros d at (a ++ v) (at + 4 + up4 (length v)) 4 n (omega (arith, l, up4-least (length v))) (omega (arith, up4-most (length v))) (omega arith)
+    (omega (arith, up4-most (length v)))
+    ∙ ap (put d at) (append-assoc a v (zeros n))
 
 -- a group: a value that ends on a multiple of 4 has no padding
 pub group-put : (d e f : List ℕ) (at n code size : ℕ) (v : List ℕ) → e ≡ put d at (headBytes code size) → size ≡ 8 + length v → up4 (length v) ≡ length v
@@ -108,73 +135,6 @@ head-from m NoAnswer n size = refl
 head-from m Plain n size = refl
 head-from m Experimental n size = refl
 
--- SESSION-ID
-
-module _ (m : List ℕ) where
-  pub session-bad : (c : ℕ) → headAt m 20 ≡ Bad c → sessionAvp m ≡ []
-  unfolding sessionAvp pick
-  session-bad c e =
-      let b = head-is-bad m 20 c e in
-      rw (ne-eqb (avpCode (drop 20 m)) 0 (λ z. omega (arith, b .0, b .1)))
-
-  module _ (a : Spot) (o : headAt m 20 ≡ One a) where
-    slot-is : a .slot ≡ slotOf ((avpOf (drop 20 m)) .name)
-    unfolding spotAt
-    slot-is = ap (λ (x : Spot). x .slot) ((head-is-one m 20 a o) .1)
-
-    pub session-other : (a .slot ≡ 0 → ⊥) → sessionAvp m ≡ []
-    unfolding sessionAvp pick nameAt names
-    session-other h =
-        let n : sameName (nameAt 0) ((avpOf (drop 20 m)) .name) ≡ false = slot-other ((avpOf (drop 20 m)) .name) 0 (omega arith) (λ z. h (slot-is ∙ sym z)) in
-        rw (eq-eqb (avpCode (drop 20 m)) 0 ((head-is-one m 20 a o) .0), n)
-
-    pub past-first : 20 ≤ length m → 28 ≤ length m
-    past-first l =
-        let p : Passed (drop 20 m) = passes (drop 20 m) ((head-is-one m 20 a o) .0) in
-        let w : 8 ≤ length m - 20 = rw length-drop at (p .eight) in
-        omega arith
-
-    module _ (z : a .slot ≡ 0) (l : 20 ≤ length m) where
-      named : sameName (nameAt 0) ((avpOf (drop 20 m)) .name) ≡ true
-      named = let q : slotOf ((avpOf (drop 20 m)) .name) ≡ 0 = sym slot-is ∙ z in rw q at (slot-named ((avpOf (drop 20 m)) .name) (omega (arith, q)))
-
-      eight : headLength (drop 20 m) ≡ 8
-      unfolding headOf pick
-      eight = slot-head 0 (drop 20 m) (omega arith) named
-
-      pub session-end : 20 + net24 m 25 ≤ length m
-      session-end =
-          let p : Passed (drop 20 m) = passes (drop 20 m) ((head-is-one m 20 a o) .0) in
-          let w : up4 (avpLength (drop 20 m)) ≤ length m - 20 = rw length-drop at (p .whole) in
-          omega (arith, net24-drop 20 5 m, up4-least (avpLength (drop 20 m)))
-
-      least : 8 ≤ net24 m 25
-      least =
-          let p : Passed (drop 20 m) = passes (drop 20 m) ((head-is-one m 20 a o) .0) in
-          omega (arith, eight, p .head, net24-drop 20 5 m)
-
-      value-is : (avpOf (drop 20 m)) .value ≡ part m 28 (net24 m 25 - 8)
-      unfolding avpOf
-      value-is = rw (eight, net24-drop 20 5 m, drop-drop 8 20 m)
-
-      value-length : length ((avpOf (drop 20 m)) .value) ≡ net24 m 25 - 8
-      value-length = ap length value-is ∙ length-part m 28 (net24 m 25 - 8) (omega (arith, session-end, least))
-
-      pub session-short : net24 m 25 < 9 → sessionAvp m ≡ []
-      unfolding sessionAvp pick within nameAt names
-      session-short h =
-          rw (eq-eqb (avpCode (drop 20 m)) 0 ((head-is-one m 20 a o) .0), named, value-length, lt-leb 1 (net24 m 25 - 8) (omega arith))
-
-      pub session-long : 136 < net24 m 25 → sessionAvp m ≡ []
-      unfolding sessionAvp pick within nameAt names
-      session-long h =
-          rw (eq-eqb (avpCode (drop 20 m)) 0 ((head-is-one m 20 a o) .0), named, value-length, le-leb 1 (net24 m 25 - 8) (omega arith), lt-leb (net24 m 25 - 8) 128 (omega arith))
-
-      pub session-is : 9 ≤ net24 m 25 → net24 m 25 ≤ 136 → sessionAvp m ≡ avpBytes 263 (part m 28 (net24 m 25 - 8))
-      unfolding sessionAvp pick nameAt names
-      session-is h k =
-          rw (eq-eqb (avpCode (drop 20 m)) 0 ((head-is-one m 20 a o) .0), named, value-length, in-within 1 128 (net24 m 25 - 8) (omega arith) (omega arith), value-is)
-
 -- AUTH AND SUBSCRIPTION
 
 module _ (m : List ℕ) (n : ℕ) where
@@ -208,132 +168,6 @@ subscription-length v = length-append (avpBytes 450 (in32 1)) (avpBytes 444 v) �
 pub up4-twice : (n : ℕ) → up4 (20 + up4 n) ≡ 20 + up4 n
 unfolding up4
 up4-twice n = omega arith
-
--- PROXY-INFO
-
--- the Proxy-Infos ahead
-unfoldable pub proxiesFrom : List ℕ → ℕ → List ℕ
-proxiesFrom m from = allBytes (having proxyInfo ((ahead m from) .avps))
-
-bytes-none : (xs : List Avp) → false ≡ not (eqb (length xs) 0) → allBytes xs ≡ []
-unfolding allBytes
-bytes-none [] f = refl
-bytes-none (x ∷ xs) f =
-    let g = rw (ne-eqb (suc (length xs)) 0 (λ z. omega arith)) at f in
-    let z : _≡_ {A = ℕ} 0 1 = cc in
-    absurd (omega arith)
-
-pub proxies-none : (m : List ℕ) → false ≡ hasProxies m → proxyAvps m ≡ []
-unfolding hasProxies proxyAvps pick present
-proxies-none m e =
-    by-test (eqb (headerCode m) 0 && eqb (walkCode m) 0)
-    (λ t.
-    let h = and-left (eqb (headerCode m) 0) (eqb (walkCode m) 0) t in
-    let w = and-right (eqb (headerCode m) 0) (eqb (walkCode m) 0) t in
-    let f = rw (h, w) at e in
-    rw t (bytes-none (having proxyInfo (avps m)) f))
-    (λ t. rw t)
-
-pub proxies-start : (m : List ℕ) → true ≡ hasProxies m → proxyAvps m ≡ proxiesFrom m 20
-unfolding hasProxies proxyAvps pick proxiesFrom avps
-proxies-start m e =
-    let h = and-left (eqb (headerCode m) 0) (eqb (walkCode m) 0 && present proxyInfo (avps m)) (sym e) in
-    let r = and-right (eqb (headerCode m) 0) (eqb (walkCode m) 0 && present proxyInfo (avps m)) (sym e) in
-    rw (h, and-left (eqb (walkCode m) 0) (present proxyInfo (avps m)) r)
-
-pub proxies-end : (m : List ℕ) (from : ℕ) → length m ≤ from → proxiesFrom m from ≡ []
-unfolding proxiesFrom having keep allBytes
-proxies-end m from h = rw (walk-end (drop from m) (rw length-drop (omega arith)))
-
-proxies-stop : (m : List ℕ) (from c : ℕ) → from < length m → headAt m from ≡ Bad c → proxiesFrom m from ≡ []
-unfolding proxiesFrom having keep allBytes
-proxies-stop m from c h b =
-    let f = head-is-bad m from c b in
-    rw (walk-bad (drop from m) (rw length-drop (omega arith)) (omega (arith, f .0, f .1)))
-
-module _ (m : List ℕ) (from : ℕ) (a : Spot) (o : headAt m from ≡ One a) where
-  ahead-avps : (ahead m from) .avps ≡ avpOf (drop from m) ∷ (ahead m (a .next)) .avps
-  unfolding spotAt behind
-  ahead-avps =
-      let p = head-is-one m from a o in
-      rw (walk-one (drop from m) (p .0), p .1, drop-drop (up4 (avpLength (drop from m))) from m)
-
-  slot-from : a .slot ≡ slotOf ((avpOf (drop from m)) .name)
-  unfolding spotAt
-  slot-from = ap (λ (x : Spot). x .slot) ((head-is-one m from a o) .1)
-
-  next-from : a .next ≡ from + up4 (avpLength (drop from m))
-  unfolding spotAt
-  next-from = ap (λ (x : Spot). x .next) ((head-is-one m from a o) .1)
-
-  pub proxies-other : (a .slot ≡ 9 → ⊥) → proxiesFrom m from ≡ proxiesFrom m (a .next)
-  unfolding proxiesFrom nameAt names
-  proxies-other h =
-      let n : sameName (nameAt 9) ((avpOf (drop from m)) .name) ≡ false = slot-other ((avpOf (drop from m)) .name) 9 (omega arith) (λ z. h (slot-from ∙ sym z)) in
-      ap allBytes (ap (having proxyInfo) ahead-avps ∙ having-not proxyInfo (avpOf (drop from m)) ((ahead m (a .next)) .avps) n)
-
-  pub proxies-one : a .slot ≡ 9 → proxiesFrom m from ≡ part m from (a .next - from) ++ proxiesFrom m (a .next)
-  unfolding proxiesFrom nameAt names allBytes avpOf
-  proxies-one h =
-      let q : slotOf ((avpOf (drop from m)) .name) ≡ 9 = sym slot-from ∙ h in
-      let n : sameName (nameAt 9) ((avpOf (drop from m)) .name) ≡ true = rw q at (slot-named ((avpOf (drop from m)) .name) (omega (arith, q))) in
-      let k : a .next - from ≡ up4 (avpLength (drop from m)) = omega (arith, next-from) in
-      ap allBytes (ap (having proxyInfo) ahead-avps ∙ having-is proxyInfo (avpOf (drop from m)) ((ahead m (a .next)) .avps) n)
-      ∙ rw k
-
--- what is in the room with the Proxy-Infos ahead is what all of them make of it
-pub record Copied (m before : List ℕ) (start : ℕ) (room : List ℕ) (to from : ℕ) : Type 0 where
-  pub inside : from ≤ length m
-  pub same : length room ≡ length before
-  pub fits : to + (length m - from) ≤ length before
-  pub end : to + length (proxiesFrom m from) ≡ start + length (proxyAvps m)
-  pub all : put room to (proxiesFrom m from) ≡ put before start (proxyAvps m)
-
-pub copied-none : (m room : List ℕ) (at : ℕ) → true ≡ hasProxies m → 20 ≤ length m → at + length m ≤ length room → Copied m room at room at 20
-copied-none m room at e h f =
-    let p = proxies-start m e in
-    record { inside = h; same = refl; fits = omega arith; end = rw p; all = rw p }
-
--- nothing is ahead
-copied-empty : (m before room : List ℕ) (start to from : ℕ) → Copied m before start room to from → proxiesFrom m from ≡ [] → Written before room start to (proxyAvps m)
-copied-empty m before room start to from w e =
-    let n : length (proxiesFrom m from) ≡ 0 = rw e in
-    record { place = omega (arith, w .end, n); bytes-put = sym (put-nothing room to) ∙ rw e at (w .all) }
-
-pub copied-stop : (m before room : List ℕ) (start to from c : ℕ) → Copied m before start room to from → from < length m → headAt m from ≡ Bad c
-    → Written before room start to (proxyAvps m)
-copied-stop m before room start to from c w h b = copied-empty m before room start to from w (proxies-stop m from c h b)
-
-pub copied-all : (m before room : List ℕ) (start to from : ℕ) → Copied m before start room to from → length m ≤ from → Written before room start to (proxyAvps m)
-copied-all m before room start to from w h = copied-empty m before room start to from w (proxies-end m from h)
-
-module _ (m before room : List ℕ) (start to from : ℕ) (a : Spot) (w : Copied m before start room to from) (o : headAt m from ≡ One a) where
-  pub copied-over : (a .slot ≡ 9 → ⊥) → Copied m before start room to (a .next)
-  copied-over h =
-      let n = next-place m from a (w .inside) o in
-      let e = proxies-other m from a o h in
-      record {
-        inside = n .1;
-        same = w .same;
-        fits = omega (arith, w .fits, n .0, n .1);
-        end = rw e at (w .end);
-        all = rw e at (w .all);
-      }
-
-  pub copied-one : (after : List ℕ) → a .slot ≡ 9 → after ≡ put room to (part m from (a .next - from)) → Copied m before start after (to + (a .next - from)) (a .next)
-  copied-one after h p =
-      let n = next-place m from a (w .inside) o in
-      let e = proxies-one m from a o h in
-      let s : List ℕ = part m from (a .next - from) in
-      let k : length s ≡ a .next - from = length-part m from (a .next - from) (omega (arith, n .0, n .1)) in
-      let f : to + length s ≤ length room = omega (arith, w .fits, w .same, n .0, n .1, k) in
-      record {
-        inside = n .1;
-        same = ap length p ∙ length-put room to s f ∙ w .same;
-        fits = omega (arith, w .fits, n .0, n .1);
-        end = omega (arith, w .end, ap length e, length-append s (proxiesFrom m (a .next)), k);
-        all = rw p (put-then room to s (proxiesFrom m (a .next)) (to + (a .next - from)) (rw k) f) ∙ rw e at (w .all);
-      }
 
 -- A walk's AVPs are no longer than its bytes.
 bytes-length : (s : List ℕ) → Passed s → length ((avpOf s) .bytes) ≡ up4 (avpLength s)

@@ -1,14 +1,14 @@
 -- What the code that writes an answer is given and leaves, in the paper's terms.
 use mathlib.Core.Path.{_≡_}
 use mathlib.Core.Bool.{Bool}
-use mathlib.Core.List.{List, _∷_, _++_}
-use Prim.Native.Nat.{ℕ, _+_, _≤_}
+use mathlib.Core.List.{List, [], _∷_, _++_}
+use Prim.Native.Nat.{ℕ, _+_, _-_, _≤_}
 use lib.ListN.{length}
 use Rattle.octets.specs.Texts.{part, put}
 use Rattle.octets.specs.Numbers.{in24, in32}
 use Rattle.message.specs.Codes.{Code}
 use Rattle.message.specs.ReadingAMessage.{command, userName}
-use Rattle.message.specs.WritingTheAnswer.{answerFlags, answer, answerRoom}
+use Rattle.message.specs.WritingTheAnswer.{avpBytes, sessionAvp, answerFlags, answer, answerRoom}
 use Rattle.message.specs.declared.Span.{Span}
 use Rattle.message.specs.Spans.{Holds, hasProxies}
 
@@ -24,6 +24,14 @@ answerHead m c n = 1 ∷ in24 n ++ (answerFlags m c ∷ part m 5 15)
 pub record Written (before after : List ℕ) (at next : ℕ) (bytes : List ℕ) : Type 0 where
   pub place : next ≡ at + length bytes
   pub bytes-put : after ≡ put before at bytes
+
+-- The length n of the first AVP where the answer repeats it, 0 where it does not.
+pub record SessionOf (m : List ℕ) (n : ℕ) : Type 0 where
+  pub none : n ≡ 0 → sessionAvp m ≡ []
+  pub least : (n ≡ 0 → ⊥) → 9 ≤ n
+  pub most : n ≤ 136
+  pub inside : 20 + n ≤ length m
+  pub some : (n ≡ 0 → ⊥) → sessionAvp m ≡ avpBytes 263 (part m 28 (n - 8))
 
 -- What an answer is made from: a message that is no call without an answer, names of at most 128 bytes, a room that is
 -- large enough, the User-Name where the answer repeats it, and whether there is a Proxy-Info to copy.

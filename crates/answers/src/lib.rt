@@ -1,18 +1,17 @@
 // Writing the answer to a request straight into the caller's room.
-use message::Head;
 use message::Kind;
 use message::Span;
 ghost use mathlib.Core.Path.{_≡_};
-ghost use Prim.Native.Nat.{ℕ, _+_, _*_, _≤_, _<_};
-ghost use lib.ListN.{length};
-ghost use Rattle.octets.specs.Texts.{put};
+ghost use Prim.Native.Nat.{_+_, _-_, _*_, _≤_, _<_};
+ghost use lib.ListN.{length, drop};
+ghost use Rattle.octets.specs.Texts.{part, put};
 ghost use Rattle.octets.specs.Numbers.{in32};
 ghost use Rattle.message.specs.Codes.{plain};
 ghost use Rattle.message.specs.Kinds.{codeFrom};
-ghost use Rattle.message.specs.ReadingAMessage.{command, userName};
+ghost use Rattle.message.specs.ReadingAMessage.{command, sameName, avpOf, userName, proxyInfo};
 ghost use Rattle.message.specs.Spans.{Holds, hasProxies};
 ghost use Rattle.message.specs.WritingTheAnswer.{avpBytes, sessionAvp, authAvps, is3xxx, resultAvp, subscriptionAvp, proxyAvps, answerFlags};
-ghost use Rattle.answers.specs.Answers.{headBytes, answerHead, Written, Answerable, Answered};
+ghost use Rattle.answers.specs.Answers.{headBytes, answerHead, Written, SessionOf, Answerable, Answered};
 
 // The first eight bytes of an AVP of ours, whose length is n.
 fn put_head(room: &mut [u8], at: usize, code: u32, n: usize)
@@ -32,16 +31,17 @@ fn put_head(room: &mut [u8], at: usize, code: u32, n: usize)
     octets::put_bytes(room, at, &head);
 }
 
-// An AVP of ours with a text, and the place behind it.
+// An AVP of ours with a text, and the place behind it. The last word of its room is zeroed first, for the padding.
 fn put_avp(room: &mut [u8], at: usize, code: u32, value: &[u8]) -> usize
     requires { ⌜ (length (now value) ≤ 4096) × (at + length (now value) + 12 ≤ length (now room)) ⌝ }
     ensures { λ r. ⌜ Written (now (room .entry)) (now (room .exit)) at r (avpBytes code (now (value .entry))) ⌝ }
 {
     let n = value.len();
     let whole = (n + 3) / 4 * 4;
+    let padding = [0u8; 4];
+    octets::put_bytes(room, at + 4 + whole, &padding);
     put_head(room, at, code, 8 + n);
-    octets::put_bytes(room, at + 8, value);
-    octets::put_zeros(room, at + 8 + n, whole - n);
+    copying::put_text(room, at + 8, value);
     at + 8 + whole
 }
 
@@ -68,23 +68,44 @@ fn put_number(room: &mut [u8], at: usize, code: u32, n: u32) -> usize
     at + 12
 }
 
+// The length of the first AVP where the answer repeats it: a Session-Id that passes the four tests, with 1 to 128 bytes; else 0.
+fn session_length(m: &[u8]) -> usize
+    requires { ⌜ 20 ≤ length (now m) ⌝ }
+    ensures { λ r. ⌜ SessionOf (now (m .entry)) r ⌝ }
+{
+    if m.len() < 28 {
+        return 0;
+    }
+    let flags = m[24];
+    if flags % 32 != 0 {
+        return 0;
+    }
+    if 128 <= flags {
+        return 0;
+    }
+    if octets::read32(m, 20) != 263 {
+        return 0;
+    }
+    let n = octets::read24(m, 25);
+    if n < 9 {
+        return 0;
+    }
+    if 136 < n {
+        return 0;
+    }
+    if m.len() - 20 < (n + 3) / 4 * 4 {
+        return 0;
+    }
+    n
+}
+
 // Session-Id, from the first AVP alone, behind the header.
 fn put_session(m: &[u8], room: &mut [u8]) -> usize
     requires { ⌜ (20 ≤ length (now m)) × (512 ≤ length (now room)) ⌝ }
     ensures { λ r. ⌜ Written (now (room .entry)) (now (room .exit)) 20 r (sessionAvp (now (m .entry))) ⌝ }
 {
-    let h = message::head_at(m, 20);
-    let Head::One(a) = h else {
-        return 20;
-    };
-    if a.slot != 0 {
-        return 20;
-    }
-    let n = octets::read24(m, 25);
-    if n < 9 {
-        return 20;
-    }
-    if 136 < n {
+    let n = session_length(m);
+    if n == 0 {
         return 20;
     }
     let e = 20 + n;
@@ -151,7 +172,31 @@ fn put_subscription(m: &[u8], code: u32, user: Span, room: &mut [u8], at: usize)
     put_avp(room, next, 444, &m[a..e])
 }
 
-// Each Proxy-Info with its padding: a second walk, made only where there is one to copy.
+// Whether the AVP at a place is a Proxy-Info.
+fn is_proxy(m: &[u8], at: usize) -> bool
+    requires { ⌜ at + 8 ≤ length (now m) ⌝ }
+    ensures { λ r. ⌜ r ≡ sameName proxyInfo ((avpOf (drop at (now (m .entry)))) .name) ⌝ }
+{
+    if 128 <= m[at + 4] {
+        return false;
+    }
+    octets::read32(m, at) == 284
+}
+
+// The message from one place to another written into the room, and the place behind it there.
+fn put_stretch(m: &[u8], start: usize, end: usize, room: &mut [u8], to: usize) -> usize
+    requires { ⌜ (start ≤ end) × (end ≤ length (now m)) × (to + (end - start) ≤ length (now room)) ⌝ }
+    ensures { λ r. ⌜ Written (now (room .entry)) (now (room .exit)) to r (part (now (m .entry)) start (end - start)) ⌝ }
+{
+    if start == end {
+        return to;
+    }
+    copying::put_text(room, to, &m[start..end]);
+    to + (end - start)
+}
+
+// Each Proxy-Info with its padding, those that stand together as one stretch: a second walk over AVPs that all passed,
+// made only where there is one to copy.
 fn put_proxies(m: &[u8], proxies: bool, room: &mut [u8], at: usize) -> usize
     requires { ⌜ (20 ≤ length (now m)) × (at + length (now m) ≤ length (now room)) × (proxies ≡ hasProxies (now m)) ⌝ }
     ensures { λ r. ⌜ Written (now (room .entry)) (now (room .exit)) at r (proxyAvps (now (m .entry))) ⌝ }
@@ -160,20 +205,17 @@ fn put_proxies(m: &[u8], proxies: bool, room: &mut [u8], at: usize) -> usize
         return at;
     }
     let mut to = at;
+    let mut start: usize = 20;
     let mut from: usize = 20;
     while from < m.len() {
-        let h = message::head_at(m, from);
-        let Head::One(a) = h else {
-            return to;
-        };
-        let next = a.next;
-        if a.slot == 9 {
-            octets::put_bytes(room, to, &m[from..next]);
-            to = to + (next - from);
+        let next = from + (octets::read24(m, from + 5) + 3) / 4 * 4;
+        if !is_proxy(m, from) {
+            to = put_stretch(m, start, from, room, to);
+            start = next;
         }
         from = next;
     }
-    to
+    put_stretch(m, start, from, room, to)
 }
 
 // The flags: P as received, E for a 3xxx.
@@ -201,7 +243,7 @@ fn put_header(m: &[u8], code: u32, n: usize, room: &mut [u8])
         answer_flags(m, code),
     ];
     octets::put_bytes(room, 0, &head);
-    octets::put_bytes(room, 5, &m[5..20]);
+    copying::put_text(room, 5, &m[5..20]);
 }
 
 // The answer of a kind and a code at the start of the room: its length. What stands behind it stays.

@@ -13,8 +13,10 @@ use Rattle.octets.specs.Choice.{pick, within}
 use Rattle.octets.specs.Lists.{counted, distinct, every, firstOr, isOn, keep}
 use Rattle.table.specs.TheTable.{Access, fromBits, line, places, usedBits}
 use Rattle.changes.specs.Changes.{lowestFree, vacant}
+use Rattle.changes.specs.Writes.{isClear, lowestClear}
 use Rattle.octets.proofs.Lists.{and-left, and-right, by-test, eqb-comm, every-imp, every-map, every-of, in-counted, keep-all, keep-and, keep-split, on-cons, on-none, within-high, within-low}
 use Rattle.table.proofs.Bytes.{each-place}
+use Rattle.table.proofs.Form.{every-on}
 use Rattle.table.proofs.Good.{goodAccess, places-eight}
 
 unfoldable pub trues : List Bool → ℕ
@@ -74,6 +76,27 @@ first-vacant a b (suc n) h =
 pub lowest-free : (a : List Access) → 1 ≤ length (keep (vacant a) places) → lowestFree a ≡ 1 + trailingZeros 8 (255 - usedBits (line a))
 unfolding lowestFree places usedBits counted
 lowest-free a h = first-vacant a 1 8 h ∙ ap (λ (z : ℕ). 1 + z) (sym (trailing-bits (map (isOn (line a)) places)))
+
+-- of the 255 bytes with a clear bit, each leads to the lowest by the zeros that its complement ends in
+unfoldable leads : (x : ℕ) → Bool
+leads x = eqb (1 + trailingZeros 8 (255 - x)) (lowestClear x) && within 1 8 (lowestClear x)
+
+all-lead : every leads (counted 0 255) ≡ true
+unfolding leads every counted within lowestClear isClear firstOr keep pick places trailingZeros
+all-lead = refl
+
+module _ (x : ℕ) (h : x < 255) where
+  each-leads : eqb (1 + trailingZeros 8 (255 - x)) (lowestClear x) && within 1 8 (lowestClear x) ≡ true
+  unfolding leads
+  each-leads = every-on leads (counted 0 255) x all-lead (in-counted 0 255 x (omega arith) (omega arith))
+
+  pub lowest-clear : trailingZeros 8 (255 - x) + 1 ≡ lowestClear x
+  lowest-clear = omega (arith, eqb-true (1 + trailingZeros 8 (255 - x)) (lowestClear x) (and-left (eqb (1 + trailingZeros 8 (255 - x)) (lowestClear x)) _ each-leads))
+
+  pub clear-in : (1 ≤ lowestClear x) × (lowestClear x ≤ 8)
+  clear-in =
+      let w : within 1 8 (lowestClear x) ≡ true = and-right (eqb (1 + trailingZeros 8 (255 - x)) (lowestClear x)) _ each-leads in
+      (within-low 1 8 _ w, within-high 1 8 _ w)
 
 -- as many ones as accesses
 

@@ -4,4 +4,6 @@ pub mod Bits
 pub mod Puts
 pub mod Steps
 pub mod Blocks
+pub mod Cuts
+pub mod Sums
 pub mod Rows

@@ -4,8 +4,8 @@ use mathlib.Core.Bool.{true, false, not}
 use mathlib.Core.List.{List, [], _∷_, _++_, map, append-assoc}
 use Prim.Native.Nat.{ℕ, zero, suc, _+_, _-_, _*_, _≤_, _<_, _^_}
 use native.Mathlib.Omega.{arith}
-use lib.Count.{trailingZeros}
 use lib.Dec.{eqb}
+use lib.Pow.{pow-pos}
 use lib.ListN.{length, take, drop, getD, set, length-append, length-drop, length-map, take-append-drop}
 use lib.Seq.{drop-append-le, drop-at, take-append-le, take-at, take-take, length-take-le}
 use Rattle.octets.specs.Choice.{pick, within}
@@ -21,11 +21,12 @@ use Rattle.table.proofs.Good.{at-most-eight}
 use Rattle.table.proofs.Rows.{lent-row}
 use Rattle.table.proofs.Sound.{clauses, row-is, says-good}
 use Rattle.changes.specs.Changes.{freed, hold, leave, lowestFree, newAccess, opened, routed, withAccesses, named, withEntry}
-use Rattle.changes.specs.Writes.{closedUp, entriesWith, headWith, openedBytes, policyWith}
-use Rattle.changes.proofs.Bits.{bits-bound, is-vacant}
+use Rattle.changes.specs.Writes.{closedUp, entriesWith, headWith, lowestClear, openedBytes, policyWith}
+use Rattle.changes.proofs.Bits.{bits-bound, is-vacant, lowest-clear}
 use Rattle.changes.proofs.Blocks.{bits-with, bits-without, closed-filled, filled-more, filled-none, put-over, put-room, zeros-split, zeros-three}
 use Rattle.changes.proofs.Puts.{freed-puts, onPlace, opened-puts, putBlock, routed-puts, take-past}
 use Rattle.changes.proofs.Stays.{free-place, line-snoc}
+use Rattle.changes.proofs.Sums.{block-agrees}
 use Rattle.changes.proofs.Steps.{access-policy, free-byte, head-line, keep-map, room-entry, row-bits}
 
 -- THE FIRST BYTES OF A ROW
@@ -95,22 +96,32 @@ module _ (r : List ℕ) (h : sound r ≡ true) where
       let w : within 1 8 k ≡ true = every-on (within 1 8) (orderLine r) k ((clauses r h) .line-in) o in
       (within-low 1 8 k w, within-high 1 8 k w)
 
-order-is : (r : List ℕ) → line ((readRow r) .accesses) ≡ orderLine r
+pub order-is : (r : List ℕ) → line ((readRow r) .accesses) ≡ orderLine r
 unfolding readRow
 order-is r = line-read r (orderLine r)
 
 -- A BLOCK OF A ROW
 
-put-block : (r : List ℕ) (k : ℕ) (b : List ℕ) → length b ≡ 512 → put r (512 * k) b ≡ putBlock r k b
+pub put-block : (r : List ℕ) (k : ℕ) (b : List ℕ) → length b ≡ 512 → put r (512 * k) b ≡ putBlock r k b
 unfolding put
 put-block r k b h = rw h
 
 -- block 0 stays as it is where another is written
-head-stays : (r : List ℕ) (k : ℕ) (b : List ℕ) → 1 ≤ k → k ≤ 8 → length r ≡ 4608 → take 512 (put r (512 * k) b) ≡ take 512 r
+pub head-stays : (r : List ℕ) (k : ℕ) (b : List ℕ) → 1 ≤ k → k ≤ 8 → length r ≡ 4608 → take 512 (put r (512 * k) b) ≡ take 512 r
 unfolding put
 head-stays r k b lo hi h =
     let l : length (take (512 * k) r) ≡ 512 * k = length-take-le (512 * k) r (omega arith) in
     take-append-le 512 (take (512 * k) r) (b ++ drop (512 * k + length b) r) (omega arith) ∙ take-take 512 (512 * k) r (omega arith)
+
+-- the sums of block 0 agree, whatever was written behind it
+head-sealed : (s : Subscriber) (u : List ℕ) → u ≡ headBytes s → u ≡ sealed (take 510 u)
+unfolding headBytes
+head-sealed s u e = block-agrees _ u (length-head s) e
+
+pub head-agrees : (r z : List ℕ) → sound r ≡ true → take 512 z ≡ take 512 r → (length (take 512 z) ≡ 512) × (take 512 z ≡ sealed (take 510 (take 512 z)))
+head-agrees r z h e =
+    let head : take 512 z ≡ headBytes (readRow r) = e ∙ head-of r h in
+    (ap length head ∙ length-head (readRow r), head-sealed (readRow r) (take 512 z) head)
 
 -- A PLACE IS FREED
 
@@ -122,7 +133,7 @@ length-line : (a : List Access) → length (line a) ≡ length a
 unfolding line
 length-line a = length-map a (λ (x : Access). x .place)
 
-in-8 : (k : ℕ) → 1 ≤ k → k ≤ 8 → within 1 8 k ≡ true
+pub in-8 : (k : ℕ) → 1 ≤ k → k ≤ 8 → within 1 8 k ≡ true
 in-8 k lo hi = Rattle.octets.proofs.Lists.in-within 1 8 k lo hi
 
 -- the bit is set
@@ -132,6 +143,14 @@ bit-in r k h o =
     let a : List Access = (readRow r) .accesses in
     let w : (1 ≤ k) × (k ≤ 8) = place-in r h k o in
     bits-of r h ∙ bits-without (line a) k (w .0) (w .1) (ap (λ (l : List ℕ). isOn l k) (order-is r) ∙ o) ∙ ap (λ (l : List ℕ). usedBits l + 2 ^ (k - 1)) (sym (line-leave k a))
+
+-- the line closes up
+pub closed-is : (r : List ℕ) (k : ℕ) → sound r ≡ true → isOn (orderLine r) k ≡ true → closedUp (part r 20 8) k ≡ filled (line (leave k ((readRow r) .accesses))) 8
+closed-is r k h o =
+    let a : List Access = (readRow r) .accesses in
+    ap (λ (t : List ℕ). closedUp t k) (line-of r h)
+    ∙ closed-filled (line a) k ((place-in r h k o) .0) (omega (arith, length-line a, at-most r h)) (keep-length (λ p. not (eqb p k)) (line a))
+    ∙ ap (λ (t : List ℕ). filled t 8) (sym (line-leave k a))
 
 pub free-law : (r : List ℕ) (k : ℕ) → sound r ≡ true → isOn (orderLine r) k ≡ true
     → putBlock (put r (512 * k) (zeros 512)) 0 (headWith (take 512 (put r (512 * k) (zeros 512))) (getD r 17 0 - 2 ^ (k - 1)) (closedUp (part r 20 8) k))
@@ -144,10 +163,7 @@ free-law r k h o =
     let z : List ℕ = put r (512 * k) (zeros 512) in
     let e1 : take 512 z ≡ headBytes s = head-stays r k (zeros 512) (w .0) (w .1) (row-size r h) ∙ head-of r h in
     let e2 : getD r 17 0 - 2 ^ (k - 1) ≡ usedBits (line (leave k a)) = omega (arith, bit-in r k h o) in
-    let e3 : closedUp (part r 20 8) k ≡ filled (line (leave k a)) 8 =
-    ap (λ (t : List ℕ). closedUp t k) (line-of r h)
-    ∙ closed-filled (line a) k (w .0) (omega (arith, length-line a, at-most r h)) (keep-length (λ p. not (eqb p k)) (line a))
-    ∙ ap (λ (t : List ℕ). filled t 8) (sym (line-leave k a)) in
+    let e3 : closedUp (part r 20 8) k ≡ filled (line (leave k a)) 8 = closed-is r k h o in
     let ez : z ≡ putBlock (rowBytes s) k (zeros 512) = put-block r k (zeros 512) (length-zeros 512) ∙ ap (λ (t : List ℕ). putBlock t k (zeros 512)) (row-is r h) in
     let head : headWith (take 512 z) (getD r 17 0 - 2 ^ (k - 1)) (closedUp (part r 20 8) k) ≡ headBytes (freed k s) =
     ap (λ (t : List ℕ). headWith t (getD r 17 0 - 2 ^ (k - 1)) (closedUp (part r 20 8) k)) e1
@@ -160,17 +176,20 @@ free-law r k h o =
 
 -- A NEW ACCESS
 
-bits-fit : (l : List ℕ) → usedBits l < 256
+pub bits-fit : (l : List ℕ) → usedBits l < 256
 unfolding usedBits places counted
 bits-fit l = bits-bound (map (isOn l) places)
 
+-- one place more at the end of the line
+pub line-more : (a : List Access) (y : Access) (m p : ℕ) → length a < 8 → p ≡ y .place → m ≡ length a
+    → set (filled (line a) 8) m p ≡ filled (line (a ++ (y ∷ []))) 8
+line-more a y m p lt ep em =
+    ap (λ (i : ℕ). set (filled (line a) 8) i p) (em ∙ sym (length-line a))
+    ∙ filled-more (line a) 8 p (omega (arith, length-line a))
+    ∙ ap (λ (i : ℕ). filled (line a ++ (i ∷ [])) 8) ep
+    ∙ ap (λ (t : List ℕ). filled t 8) (sym (line-snoc a y))
+
 module _ (r : List ℕ) (h : sound r ≡ true) (lt : length ((readRow r) .accesses) < 8) where
-  abbrev lowest : ℕ
-  lowest = lowestFree ((readRow r) .accesses)
-
-  pub lowest-is : trailingZeros 8 (255 - getD r 17 0) + 1 ≡ lowestFree ((readRow r) .accesses)
-  lowest-is = omega (arith, free-byte r h lt)
-
   pub lowest-in : (1 ≤ lowestFree ((readRow r) .accesses)) × (lowestFree ((readRow r) .accesses) ≤ 8)
   lowest-in =
       let w : within 1 8 (lowestFree ((readRow r) .accesses)) ≡ true = (free-place ((readRow r) .accesses) lt) .1 in
@@ -185,6 +204,12 @@ module _ (r : List ℕ) (h : sound r ≡ true) (lt : length ((readRow r) .access
 
   pub bit-fits : getD r 17 0 + 2 ^ (lowestFree ((readRow r) .accesses) - 1) < 256
   bit-fits = rw bit-out (bits-fit _)
+
+  pub some-clear : getD r 17 0 < 255
+  some-clear = omega (arith, bit-fits, pow-pos (lowestFree ((readRow r) .accesses) - 1))
+
+  pub lowest-is : lowestClear (getD r 17 0) ≡ lowestFree ((readRow r) .accesses)
+  lowest-is = omega (arith, lowest-clear (getD r 17 0) some-clear, free-byte r h lt)
 
   pub open-law : (n : ℕ) (sid host : List ℕ) (p m : ℕ) → p ≡ lowestFree ((readRow r) .accesses) → m ≡ length ((readRow r) .accesses)
       → putBlock (put r (512 * p) (openedBytes n sid host)) 0
@@ -203,12 +228,7 @@ module _ (r : List ℕ) (h : sound r ≡ true) (lt : length ((readRow r) .access
       ap (λ (i : ℕ). getD r 17 0 + 2 ^ (i - 1)) ep ∙ bit-out ∙ ap usedBits (sym (line-snoc a y)) in
       let el : part (take 512 r) 20 8 ≡ filled (line a) 8 = ap (λ (t : List ℕ). part t 20 8) (head-of r h) ∙ head-order s in
       let e3 : set (part (take 512 z) 20 8) m p ≡ filled (line (a ++ (y ∷ []))) 8 =
-      ap (λ (t : List ℕ). set (part t 20 8) m p) e1
-      ∙ ap (λ (t : List ℕ). set t m p) el
-      ∙ ap (λ (i : ℕ). set (filled (line a) 8) i p) (em ∙ sym (length-line a))
-      ∙ filled-more (line a) 8 p (omega (arith, length-line a))
-      ∙ ap (λ (i : ℕ). filled (line a ++ (i ∷ [])) 8) ep
-      ∙ ap (λ (t : List ℕ). filled t 8) (sym (line-snoc a y)) in
+      ap (λ (t : List ℕ). set (part t 20 8) m p) e1 ∙ ap (λ (t : List ℕ). set t m p) el ∙ line-more a y m p lt ep em in
       let head : headWith (take 512 z) (getD r 17 0 + 2 ^ (p - 1)) (set (part (take 512 z) 20 8) m p) ≡ headBytes (withAccesses (a ++ (y ∷ [])) s) =
       ap (λ (t : List ℕ). headWith t (getD r 17 0 + 2 ^ (p - 1)) (set (part (take 512 z) 20 8) m p)) (e1 ∙ head-of r h)
       ∙ ap (λ (t : ℕ). headWith (headBytes s) t (set (part (take 512 z) 20 8) m p)) e2
@@ -227,18 +247,18 @@ length-opened n sid host = length-access _
 -- ANOTHER POLICY
 
 -- the access at a place
-record At (k : ℕ) (a : List Access) : Type 0 where
-  found : Access
-  others : List Access
-  on : onPlace k a ≡ found ∷ others
-  bytes : placeBytes a k ≡ accessBytes found
-  here : eqb (found .place) k ≡ true
+pub record At (k : ℕ) (a : List Access) : Type 0 where
+  pub found : Access
+  pub others : List Access
+  pub on : onPlace k a ≡ found ∷ others
+  pub bytes : placeBytes a k ≡ accessBytes found
+  pub here : eqb (found .place) k ≡ true
 
 at-more : (k : ℕ) (x : Access) (a : List Access) → eqb (x .place) k ≡ false → At k a → At k (x ∷ a)
 unfolding keep placeBytes pick
 at-more k x a e f = record { found = f .found; others = f .others; on = rw e (f .on); bytes = rw e (f .bytes); here = f .here }
 
-find-at : (k : ℕ) (a : List Access) → isOn (line a) k ≡ true → At k a
+pub find-at : (k : ℕ) (a : List Access) → isOn (line a) k ≡ true → At k a
 unfolding keep placeBytes pick line
 find-at k [] o = let z : true ≡ false = sym o ∙ on-none k in absurd (let y : _≡_ {A = ℕ} 0 1 = cc in omega arith)
 find-at k (x ∷ a) o =

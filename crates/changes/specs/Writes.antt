@@ -1,16 +1,23 @@
 -- The blocks that a change writes, from the bytes that stood there: what stays, and what is new.
 use mathlib.Core.List.{List, [], _∷_, _++_}
-use mathlib.Core.Bool.{not}
-use Prim.Native.Nat.{ℕ, _+_, _*_}
+use mathlib.Core.Bool.{Bool, not}
+use Prim.Native.Nat.{ℕ, _+_, _-_, _*_, _/_, _%_, _^_}
 use lib.Dec.{eqb}
 use lib.ListN.{length, take}
-use Rattle.octets.specs.Lists.{keep}
+use Rattle.octets.specs.Lists.{firstOr, keep}
 use Rattle.octets.specs.Texts.{filled, part, put}
-use Rattle.table.specs.TheTable.{Entry, accessBytes, entryBytes, sealed}
+use Rattle.table.specs.TheTable.{Entry, accessBytes, entryBytes, places, sealed}
 
 -- Block 0 with another byte 17 and another order line, sealed anew.
 unfoldable pub headWith : (b : List ℕ) → (bits : ℕ) → (order : List ℕ) → List ℕ
 headWith b bits order = sealed (take 17 b ++ (bits ∷ part b 18 2 ++ (order ++ part b 28 482)))
+
+-- The lowest place whose bit is clear in a byte 17; 0 where every bit is set.
+unfoldable pub isClear : (bits k : ℕ) → Bool
+isClear bits k = eqb (bits / 2 ^ (k - 1) % 2) 0
+
+unfoldable pub lowestClear : (bits : ℕ) → ℕ
+lowestClear bits = firstOr 0 (keep (isClear bits) places)
 
 -- An order line without place k, closed up, zero filled.
 unfoldable pub closedUp : (order : List ℕ) → (k : ℕ) → List ℕ

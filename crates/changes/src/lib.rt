@@ -8,14 +8,14 @@ ghost use Rattle.octets.specs.Lists.{every, isOn};
 ghost use Rattle.table.specs.TheTable.{entryBytes, orderLine, readRow, rowAt, rowBytes, sealed, withRow};
 ghost use Rattle.table.specs.Soundness.{sound};
 ghost use Rattle.changes.specs.Changes.{freed, lowestFree, named, opened, routed, withEntry};
-ghost use Rattle.changes.specs.Writes.{closedUp, entriesWith, headWith, openedBytes, policyWith};
+ghost use Rattle.changes.specs.Writes.{closedUp, entriesWith, headWith, lowestClear, openedBytes, policyWith};
 
 // The sums of a block's first 510 bytes, written behind them: the second, then the first.
 pub fn seal(block: &mut [u8])
     requires { ⌜ length (now block) ≡ 512 ⌝ }
     ensures { λ _. ⌜ now (block .exit) ≡ sealed (take 510 (now (block .entry))) ⌝ }
 {
-    let s = table::sums_of(&block[0..510]);
+    let s = table::sums_of(block);
     let first = s.first as u8;
     let second = s.second as u8;
     block[510] = second;
@@ -28,6 +28,14 @@ fn bit_of(k: usize) -> u8
     ensures { λ r. ⌜ r ≡ 2 ^ (k - 1) ⌝ }
 {
     1u8 << (k - 1)
+}
+
+// The lowest place whose bit is clear: the zeros that the complement ends in are the places below it.
+pub fn lowest_free(bits: u8) -> usize
+    requires { ⌜ bits < 255 ⌝ }
+    ensures { λ r. ⌜ (r ≡ lowestClear bits) × (1 ≤ r) × (r ≤ 8) ⌝ }
+{
+    u8::trailing_zeros(!bits) as usize + 1
 }
 
 // The order line without place k: the places behind it close up.
@@ -49,24 +57,43 @@ fn line_without(line: &[u8], k: u8) -> [u8; 8]
     out
 }
 
-// Block 0 with other places in use and another order line.
-fn write_line(block: &mut [u8], bits: u8, line: &[u8; 8])
-    requires { ⌜ length (now block) ≡ 512 ⌝ }
-    ensures { λ _. ⌜ now (block .exit) ≡ headWith (now (block .entry)) bits (now (line .entry)) ⌝ }
+// Another byte in a block whose sums agree: the sums follow, the first by what the byte gains, the second by that as often as there are bytes
+// from it on. A loss is counted as 255 less it, which is the same remainder.
+fn put_byte(block: &mut [u8], at: usize, byte: u8)
+    requires { ⌜ (length (now block) ≡ 512) × (now block ≡ sealed (take 510 (now block))) × (at < 510) ⌝ }
+    ensures { λ _. ⌜ now (block .exit) ≡ sealed (set (take 510 (now (block .entry))) at byte) ⌝ }
 {
-    block[17] = bits;
-    octets::put_bytes(block, 20, line);
-    seal(block);
+    if block[at] == byte {
+        return;
+    }
+    let gain = octets::long(byte) + 255 - octets::long(block[at]);
+    let second = (octets::long(block[510]) + (510 - at) * gain) % 255;
+    let first = (octets::long(block[511]) + gain) % 255;
+    block[at] = byte;
+    block[510] = second as u8;
+    block[511] = first as u8;
+}
+
+// Block 0 with other places in use and another order line.
+fn write_line(block: &mut [u8], bits: u8, line: [u8; 8])
+    requires { ⌜ (length (now block) ≡ 512) × (now block ≡ sealed (take 510 (now block))) ⌝ }
+    ensures { λ _. ⌜ now (block .exit) ≡ headWith (now (block .entry)) bits line ⌝ }
+{
+    put_byte(block, 17, bits);
+    let mut i: usize = 0;
+    while i < 8 {
+        put_byte(block, 20 + i, line[i]);
+        i += 1;
+    }
 }
 
 // Block 0 with one place more at the end of its order line, behind the `count` that are there.
 fn enlist(block: &mut [u8], bits: u8, count: usize, place: u8)
-    requires { ⌜ (length (now block) ≡ 512) × (count < 8) ⌝ }
+    requires { ⌜ (length (now block) ≡ 512) × (now block ≡ sealed (take 510 (now block))) × (count < 8) ⌝ }
     ensures { λ _. ⌜ now (block .exit) ≡ headWith (now (block .entry)) bits (set (part (now (block .entry)) 20 8) count place) ⌝ }
 {
-    block[17] = bits;
-    block[20 + count] = place;
-    seal(block);
+    put_byte(block, 17, bits);
+    put_byte(block, 20 + count, place);
 }
 
 // The block of a new access.
@@ -77,8 +104,8 @@ fn write_access(block: &mut [u8], entry: u8, session: &[u8], host: &[u8])
     octets::clear(block);
     let head = [2, entry, session.len() as u8, host.len() as u8];
     octets::put_bytes(block, 0, &head);
-    octets::put_bytes(block, 8, session);
-    octets::put_bytes(block, 136, host);
+    copying::put_text(block, 8, session);
+    copying::put_text(block, 136, host);
     seal(block);
 }
 
@@ -90,7 +117,7 @@ fn write_policy(block: &mut [u8], policy: &[u8])
     block[4] = 1;
     block[5] = policy.len() as u8;
     octets::put_zeros(block, 264, 128);
-    octets::put_bytes(block, 264, policy);
+    copying::put_text(block, 264, policy);
     seal(block);
 }
 
@@ -128,11 +155,10 @@ pub fn free_place(row: &mut [u8], k: usize)
     let bits = row[17] - bit_of(k);
     let line = line_without(&row[20..28], k as u8);
     octets::put_zeros(row, 512 * k, 512);
-    write_line(&mut row[0..512], bits, &line);
+    write_line(&mut row[0..512], bits, line);
 }
 
-// A new access takes the lowest free place and the end of the order line. The ones of byte 17 are the accesses in use, and the zeros that
-// its complement ends in are the places below the lowest that is free.
+// A new access takes the lowest free place and the end of the order line. The ones of byte 17 are the accesses in use.
 pub fn open_place(row: &mut [u8], entry: u8, session: &[u8], host: &[u8]) -> usize
     requires { ⌜ (sound (now row) ≡ true) × (length ((readRow (now row)) .accesses) < 8) × (length (now session) ≤ 128) × (length (now host) ≤ 128) ⌝ }
     ensures { λ r. ⌜ (now (row .exit) ≡ rowBytes (opened entry (now (session .entry)) (now (host .entry)) (readRow (now (row .entry)))))
@@ -140,11 +166,30 @@ pub fn open_place(row: &mut [u8], entry: u8, session: &[u8], host: &[u8]) -> usi
 {
     let bits = row[17];
     let count = u8::count_ones(bits) as usize;
-    let place = u8::trailing_zeros(!bits) as usize + 1;
+    let place = lowest_free(bits);
     let a = 512 * place;
     let e = a + 512;
     write_access(&mut row[a..e], entry, session, host);
     enlist(&mut row[0..512], bits + bit_of(place), count, place as u8);
+    place
+}
+
+// Place k is cut for a new access: it is freed, then the new access takes the lowest free place and the end of the order line.
+pub fn cut_and_open_place(row: &mut [u8], k: usize, entry: u8, session: &[u8], host: &[u8]) -> usize
+    requires { ⌜ (sound (now row) ≡ true) × (isOn (orderLine (now row)) k ≡ true) × (length (now session) ≤ 128) × (length (now host) ≤ 128) ⌝ }
+    ensures { λ r. ⌜ (now (row .exit) ≡ rowBytes (opened entry (now (session .entry)) (now (host .entry)) (freed k (readRow (now (row .entry))))))
+        × (r ≡ lowestFree ((freed k (readRow (now (row .entry)))) .accesses)) ⌝ }
+{
+    let bits = row[17] - bit_of(k);
+    let count = u8::count_ones(bits) as usize;
+    let place = lowest_free(bits);
+    let mut line = line_without(&row[20..28], k as u8);
+    line[count] = place as u8;
+    octets::put_zeros(row, 512 * k, 512);
+    let a = 512 * place;
+    let e = a + 512;
+    write_access(&mut row[a..e], entry, session, host);
+    write_line(&mut row[0..512], bits + bit_of(place), line);
     place
 }
 
@@ -202,6 +247,25 @@ pub fn open(table: &mut [u8], i: usize, entry: u8, session: &[u8], host: &[u8]) 
     open_place(&mut table[a..e], entry, session, host)
 }
 
+pub fn cut_and_open(
+    table: &mut [u8],
+    i: usize,
+    k: usize,
+    entry: u8,
+    session: &[u8],
+    host: &[u8],
+) -> usize
+    requires { ⌜ (4608 * i + 4608 ≤ length (now table)) × (sound (rowAt (now table) i) ≡ true) × (isOn (orderLine (rowAt (now table) i)) k ≡ true)
+        × (length (now session) ≤ 128) × (length (now host) ≤ 128) ⌝ }
+    ensures { λ r. ⌜ (now (table .exit)
+        ≡ withRow (now (table .entry)) i (rowBytes (opened entry (now (session .entry)) (now (host .entry)) (freed k (readRow (rowAt (now (table .entry)) i))))))
+        × (r ≡ lowestFree ((freed k (readRow (rowAt (now (table .entry)) i))) .accesses)) ⌝ }
+{
+    let a = 4608 * i;
+    let e = a + 4608;
+    cut_and_open_place(&mut table[a..e], k, entry, session, host)
+}
+
 pub fn route(table: &mut [u8], i: usize, k: usize, policy: &[u8])
     requires { ⌜ (4608 * i + 4608 ≤ length (now table)) × (sound (rowAt (now table) i) ≡ true) × (isOn (orderLine (rowAt (now table) i)) k ≡ true)
         × (1 ≤ length (now policy)) × (length (now policy) ≤ 128) ⌝ }
@@ -211,5 +275,3 @@ pub fn route(table: &mut [u8], i: usize, k: usize, policy: &[u8])
     let e = a + 4608;
     replace_policy(&mut table[a..e], k, policy);
 }
-
-// SET-UP: a number other than 0 leaves the table as it was.

@@ -55,10 +55,11 @@ pub fn plan_tunnel(row: &[u8], session: &[u8], label: &[u8], visited: bool) -> P
         return Plan::NotSubscribed;
     }
     let flags = row::flags_of(row, n);
+    let roams = roams_unasked(flags, visited);
     if flags % 2 == 1 {
         return Plan::Barred;
     }
-    if roams_unasked(flags, visited) {
+    if roams {
         return Plan::RoamingNotAllowed;
     }
     if row::place_of(row, session) != 0 {

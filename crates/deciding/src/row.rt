@@ -61,12 +61,12 @@ pub fn first_on(row: &[u8], entry: usize) -> usize
 {
     let mut i: usize = 0;
     loop {
-        let place = line_at(row, i);
-        if place == 0 {
+        let first = line_at(row, i);
+        if first == 0 {
             break 0;
         }
-        if on_entry(row, place, entry) {
-            break place;
+        if on_entry(row, first, entry) {
+            break first;
         }
         i += 1;
     }

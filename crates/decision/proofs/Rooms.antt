@@ -1,5 +1,4 @@
--- What stands in the table and in the notice room after a change: the access at a place on the line, its texts as they stand in
--- the row, and row i of a table that got another row there.
+-- What stands in the notice room after a cut: the access at a place on the line, and its texts as they stand in the row.
 use mathlib.Core.Path.{_≡_, refl, sym, ap, _∙_}
 use mathlib.Core.Bool.{Bool, true, false, not}
 use mathlib.Core.List.{List, [], _∷_, _++_, map, append-assoc}
@@ -9,22 +8,19 @@ use borrow.Author.Tests.{eqb-true, not-true}
 use lib.Dec.{eqb}
 use lib.ListN.{length, getD, take, drop, length-append}
 use lib.Seq.{take-at, drop-drop, getD-take, getD-drop}
-use Rattle.changes.specs.Changes.{freed, leave}
 use Rattle.octets.specs.Choice.{pick, within}
 use Rattle.octets.specs.Lists.{distinct, every, isOn, keep}
 use Rattle.octets.specs.Texts.{filled, part, put, zeros}
 use Rattle.table.specs.Soundness.{sound}
-use Rattle.table.specs.TheTable.{Access, Subscriber, accessBytes, block, held, orderLine, readAccess, readRow, rowAt, rowBytes, rowLength, sealed, sumsFrom, withRow}
-use Rattle.changes.proofs.Keep.{good-freed, sound-freed}
+use Rattle.table.specs.TheTable.{Access, accessBytes, block, held, orderLine, readAccess, readRow, rowAt, sealed, sumsFrom}
 use Rattle.changes.proofs.Steps.{keep-map}
 use Rattle.decision.specs.Calls.{noticeRoom}
 use Rattle.deciding.specs.Deciding.{atPlace}
-use Rattle.octets.proofs.Lists.{and-left, and-right, by-test, eqb-comm, every-imp, keep-split, on-cons, on-none, within-high}
-use Rattle.octets.proofs.Texts.{length-filled, length-part, length-put, put-again, put-there}
-use Rattle.table.proofs.Bytes.{block-place, length-row, read-row}
+use Rattle.octets.proofs.Lists.{and-left, and-right, by-test, eqb-comm, every-imp, on-cons, on-none, within-high}
+use Rattle.octets.proofs.Texts.{length-filled, length-part}
+use Rattle.table.proofs.Bytes.{block-place}
 use Rattle.table.proofs.Form.{every-on, length-block, part-take, place-read}
-use Rattle.table.proofs.Good.{Good, at-most-eight}
-use Rattle.table.proofs.Sound.{Formed, clauses, formed-on, row-is, says-good}
+use Rattle.table.proofs.Sound.{Formed, clauses, formed-on, row-is}
 
 -- THE ACCESS AT A PLACE
 
@@ -119,68 +115,5 @@ part-in t i k j n hk hj =
     ∙ part-take 4608 (512 * k + j) n (drop (4608 * i) t) (omega arith) ∙ ap (take n) (drop-drop (512 * k + j) (4608 * i) t)
     ∙ ap (λ (m : ℕ). part t m n) q
 
--- ROW i OF A TABLE
-
-pub length-at : (t : List ℕ) (i : ℕ) → 4608 * i + 4608 ≤ length t → length (rowAt t i) ≡ rowLength
-unfolding rowAt
-length-at t i h = length-part t (4608 * i) 4608 h
-
-pub row-there : (t : List ℕ) (i : ℕ) (r : List ℕ) → length r ≡ rowLength → 4608 * i + 4608 ≤ length t → rowAt (withRow t i r) i ≡ r
-unfolding rowAt withRow
-row-there t i r e h = put-there t (4608 * i) r 4608 e h
-
-pub row-again : (t : List ℕ) (i : ℕ) (a b : List ℕ) → length a ≡ rowLength → length b ≡ rowLength → 4608 * i + 4608 ≤ length t
-    → withRow (withRow t i a) i b ≡ withRow t i b
-unfolding withRow
-row-again t i a b ea eb h = put-again t (4608 * i) a b (ea ∙ sym eb) (omega arith)
-
-pub length-with : (t : List ℕ) (i : ℕ) (r : List ℕ) → length r ≡ rowLength → 4608 * i + 4608 ≤ length t → length (withRow t i r) ≡ length t
-unfolding withRow
-length-with t i r e h = length-put t (4608 * i) r (omega arith)
-
--- AFTER A CUT
-
-split : (k : ℕ) (a : List Access) → length a ≡ length (atPlace k a) + length (leave k a)
-unfolding atPlace leave
-split k a = keep-split (λ (x : Access). eqb (x .place) k) a
-
-module _ (r : List ℕ) (h : sound r ≡ true) (k : ℕ) (o : isOn (orderLine r) k ≡ true) where
-  pub says-freed : readRow (rowBytes (freed k (readRow r))) ≡ freed k (readRow r)
-  says-freed = read-row _ (good-freed k (readRow r) (says-good r h))
-
-  pub fewer-left : length ((freed k (readRow r)) .accesses) < 8
-  unfolding freed leave
-  fewer-left =
-      let g : Good (readRow r) = says-good r h in
-      let one : length (atPlace k ((readRow r) .accesses)) ≡ 1 = ap length (at-place-is r h k o) in
-      omega (arith, split k ((readRow r) .accesses), one, at-most-eight ((readRow r) .entries) ((readRow r) .accesses) (g .entries-good) (g .accesses-good))
-
 pub at-most : (r : List ℕ) (k : ℕ) → sound r ≡ true → isOn (orderLine r) k ≡ true → k ≤ 8
 at-most r k h o = within-high 1 8 k (place-is r h k o)
-
--- the row after the cut, in its table
-module _ (t : List ℕ) (i k : ℕ) (n : 4608 * i + 4608 ≤ length t) (h : sound (rowAt t i) ≡ true) (o : isOn (orderLine (rowAt t i)) k ≡ true) where
-  abbrev cutRow : List ℕ
-  cutRow = rowBytes (freed k (readRow (rowAt t i)))
-
-  module _ (u : List ℕ) (e : u ≡ withRow t i cutRow) where
-    pub cut-row : rowAt u i ≡ cutRow
-    cut-row = ap (λ (x : List ℕ). rowAt x i) e ∙ row-there t i cutRow (length-row _) n
-
-    pub cut-length : length u ≡ length t
-    cut-length = ap length e ∙ length-with t i cutRow (length-row _) n
-
-    pub cut-sound : sound (rowAt u i) ≡ true
-    cut-sound = ap sound cut-row ∙ sound-freed k (rowAt t i) h
-
-    pub cut-says : readRow (rowAt u i) ≡ freed k (readRow (rowAt t i))
-    cut-says = ap readRow cut-row ∙ says-freed (rowAt t i) h k o
-
-    pub cut-room : length ((readRow (rowAt u i)) .accesses) < 8
-    cut-room = rw cut-says (fewer-left (rowAt t i) h k o)
-
-    pub cut-then : (f : Subscriber → Subscriber) → withRow u i (rowBytes (f (readRow (rowAt u i)))) ≡ withRow t i (rowBytes (f (freed k (readRow (rowAt t i)))))
-    cut-then f =
-        ap (λ (s : Subscriber). withRow u i (rowBytes (f s))) cut-says
-        ∙ ap (λ (x : List ℕ). withRow x i (rowBytes (f (freed k (readRow (rowAt t i)))))) e
-        ∙ row-again t i cutRow (rowBytes (f (freed k (readRow (rowAt t i))))) (length-row _) (length-row _) n

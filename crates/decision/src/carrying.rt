@@ -47,8 +47,7 @@ fn open_with_cut(
         × (r ≡ record { place = lowestFree ((freed k (readRow (rowAt (now (table .entry)) i))) .accesses); cut = cutFor (atPlace k ((readRow (rowAt (now (table .entry)) i)) .accesses)) }) ⌝ }
 {
     let cut = write_notice(notice, table, i, k);
-    changes::free(table, i, k);
-    let place = changes::open(table, i, n as u8, session, host);
+    let place = changes::cut_and_open(table, i, k, n as u8, session, host);
     Done {
         place: place,
         cut: cut,

@@ -36,13 +36,13 @@ pub fn block_sums_agree(b: &[u8]) -> bool
     requires { ⌜ length (now b) ≡ 512 ⌝ }
     ensures { λ r. ⌜ r ≡ same (part (now (b .entry)) 510 2) (sums (take 510 (now (b .entry)))) ⌝ }
 {
-    let s = table::sums_of(&b[0..510]);
+    let s = table::sums_of(b);
     let second = s.second;
     let first = s.first;
-    if octets::wide(b[510]) != second {
+    if octets::half(b[510]) != second {
         return false;
     }
-    octets::wide(b[511]) == first
+    octets::half(b[511]) == first
 }
 
 // BLOCK 0
@@ -242,7 +242,7 @@ fn access_lengths(b: &[u8]) -> bool
     b[5] <= 128
 }
 
-// Zeros behind Session-Id, host and policy, and behind the three.
+// Zeros behind Session-Id, host and policy, and behind the three: the last two are one stretch.
 fn access_rooms(b: &[u8]) -> bool
     requires { ⌜ (length (now b) ≡ 512) × (getD (now b) 2 0 ≤ 128) × (getD (now b) 3 0 ≤ 128) × (getD (now b) 5 0 ≤ 128) ⌝ }
     ensures { λ r. ⌜ r ≡ zeroBehind (getD (now (b .entry)) 2 0) (part (now (b .entry)) 8 128) && (zeroBehind (getD (now (b .entry)) 3 0) (part (now (b .entry)) 136 128) && (zeroBehind (getD (now (b .entry)) 5 0) (part (now (b .entry)) 264 128) && allZero (part (now (b .entry)) 392 118))) ⌝ }
@@ -253,10 +253,8 @@ fn access_rooms(b: &[u8]) -> bool
     if !zero_behind(&b[136..264], octets::long(b[3])) {
         return false;
     }
-    if !zero_behind(&b[264..392], octets::long(b[5])) {
-        return false;
-    }
-    octets::all_zero(&b[392..510])
+    let from = 264 + octets::long(b[5]);
+    octets::all_zero(&b[from..510])
 }
 
 pub fn access_form(b: &[u8]) -> bool

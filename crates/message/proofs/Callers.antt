@@ -1,13 +1,13 @@
 -- What a caller of `read` and of `answer` asks: the lengths that the message's number promises, the user of a request,
 -- and that a message is never refused with 2001.
 use mathlib.Core.Path.{_≡_, refl, sym, ap, _∙_}
-use mathlib.Core.Bool.{Bool, true, false, _&&_, not}
+use mathlib.Core.Bool.{Bool, true, false, not}
 use mathlib.Core.List.{List, [], _∷_, map}
-use Prim.Native.Nat.{ℕ, zero, suc, _+_, _/_, _%_, _≤_}
+use Prim.Native.Nat.{ℕ, zero, suc, _+_, _≤_}
 use native.Mathlib.Omega.{arith}
-use borrow.Author.Tests.{leb-true, eqb-true, eqb-false, eq-eqb, ne-eqb, not-true}
+use borrow.Author.Tests.{leb-true, eqb-false, not-true}
 use lib.Dec.{eqb, leb}
-use lib.ListN.{length, getD, drop}
+use lib.ListN.{length, drop}
 use Rattle.octets.specs.Choice.{pick, require, firstOf, within}
 use Rattle.octets.specs.Lists.{every}
 use Rattle.octets.specs.Texts.{part}
@@ -16,13 +16,13 @@ use Rattle.octets.proofs.Lists.{by-test, and-left, and-right, both, within-low,
 use Rattle.octets.proofs.Choice.{first-passes, passed}
 use Rattle.octets.proofs.Texts.{length-part}
 use Rattle.message.specs.CallsThatGetNoAnswer.{messageNumber}
-use Rattle.message.specs.ReadingAMessage.{headerCode, Avp, Field, Walk, behind, walkOne, walkUpTo, walk, avpLength, avpCode, avpOf, avps, walkCode, having, valueOf, testedAs, fieldCode, startsWith, fields, listCode, readingCode, sessionId, userName, command, Request, requestOf, refused, request, read}
+use Rattle.message.specs.ReadingAMessage.{headerCode, Avp, Field, behind, walkOne, walkUpTo, walk, avpLength, avpCode, avps, walkCode, having, testedAs, fieldCode, startsWith, fields, listCode, readingCode, sessionId, userName, command, Request, requestOf, refused, request, read}
 use Rattle.message.specs.declared.Span.{Span}
 use Rattle.message.specs.declared.Asked.{Asked}
 use Rattle.message.specs.declared.Told.{Told}
-use Rattle.message.specs.declared.Told.the-variants.{Refused, Request as Requested}
+use Rattle.message.specs.declared.Told.the-variants.{Request as Requested}
 use Rattle.message.specs.Spans.{Holds, bytesOf, asks, says, spansIn, spans, isInside}
-use Rattle.message.proofs.Lengths.{Passing, passing, user-length}
+use Rattle.message.proofs.Lengths.{passing, user-length}
 
 -- THE MESSAGE
 

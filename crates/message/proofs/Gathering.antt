@@ -11,7 +11,7 @@ use lib.Seq.{drop-drop, getD-set-same, getD-set-other}
 use Rattle.octets.specs.Choice.{pick}
 use Rattle.octets.specs.Lists.{keep, every, counted}
 use Rattle.octets.specs.Texts.{zeros}
-use Rattle.octets.specs.Numbers.{up4}
+use Rattle.octets.specs.Numbers.{net24, up4}
 use Rattle.octets.proofs.Lists.{by-test, and-left, and-right, both}
 use Rattle.octets.proofs.Texts.{length-zeros}
 use Rattle.message.specs.ReadingAMessage.{Name, base, vendor, sameName, Avp, Walk, behind, walkOne, walk, avpLength, avpCode, avpOf, avps, walkCode, having}
@@ -197,22 +197,24 @@ ahead m at = walk (drop at m)
 pub record Walked (m index : List ℕ) (at : ℕ) : Type 0 where
   pub from : 20 ≤ at
   pub inside : at ≤ length m
-  pub size : length index ≡ 14
+  pub size : length index ≡ 28
   pub code : (ahead m at) .code ≡ walkCode m
   pub says : (k : ℕ) → k < 14 → andThen (slotSays m (getD index k 0)) (having (nameAt k) ((ahead m at) .avps)) ≡ howOften (having (nameAt k) (avps m))
   pub there : (k : ℕ) → k < 14 → 2 ≤ getD index k 0 → Stands m (getD index k 0)
+  pub long : (k : ℕ) → k < 14 → 2 ≤ getD index k 0 → getD index (k + 14) 0 ≡ net24 m (getD index k 0 + 5)
 
-pub started : (m index : List ℕ) → 20 ≤ length m → index ≡ zeros 14 → Walked m index 20
+pub started : (m index : List ℕ) → 20 ≤ length m → index ≡ zeros 28 → Walked m index 20
 unfolding zeros avps walkCode andThen
 started m index h e =
-    let at : (k : ℕ) → k < 14 → getD index k 0 ≡ 0 = λ k l. rw e (getD-replicate 14 k 0 0 l) in
+    let at : (k : ℕ) → k < 14 → getD index k 0 ≡ 0 = λ k l. rw e (getD-replicate 28 k 0 0 (omega arith)) in
     record {
       from = omega arith;
       inside = h;
-      size = rw e (length-zeros 14);
+      size = rw e (length-zeros 28);
       code = refl;
       says = λ k l. rw (at k l, says-absent m);
       there = λ k l t. absurd (omega (arith, at k l));
+      long = λ k l t. absurd (omega (arith, at k l));
     }
 
 ended : (m index : List ℕ) (at : ℕ) → Walked m index at → (ahead m at) .avps ≡ [] → Gathered m index
@@ -221,6 +223,7 @@ ended m index at w e =
       size = w .size;
       says = λ k l. sym (then-nothing (slotSays m (getD index k 0))) ∙ sym (ap (andThen (slotSays m (getD index k 0))) (ap (having (nameAt k)) e ∙ having-none (nameAt k))) ∙ w .says k l;
       there = w .there;
+      long = w .long;
     }
 
 pub at-end : (m index : List ℕ) (at : ℕ) → Walked m index at → length m ≤ at → (0 ≡ walkCode m) × Gathered m index
@@ -273,6 +276,7 @@ module _ (m index : List ℕ) (at : ℕ) (a : Spot) (w : Walked m index at) (o :
         code = sym ahead-code ∙ w .code;
         says = λ k l. ap (andThen (slotSays m (getD index k 0))) (sym (passed-by k l (λ z. omega arith))) ∙ w .says k l;
         there = w .there;
+        long = w .long;
       }
 
   module _ (s : a .slot < 14) where
@@ -282,39 +286,70 @@ module _ (m index : List ℕ) (at : ℕ) (a : Spot) (w : Walked m index at) (o :
         rw slot-is (slot-named ((avpOf (drop at m)) .name) (omega (arith, slot-is))) in
         ap (having (nameAt (a .slot))) ahead-avps ∙ having-is (nameAt (a .slot)) (avpOf (drop at m)) ((ahead m (a .next)) .avps) t
 
-    -- any number in the slot that says what the AVP adds
-    noted : (v : ℕ)
-        → andThen (slotSays m v) (having (nameAt (a .slot)) ((ahead m (a .next)) .avps))
-        ≡ andThen (slotSays m (getD index (a .slot) 0)) (having (nameAt (a .slot)) ((ahead m at) .avps))
-        → (2 ≤ v → Stands m v) → Walked m (set index (a .slot) v) (a .next)
-    noted v e st =
-        let n = next-place m at a (w .inside) o in
-        let own : getD (set index (a .slot) v) (a .slot) 0 ≡ v = getD-set-same index (a .slot) v 0 (omega (arith, w .size)) in
-        record {
-          from = omega (arith, n .0, w .from);
-          inside = n .1;
-          size = length-set index (a .slot) v ∙ w .size;
-          code = sym ahead-code ∙ w .code;
-          says = λ k l.
-              by-test (eqb k (a .slot))
-              (λ t. let q : k ≡ a .slot = eqb-true k (a .slot) t in rw (q, own) (e ∙ w .says (a .slot) s))
-              (λ t.
-              let d = eqb-false k (a .slot) t in
-              rw (getD-set-other index (a .slot) k v 0 d) (ap (andThen (slotSays m (getD index k 0))) (sym (passed-by k l d)) ∙ w .says k l));
-          there = λ k l.
-              by-test (eqb k (a .slot))
-              (λ t. let q : k ≡ a .slot = eqb-true k (a .slot) t in rw (q, own) st)
-              (λ t. rw (getD-set-other index (a .slot) k v 0 (eqb-false k (a .slot) t)) (w .there k l));
-        }
+    -- any number in the slot that says what the AVP adds, and its length further on
+    module _ (n v : ℕ) where
+      after : List ℕ
+      after = set (set index (a .slot + 14) n) (a .slot) v
 
-    pub noted-first : getD index (a .slot) 0 ≡ 0 → Walked m (set index (a .slot) at) (a .next)
-    noted-first z =
-        noted at
-        (rw (z, says-absent m, says-once m at (omega (arith, w .from)), named) (sym (then-one (avpOf (drop at m)) (having (nameAt (a .slot)) ((ahead m (a .next)) .avps)))))
-        (λ t. here)
+      own : getD after (a .slot) 0 ≡ v
+      unfolding after
+      own = getD-set-same (set index (a .slot + 14) n) (a .slot) v 0 (rw (length-set index (a .slot + 14) n) (omega (arith, w .size)))
 
-    pub noted-again : (getD index (a .slot) 0 ≡ 0 → ⊥) → Walked m (set index (a .slot) 1) (a .next)
-    noted-again z =
-        noted 1
-        (rw (says-twice m, named) (sym (then-more (slotSays m (getD index (a .slot) 0)) (avpOf (drop at m)) (having (nameAt (a .slot)) ((ahead m (a .next)) .avps)) (says-there m (getD index (a .slot) 0) z))))
-        (λ t. absurd (omega arith))
+      other : (k : ℕ) → k < 14 → (k ≡ a .slot → ⊥) → getD after k 0 ≡ getD index k 0
+      unfolding after
+      other k l d =
+          getD-set-other (set index (a .slot + 14) n) (a .slot) k v 0 d ∙ getD-set-other index (a .slot + 14) k n 0 (λ z. omega arith)
+
+      own-long : getD after (a .slot + 14) 0 ≡ n
+      unfolding after
+      own-long =
+          getD-set-other (set index (a .slot + 14) n) (a .slot) (a .slot + 14) v 0 (λ z. omega arith)
+          ∙ getD-set-same index (a .slot + 14) n 0 (omega (arith, w .size))
+
+      other-long : (k : ℕ) → k < 14 → (k ≡ a .slot → ⊥) → getD after (k + 14) 0 ≡ getD index (k + 14) 0
+      unfolding after
+      other-long k l d =
+          getD-set-other (set index (a .slot + 14) n) (a .slot) (k + 14) v 0 (λ z. omega arith)
+          ∙ getD-set-other index (a .slot + 14) (k + 14) n 0 (λ z. d (omega arith))
+
+      noted : andThen (slotSays m v) (having (nameAt (a .slot)) ((ahead m (a .next)) .avps))
+          ≡ andThen (slotSays m (getD index (a .slot) 0)) (having (nameAt (a .slot)) ((ahead m at) .avps))
+          → (2 ≤ v → Stands m v) → (2 ≤ v → n ≡ net24 m (v + 5)) → Walked m (set (set index (a .slot + 14) n) (a .slot) v) (a .next)
+      unfolding after
+      noted e st lg =
+          let p = next-place m at a (w .inside) o in
+          record {
+            from = omega (arith, p .0, w .from);
+            inside = p .1;
+            size = length-set (set index (a .slot + 14) n) (a .slot) v ∙ length-set index (a .slot + 14) n ∙ w .size;
+            code = sym ahead-code ∙ w .code;
+            says = λ k l.
+                by-test (eqb k (a .slot))
+                (λ t. let q : k ≡ a .slot = eqb-true k (a .slot) t in rw (q, own) (e ∙ w .says (a .slot) s))
+                (λ t.
+                let d = eqb-false k (a .slot) t in
+                rw (other k l d) (ap (andThen (slotSays m (getD index k 0))) (sym (passed-by k l d)) ∙ w .says k l));
+            there = λ k l.
+                by-test (eqb k (a .slot))
+                (λ t. let q : k ≡ a .slot = eqb-true k (a .slot) t in rw (q, own) st)
+                (λ t. rw (other k l (eqb-false k (a .slot) t)) (w .there k l));
+            long = λ k l.
+                by-test (eqb k (a .slot))
+                (λ t. let q : k ≡ a .slot = eqb-true k (a .slot) t in rw (q, own, own-long) lg)
+                (λ t.
+                let d = eqb-false k (a .slot) t in
+                rw (other k l d, other-long k l d) (w .long k l));
+          }
+
+    module _ (n : ℕ) (l : n ≡ net24 m (at + 5)) where
+      pub noted-first : getD index (a .slot) 0 ≡ 0 → Walked m (set (set index (a .slot + 14) n) (a .slot) at) (a .next)
+      noted-first z =
+          noted n at
+          (rw (z, says-absent m, says-once m at (omega (arith, w .from)), named) (sym (then-one (avpOf (drop at m)) (having (nameAt (a .slot)) ((ahead m (a .next)) .avps)))))
+          (λ t. here) (λ t. l)
+
+      pub noted-again : (getD index (a .slot) 0 ≡ 0 → ⊥) → Walked m (set (set index (a .slot + 14) n) (a .slot) 1) (a .next)
+      noted-again z =
+          noted n 1
+          (rw (says-twice m, named) (sym (then-more (slotSays m (getD index (a .slot) 0)) (avpOf (drop at m)) (having (nameAt (a .slot)) ((ahead m (a .next)) .avps)) (says-there m (getD index (a .slot) 0) z))))
+          (λ t. absurd (omega arith)) (λ t. absurd (omega arith))

@@ -1,17 +1,16 @@
 -- The walk takes one AVP after another, to the end or to the first that fails: `walk-is`.
-use mathlib.Core.Path.{_≡_, refl, sym, ap, _∙_}
-use mathlib.Core.Bool.{Bool, true, false}
-use mathlib.Core.List.{List, [], _∷_}
-use Prim.Native.Nat.{ℕ, zero, suc, _+_, _-_, _*_, _/_, _%_, _≤_, _<_}
+use mathlib.Core.Path.{_≡_}
+use mathlib.Core.List.{List}
+use Prim.Native.Nat.{ℕ, zero, suc, _-_, _%_, _≤_, _<_}
 use native.Mathlib.Omega.{arith}
-use borrow.Author.Tests.{leb-true, eqb-true, eqb-false}
+use borrow.Author.Tests.{leb-true, eqb-true}
 use lib.Dec.{eqb, leb}
 use lib.ListN.{length, getD, drop, length-drop}
-use Rattle.octets.specs.Choice.{pick, require, firstOf}
-use Rattle.octets.specs.Numbers.{net24, up4}
+use Rattle.octets.specs.Choice.{pick, require}
+use Rattle.octets.specs.Numbers.{up4}
 use Rattle.octets.proofs.Lists.{by-test}
 use Rattle.octets.proofs.Choice.{first-passes, others-pass, passed}
-use Rattle.message.specs.ReadingAMessage.{Walk, headLength, avpLength, avpCode, avpOf, behind, walkOne, walkUpTo, walk}
+use Rattle.message.specs.ReadingAMessage.{Walk, headLength, avpLength, avpCode, walkOne, walkUpTo, walk}
 
 -- the four tests of an AVP that passed
 pub record Passed (s : List ℕ) : Type 0 where

@@ -5,7 +5,7 @@ use Prim.Native.Nat.{ℕ, suc, _+_, _≤_, _<_}
 use lib.Dec.{eqb, ltb}
 use lib.ListN.{length, getD, drop}
 use Rattle.octets.specs.Choice.{pick}
-use Rattle.octets.specs.Numbers.{up4}
+use Rattle.octets.specs.Numbers.{net24, up4}
 use Rattle.message.specs.ReadingAMessage.{Name, Avp, sameName, avps, having, avpLength, avpCode, avpOf, sessionId, authApplicationId, originHost, originRealm, destinationRealm, authRequestType, destinationHost, userName, terminationCause, proxyInfo, visitedNetwork, sessionRequestType, wlanApnId, routingPolicy}
 use Rattle.message.specs.declared.Spot.{Spot}
 use Rattle.message.specs.declared.Head.{Head}
@@ -80,8 +80,10 @@ pub record Stands (m : List ℕ) (at : ℕ) : Type 0 where
   pub inside : at ≤ length m
   pub passes : avpCode (drop at m) ≡ 0
 
--- The 14 slots say how often the AVPs of the walk have each name, and each place in them is one of an AVP.
+-- The 14 slots say how often the AVPs of the walk have each name, and each place in them is one of an AVP,
+-- whose length stands 14 numbers further on.
 pub record Gathered (m index : List ℕ) : Type 0 where
-  pub size : length index ≡ 14
+  pub size : length index ≡ 28
   pub says : (k : ℕ) → k < 14 → slotSays m (getD index k 0) ≡ howOften (having (nameAt k) (avps m))
   pub there : (k : ℕ) → k < 14 → 2 ≤ getD index k 0 → Stands m (getD index k 0)
+  pub long : (k : ℕ) → k < 14 → 2 ≤ getD index k 0 → getD index (k + 14) 0 ≡ net24 m (getD index k 0 + 5)

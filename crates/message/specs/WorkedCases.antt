@@ -1,5 +1,5 @@
 -- Worked cases of messages, by hand: cases 9 and 10, and how the messages of the others are made.
-use mathlib.Core.Bool.{Bool, true, false, _&&_}
+use mathlib.Core.Bool.{Bool}
 use mathlib.Core.List.{List, [], _∷_, _++_}
 use Prim.Native.Nat.{ℕ, _+_, _-_}
 use lib.ListN.{length}

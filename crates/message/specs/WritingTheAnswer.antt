@@ -1,9 +1,9 @@
 -- Writing the answer.
-use mathlib.Core.Bool.{Bool, true, false, _&&_, not}
+use mathlib.Core.Bool.{Bool, _&&_, not}
 use mathlib.Core.List.{List, [], _∷_, _++_}
 use Prim.Native.Nat.{ℕ, _+_, _-_, _*_, _/_, _%_}
 use lib.Dec.{eqb}
-use lib.ListN.{length, getD, drop}
+use lib.ListN.{length, drop}
 use Rattle.octets.specs.Choice.{pick, within}
 use Rattle.octets.specs.Texts.{part, zeros}
 use Rattle.octets.specs.Numbers.{in24, in32, up4}

@@ -1,12 +1,12 @@
 // Reading a request over the caller's bytes: nothing is copied, a text is a part of the message.
 ghost use mathlib.Core.Path.{_≡_};
 ghost use mathlib.Core.Bool.{Bool, true};
-ghost use Prim.Native.Nat.{ℕ, _+_, _*_, _≤_, _<_};
+ghost use Prim.Native.Nat.{_+_, _*_, _≤_, _<_};
 ghost use lib.ListN.{length};
 ghost use Rattle.octets.specs.Texts.{zeros};
 ghost use Rattle.octets.specs.Numbers.{net32};
 ghost use Rattle.message.specs.CallsThatGetNoAnswer.{messageNumber};
-ghost use Rattle.message.specs.ReadingAMessage.{base, vendor, command, headerCode, avps, walkCode, sessionId, originHost, userName, startsWith, numberField, readingCode, requestOf};
+ghost use Rattle.message.specs.ReadingAMessage.{base, vendor, command, headerCode, avps, walkCode, sessionId, originHost, userName, startsWith, numberField, requestOf};
 ghost use Rattle.message.specs.Positions.{slotOf, nameAt, headOf, headAt, Gathered};
 ghost use Rattle.message.specs.Spans.{bytesField, codeOf, isFound, Holds, Reads, BothRead, restCode, tunnelCode, tunnelOf, policyCode, policyOf, Listed, HeardOf};
 
@@ -168,10 +168,11 @@ pub fn head_at(m: &[u8], at: usize) -> Head
 // THE WALK
 
 // One walk over all AVPs. It notes for each slot 0 where no AVP has its name, the place of the only one that has,
-// 1 where there are more; its result is the code of the first AVP that fails, 0 where none does.
+// 1 where there are more, and 14 numbers further on that AVP's length; its result is the code of the first AVP that fails,
+// 0 where none does.
 // The inner loop steps over the AVPs that no list names; the end and a failing AVP leave both loops.
 fn gather(m: &[u8], index: &mut [usize]) -> u32
-    requires { ⌜ (20 ≤ length (now m)) × (now index ≡ zeros 14) ⌝ }
+    requires { ⌜ (20 ≤ length (now m)) × (now index ≡ zeros 28) ⌝ }
     ensures { λ r. ⌜ (r ≡ walkCode (now (m .entry))) × Gathered (now (m .entry)) (now (index .exit)) ⌝ }
 {
     let mut at: usize = 20;
@@ -192,7 +193,9 @@ fn gather(m: &[u8], index: &mut [usize]) -> u32
             }
         };
         let slot = named.slot;
-        if index[slot] == 0 {
+        let seen = index[slot];
+        index[slot + 14] = octets::read24(m, at + 5);
+        if seen == 0 {
             index[slot] = at;
         } else {
             index[slot] = 1;
@@ -240,14 +243,14 @@ fn text_field(m: &[u8], index: &[usize], slot: usize, low: usize, high: usize) -
     ensures { λ r. ⌜ ((b : Bool) → Reads (now (m .entry)) (bytesField (nameAt slot) b low high) r) ⌝ }
 {
     let at = index[slot];
-    if at == 0 {
-        return Got::Absent;
-    }
-    if at == 1 {
+    if at < 2 {
+        if at == 0 {
+            return Got::Absent;
+        }
         return Got::Code(5009);
     }
     let head = head_of(slot);
-    let len = octets::read24(m, at + 5) - head;
+    let len = index[slot + 14] - head;
     if len < low {
         return Got::Code(5014);
     }
@@ -479,28 +482,64 @@ fn list_275(m: &[u8], index: &[usize], session: Span) -> Told
     Told::Request(user, Asked::Termination { session, label })
 }
 
-// Both lists of a message whose header and walk passed.
-fn lists(m: &[u8], index: &[usize]) -> Told
-    requires { ⌜ (20 ≤ length (now m)) × (headerCode (now m) ≡ 0) × (walkCode (now m) ≡ 0) × Gathered (now m) (now index) ⌝ }
-    ensures { λ r. ⌜ Listed (now (m .entry)) (readingCode (now (m .entry))) (requestOf (command (now (m .entry))) (avps (now (m .entry)))) r ⌝ }
-{
-    let b = first_five(m, index);
-    match b {
-        Both::Failed(n) => Told::Refused(n),
-        Both::Held(session, host) => {
-            if octets::read24(m, 5) == 265 {
-                list_265(m, index, session, host)
-            } else {
-                list_275(m, index, session)
-            }
-        }
-    }
-}
-
 // A whole message.
 pub struct Heard {
     pub told: Told,
     pub proxies: bool,
+}
+
+// A 265 whose header passed, and a 275: the walk, then both lists. The walk has two callers, so that the compiler keeps it apart,
+// with all registers to itself.
+fn read_265(m: &[u8]) -> Heard
+    requires { ⌜ (20 ≤ length (now m)) × (headerCode (now m) ≡ 0) × (command (now m) ≡ 265) ⌝ }
+    ensures { λ r. ⌜ HeardOf (now (m .entry)) r ⌝ }
+{
+    let mut index = [0usize; 28];
+    let w = gather(m, &mut index);
+    if w != 0 {
+        return Heard {
+            told: Told::Refused(w),
+            proxies: false,
+        };
+    }
+    let proxies = index[9] != 0;
+    let b = first_five(m, &index);
+    match b {
+        Both::Failed(n) => Heard {
+            told: Told::Refused(n),
+            proxies,
+        },
+        Both::Held(session, host) => {
+            let told = list_265(m, &index, session, host);
+            Heard { told, proxies }
+        }
+    }
+}
+
+fn read_275(m: &[u8]) -> Heard
+    requires { ⌜ (20 ≤ length (now m)) × (headerCode (now m) ≡ 0) × (command (now m) ≡ 275) ⌝ }
+    ensures { λ r. ⌜ HeardOf (now (m .entry)) r ⌝ }
+{
+    let mut index = [0usize; 28];
+    let w = gather(m, &mut index);
+    if w != 0 {
+        return Heard {
+            told: Told::Refused(w),
+            proxies: false,
+        };
+    }
+    let proxies = index[9] != 0;
+    let b = first_five(m, &index);
+    match b {
+        Both::Failed(n) => Heard {
+            told: Told::Refused(n),
+            proxies,
+        },
+        Both::Held(session, _) => {
+            let told = list_275(m, &index, session);
+            Heard { told, proxies }
+        }
+    }
 }
 
 // Header tests, the walk, the lists: the request with its fields, or the code of the first test that fails;
@@ -516,15 +555,8 @@ pub fn read(m: &[u8]) -> Heard
             proxies: false,
         };
     }
-    let mut index = [0usize; 14];
-    let w = gather(m, &mut index);
-    if w != 0 {
-        return Heard {
-            told: Told::Refused(w),
-            proxies: false,
-        };
+    if octets::read24(m, 5) == 265 {
+        return read_265(m);
     }
-    let proxies = index[9] != 0;
-    let told = lists(m, &index);
-    Heard { told, proxies }
+    read_275(m)
 }

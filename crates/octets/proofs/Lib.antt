@@ -1,3 +1,4 @@
 pub mod Lists
 pub mod Choice
 pub mod Texts
+pub mod Words

@@ -46,7 +46,7 @@ part-take zero (suc i) n b h = absurd (omega arith)
 part-take (suc m) (suc i) n [] h = refl
 part-take (suc m) (suc i) n (x ∷ b) h = part-take m i n b (omega arith)
 
-drop-take : (i n m : ℕ) (b : List ℕ) → i + n ≡ m → drop i (take m b) ≡ part b i n
+pub drop-take : (i n m : ℕ) (b : List ℕ) → i + n ≡ m → drop i (take m b) ≡ part b i n
 drop-take zero n m b h = let q : m ≡ n = omega arith in rw q
 drop-take (suc i) n zero b h = absurd (omega arith)
 drop-take (suc i) n (suc m) [] h = sym (lib.Seq.take-nil n)

@@ -7,12 +7,14 @@ use native.Mathlib.Omega.{arith}
 use borrow.Author.Tests.{eqb-true, eq-eqb, ne-eqb}
 use lib.Dec.{eqb}
 use lib.ListN.{length, getD, take, drop}
-use lib.Seq.{drop-drop}
+use lib.Seq.{drop-drop, getD-drop, getD-take}
 use Rattle.octets.specs.Choice.{pick, require, within}
 use Rattle.octets.specs.Texts.{part, same, allZero}
 use Rattle.octets.proofs.Choice.{passed}
+use Rattle.octets.specs.Numbers.{low64}
 use Rattle.octets.proofs.Texts.{zero-step}
-use Rattle.octets.proofs.Lists.{and-left, and-right, by-test, in-within, within-high, within-low}
+use Rattle.octets.proofs.Words.{low-eq}
+use Rattle.octets.proofs.Lists.{and-left, and-right, by-test, in-within, same-eq, within-high, within-low}
 use Rattle.table.specs.TheTable.{Found, row, nothing, later, firstRow, rows, cutInRows, rowAt, rowLength, tableNumber, isRowOf}
 
 -- A TABLE OF NUMBER 0
@@ -98,6 +100,13 @@ module _ (f : List ℕ → Bool) (t : List ℕ) where
   unfolding searched firstRow past cutInRows
   search-end i h = let q : length t / rowLength - i ≡ 0 = omega arith in rw q
 
+  -- rows that do not pass may be skipped
+  pub search-skip : (i : ℕ) → i ≤ length t / rowLength → ((j : ℕ) → j < i → f (rowAt t j) ≡ false) → searched i ≡ searched 0
+  search-skip zero h e = refl
+  search-skip (suc i) h e =
+      let q : suc i ≡ i + 1 = omega arith in
+      rw q (search-on i (omega arith) (e i (omega arith))) ∙ search-skip i (omega arith) (λ j l. e j (omega arith))
+
 -- the part of the table that is lent for row i
 pub lent-row : (t : List ℕ) (at i : ℕ) → at ≡ rowLength * i → take (at + rowLength - at) (drop at t) ≡ rowAt t i
 unfolding rowAt
@@ -125,6 +134,32 @@ unfolding isRowOf
 row-by-name name r n one e lo hi k =
     let q : 2 + n - 2 ≡ length name = omega arith in
     rw (q, eq-eqb (getD r 0 0) 1 one, in-within 1 15 (getD r 1 0) (omega arith) (omega arith), eq-eqb (getD r 1 0) (length name) (sym e ∙ k))
+
+-- THE LAST EIGHT BYTES OF A NAME, looked at first
+
+-- the bytes of row i's name
+name-byte : (t : List ℕ) (i n a k : ℕ) → a + k < n → n ≤ 15 → getD (part (rowAt t i) 2 n) (a + k) 0 ≡ getD t (4608 * i + (2 + a) + k) 0
+unfolding rowAt
+name-byte t i n a k h m =
+    getD-take n (drop 2 (part t (4608 * i) 4608)) (a + k) 0 h ∙ getD-drop 2 (part t (4608 * i) 4608) (a + k) 0
+    ∙ getD-take 4608 (drop (4608 * i) t) (2 + (a + k)) 0 (omega arith) ∙ getD-drop (4608 * i) t (2 + (a + k)) 0
+    ∙ ap (λ (j : ℕ). getD t j 0) (omega arith)
+
+pub other-end : (t name : List ℕ) (i at : ℕ) → 8 ≤ length name → length name ≤ 15 → at ≡ 4608 * i + (length name - 6)
+    → (low64 t at ≡ low64 name (length name - 8) → ⊥) → isRowOf name (rowAt t i) ≡ false
+unfolding isRowOf
+other-end t name i at lo hi p h =
+    by-test (isRowOf name (rowAt t i))
+    (λ e. let e1 = and-right (eqb (getD (rowAt t i) 0 0) 1) _ e in
+    let e2 = and-right (within 1 15 (getD (rowAt t i) 1 0)) _ e1 in
+    let e3 = and-right (eqb (getD (rowAt t i) 1 0) (length name)) _ e2 in
+    let is : part (rowAt t i) 2 (length name) ≡ name = same-eq _ name e3 in
+    let a : ℕ = length name - 8 in
+    let here : at ≡ 4608 * i + (2 + a) = omega arith in
+    let word : low64 (part (rowAt t i) 2 (length name)) a ≡ low64 t (4608 * i + (2 + a)) =
+    low-eq (part (rowAt t i) 2 (length name)) t a (4608 * i + (2 + a)) (λ k l. name-byte t i (length name) a k (omega arith) hi) in
+    absurd (h (ap (low64 t) here ∙ sym word ∙ ap (λ (s : List ℕ). low64 s a) is)))
+    (λ e. e)
 
 -- a row whose first byte is not zero
 pub not-zero : (s : List ℕ) → 0 < length s → (getD s 0 0 ≡ 0 → ⊥) → false ≡ allZero s

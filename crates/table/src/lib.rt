@@ -1,65 +1,81 @@
 // The rows of the table: their sums, and how a subscriber's is found.
 ghost use mathlib.Core.Path.{_≡_};
-ghost use mathlib.Core.Bool.{false, not};
+ghost use mathlib.Core.Bool.{false};
 ghost use mathlib.Core.List.{[], _∷_};
-ghost use Prim.Native.Nat.{_+_, _-_, _*_, _/_, _%_, _<_, _≤_};
-ghost use lib.ListN.{length};
+ghost use Prim.Native.Nat.{ℕ, _+_, _*_, _/_, _<_, _≤_};
+ghost use lib.ListN.{length, take};
 ghost use Rattle.octets.specs.Texts.{allZero};
-ghost use Rattle.table.specs.TheTable.{sums, tableNumber, isRowOf, firstRow, rows, lookup};
-ghost use Rattle.table.specs.Soundness.{sound};
-ghost use Rattle.table.specs.Columns.{columnFirst, columnSecond};
+ghost use Rattle.table.specs.TheTable.{rowAt, sums, tableNumber, isRowOf, firstRow, rows, lookup};
+ghost use Rattle.table.specs.Columns.{columnFirst, columnBefore};
 ghost use Rattle.table.specs.Answers.{found, rowEnd};
 
 // The two sums of a block, each a remainder modulo 255.
 pub struct Sums {
-    pub first: u32,
-    pub second: u32,
+    pub first: u16,
+    pub second: u16,
 }
 
-// The plain sums of column j, where the 510 bytes before a block's sums stand in 15 rows of 34.
-fn column(s: &[u8], j: usize) -> Sums
-    requires { ⌜ (length (now s) ≡ 510) × (j < 34) ⌝ }
-    ensures { λ r. ⌜ (r .first ≡ columnFirst 15 (now (s .entry)) j) × (r .second ≡ columnSecond 15 (now (s .entry)) j) × (r .first ≤ 3825) × (r .second ≤ 57375) ⌝ }
+// The plain sums of a column of 16 bytes: its bytes, and each byte as often as there are bytes behind it.
+struct Plain {
+    first: u16,
+    before: u16,
+}
+
+// Column j, where the 512 bytes of a block stand in 16 rows of 32.
+fn column(s: &[u8], j: usize) -> Plain
+    requires { ⌜ (length (now s) ≡ 512) × (j < 32) ⌝ }
+    ensures { λ r. ⌜ (r .first ≡ columnFirst 16 (now (s .entry)) j) × (r .before ≡ columnBefore 16 (now (s .entry)) j) × (r .first ≤ 4080) × (r .before ≤ 65280) ⌝ }
 {
-    let mut a: u32 = 0;
-    let mut b: u32 = 0;
+    let mut a: u16 = 0;
+    let mut b: u16 = 0;
     let mut at: usize = j;
     let mut k: usize = 0;
-    while k < 15 {
-        a += octets::wide(s[at]);
+    while k < 16 {
         b += a;
-        at += 34;
+        a += octets::half(s[at]);
+        at += 32;
         k += 1;
     }
-    Sums {
+    Plain {
         first: a,
-        second: b,
+        before: b,
     }
 }
 
-// Fletcher-16 over the 510 bytes of a block that come before its sums. Byte j of row k counts 510 - (34 k + j) times in the
-// second sum; 34 times its column's second sum counts it j times too often, and modulo 255 so much less is 255 - j more.
-// Columns do not depend on each other, so that the compiler takes several at a time; one remainder each is enough.
-pub fn sums_of(s: &[u8]) -> Sums
-    requires { ⌜ length (now s) ≡ 510 ⌝ }
-    ensures { λ r. ⌜ (r .second ∷ r .first ∷ [] ≡ sums (now (s .entry))) × (r .first < 255) × (r .second < 255) ⌝ }
+// A smaller number with the same remainder: 256 leaves 1 modulo 255.
+fn folded(x: u16) -> u16
+    ensures { λ r. ⌜ (x ≡ r + 255 * (x / 256)) × (r ≤ 255 + x / 256) ⌝ }
 {
-    let mut a: u32 = 0;
-    let mut b: u32 = 0;
-    let mut weight: u32 = 255;
+    x % 256 + x / 256
+}
+
+// Fletcher-16 over the 510 bytes of a block that come before its sums. All 512 are added up, and the last two taken out again: over the
+// whole block byte j of row k counts 512 - (32 k + j) = 32 (15 - k) + (32 - j) times in the second sum. Columns do not depend on each other,
+// and all numbers stay within 16 bits, so that the compiler takes eight columns at a time; one remainder each is enough.
+pub fn sums_of(s: &[u8]) -> Sums
+    requires { ⌜ length (now s) ≡ 512 ⌝ }
+    ensures { λ r. ⌜ (r .second ∷ r .first ∷ [] ≡ sums (take 510 (now (s .entry)))) × (r .first < 255) × (r .second < 255) ⌝ }
+{
+    let mut a: u16 = 0;
+    let mut b: u16 = 0;
+    let mut weight: u16 = 32;
     let mut j: usize = 0;
-    while j < 34 {
+    while j < 32 {
         let c = column(s, j);
-        let first = c.first;
-        let second = c.second;
+        let first = folded(c.first);
+        let before = folded(c.before);
         a += first;
-        b += 34 * second + weight * first;
+        b += folded(32 * before + weight * first);
         weight -= 1;
         j += 1;
     }
+    let p = octets::half(s[510]);
+    let q = octets::half(s[511]);
+    let first = (a + 510 - p - q) % 255;
+    let second = (b + 1530 - 2 * first - 2 * p - q) % 255;
     Sums {
-        first: a % 255,
-        second: b % 255,
+        first: first,
+        second: second,
     }
 }
 
@@ -110,13 +126,37 @@ fn is_row_of(r: &[u8], name: &[u8]) -> bool
     octets::same_bytes(&r[2..end], name)
 }
 
+// Rows before the result are not the name's. Of a name of 8 bytes or more the last eight are looked at first, at once: names of one
+// operator differ there.
+fn rows_passed(t: &[u8], name: &[u8]) -> usize
+    requires { ⌜ tableNumber (now t) ≡ 0 ⌝ }
+    ensures { λ r. ⌜ (r ≤ length (now (t .entry)) / 4608) × ((j : ℕ) → j < r → isRowOf (now (name .entry)) (rowAt (now (t .entry)) j) ≡ false) ⌝ }
+{
+    let n = name.len();
+    if n < 8 {
+        return 0;
+    }
+    if 15 < n {
+        return 0;
+    }
+    let end = octets::eight(name, n - 8);
+    let mut at: usize = n - 6;
+    while at < t.len() {
+        if octets::eight(t, at) == end {
+            break;
+        }
+        at += 4608;
+    }
+    at / 4608
+}
+
 // A subscriber's row, sound or not.
 pub fn lookup(t: &[u8], name: &[u8]) -> RowFound
     requires { ⌜ tableNumber (now t) ≡ 0 ⌝ }
     ensures { λ r. ⌜ (found r ≡ lookup (now (t .entry)) (now (name .entry))) × (rowEnd r ≤ length (now (t .entry))) ⌝ }
 {
-    let mut n: usize = 0;
-    let mut at: usize = 0;
+    let mut n: usize = rows_passed(t, name);
+    let mut at: usize = 4608 * n;
     while at < t.len() {
         let end = at + 4608;
         if is_row_of(&t[at..end], name) {

@@ -1,28 +1,15 @@
--- What the C interface returns, in the paper's numbers. Its numbers have 32 bits; one that needed more would stand at the largest.
+-- What the C interface returns, in the paper's numbers.
 use mathlib.Core.List.{List}
-use Prim.Native.Nat.{ℕ, min}
+use Prim.Native.Nat.{ℕ, _<_}
 use Rattle.decision.specs.Calls.{Left, Result}
 use Rattle.wm.specs.declared.WmOutcome.{WmOutcome}
 
-unfoldable pub in32 : ℕ → ℕ
-in32 n = min n 4294967295
-
--- A result in 32 bits.
-unfoldable pub narrowed : Result → Result
-narrowed r =
-    record {
-      length = in32 (r .length);
-      code = r .code;
-      kind = r .kind;
-      place = in32 (r .place);
-      cut = r .cut;
-      cutSession = in32 (r .cutSession);
-      cutHost = in32 (r .cutHost);
-    }
-
--- What a call leaves, with its result in 32 bits.
-unfoldable pub inC : Left → Left
-inC l = record { reply = record { result = narrowed (l .reply .result); answer = l .reply .answer; notice = l .reply .notice }; table = l .table }
+-- A result whose numbers fit 32 bits; every result of a call does (proofs/Small).
+pub record In32 (r : Result) : Type 0 where
+  pub length-fits : r .length < 4294967296
+  pub place-fits : r .place < 4294967296
+  pub session-fits : r .cutSession < 4294967296
+  pub host-fits : r .cutHost < 4294967296
 
 -- The C struct, number by number.
 unfoldable pub saidInC : WmOutcome → Result

@@ -3,13 +3,13 @@ use decision::Cut;
 use decision::Outcome;
 use message::Kind;
 ghost use mathlib.Core.Path.{_≡_};
-ghost use Prim.Native.Nat.{ℕ};
+ghost use Prim.Native.Nat.{ℕ, _<_};
 ghost use Rattle.message.specs.Codes.{kindOf};
 ghost use Rattle.message.specs.Kinds.{codeFrom};
 ghost use Rattle.setup.specs.SetUp.{left, clear, enter, add};
 ghost use Rattle.decision.specs.Calls.{handle};
 ghost use Rattle.decision.specs.Outcomes.{callOf, cutHost, cutMade, cutSession, resultSaid};
-ghost use Rattle.wm.specs.InC.{in32, inC, leavesInC, narrowed, saidInC};
+ghost use Rattle.wm.specs.InC.{leavesInC, saidInC, In32};
 
 // SET-UP: 0 on success, else the number
 
@@ -53,12 +53,10 @@ pub struct WmOutcome {
 }
 
 fn narrow(n: usize) -> u32
-    ensures { λ r. ⌜ r ≡ in32 n ⌝ }
+    requires { ⌜ n < 4294967296 ⌝ }
+    ensures { λ r. ⌜ r ≡ n ⌝ }
 {
-    if n < 4294967296 {
-        return n as u32;
-    }
-    4294967295
+    n as u32
 }
 
 fn kind_in_c(kind: Kind) -> u32
@@ -81,7 +79,8 @@ fn cut_in_c(cut: Cut) -> u32
 }
 
 fn session_in_c(cut: Cut) -> u32
-    ensures { λ r. ⌜ r ≡ in32 (cutSession cut) ⌝ }
+    requires { ⌜ cutSession cut < 4294967296 ⌝ }
+    ensures { λ r. ⌜ r ≡ cutSession cut ⌝ }
 {
     match cut {
         Cut::NoCut => 0,
@@ -90,7 +89,8 @@ fn session_in_c(cut: Cut) -> u32
 }
 
 fn host_in_c(cut: Cut) -> u32
-    ensures { λ r. ⌜ r ≡ in32 (cutHost cut) ⌝ }
+    requires { ⌜ cutHost cut < 4294967296 ⌝ }
+    ensures { λ r. ⌜ r ≡ cutHost cut ⌝ }
 {
     match cut {
         Cut::NoCut => 0,
@@ -99,7 +99,8 @@ fn host_in_c(cut: Cut) -> u32
 }
 
 fn outcome_in_c(o: Outcome) -> WmOutcome
-    ensures { λ r. ⌜ saidInC r ≡ narrowed (resultSaid o) ⌝ }
+    requires { ⌜ In32 (resultSaid o) ⌝ }
+    ensures { λ r. ⌜ saidInC r ≡ resultSaid o ⌝ }
 {
     let kind = o.kind;
     let cut = o.cut;
@@ -126,7 +127,7 @@ pub extern "C" fn wm_handle(
     notice: &mut [u8],
 ) -> WmOutcome
     ensures { λ r. ⌜ leavesInC r (now (table .exit)) (now (answer .exit)) (now (notice .exit))
-        ≡ inC (handle (now (table .entry)) (callOf (now (message .entry)) (now (host .entry)) (now (realm .entry)) (now (answer .entry)) (now (notice .entry)) wag)) ⌝ }
+        ≡ handle (now (table .entry)) (callOf (now (message .entry)) (now (host .entry)) (now (realm .entry)) (now (answer .entry)) (now (notice .entry)) wag) ⌝ }
 {
     outcome_in_c(decision::handle(table, host, realm, message, wag, answer, notice))
 }

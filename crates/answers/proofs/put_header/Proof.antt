@@ -31,17 +31,17 @@ slice-aggregate-put-bytes c = search needs
 put-bytes-requires : tie.Need-put-bytes-requires
 put-bytes-requires c κs = search needs
 
-sub-put-bytes : tie.Need-sub-put-bytes
-sub-put-bytes c = search needs
+sub-put-text : tie.Need-sub-put-text
+sub-put-text c = search needs
 
-part-put-bytes-start : tie.Need-part-put-bytes-start
-part-put-bytes-start c = search needs
+part-put-text-start : tie.Need-part-put-text-start
+part-put-text-start c = search needs
 
-part-put-bytes-end : tie.Need-part-put-bytes-end
-part-put-bytes-end c = search needs
+part-put-text-end : tie.Need-part-put-text-end
+part-put-text-end c = search needs
 
-put-bytes-requires-2 : tie.Need-put-bytes-requires-2
-put-bytes-requires-2 c κs = search needs
+put-text-requires : tie.Need-put-text-requires
+put-text-requires c κs = search needs
 
 same-length : tie.Need-same-length
 same-length c = search needs
@@ -52,7 +52,7 @@ returns c =
     let a = c .before .before .before .before .before .before .before .before .before .before .before .before .before .args in
     let m = a .m .now in
     let five : List ℕ = 1 ∷ in24 (a .n) ++ (answerFlags m (plain (a .code)) ∷ []) in
-    c .before .before .put-bytes2 .ensures
+    c .before .before .put-text .ensures
     ∙ rw (
       c .before .before .before .before .before .before .before .put-bytes .ensures,
       c .before .before .before .before .before .before .before .before .before .before .answer-flags .ensures,
@@ -70,9 +70,9 @@ put-header-spec =
     answer-flags-requires
     slice-aggregate-put-bytes
     put-bytes-requires
-    sub-put-bytes
-    part-put-bytes-start
-    part-put-bytes-end
-    put-bytes-requires-2
+    sub-put-text
+    part-put-text-start
+    part-put-text-end
+    put-text-requires
     same-length
     returns)

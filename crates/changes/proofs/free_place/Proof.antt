@@ -1,16 +1,32 @@
 -- The zeroed block and block 0 are the two blocks of the freed subscriber that differ: `free-law` of Rows.
 use mathlib.Core.Path.{ap, _∙_}
 use mathlib.Core.List.{List, _++_}
-use Prim.Native.Nat.{ℕ, _+_, _-_, _^_}
+use Prim.Native.Nat.{ℕ, _-_, _^_}
 use native.Mathlib.Omega.{arith}
 use lib.ListN.{getD, take, drop}
 use borrow.Author.Needs.{needs}
-use Rattle.octets.specs.Texts.{part}
+use Rattle.octets.specs.Texts.{part, zeros}
 use Rattle.changes.specs.Writes.{closedUp, headWith}
 use Rattle.changes.proofs.Puts.{putBlock}
-use Rattle.changes.proofs.Rows.{bit-in, free-law, place-in, row-size}
+use Rattle.changes.proofs.Rows.{bit-in, free-law, head-agrees, head-stays, place-in, row-size}
 use Rattle.changes.proofs.free_place.Statement.{statement}
 use Rattle.changes.proofs.free_place.Tie as tie
+
+returns : tie.Need-returns
+returns c = let written = c .before .before .write-line in
+    let zeroed = c .before .before .before .before .before .before .put-zeros in
+    let closed = c .before .before .before .before .before .before .before .before .line-without in
+    let bit = c .before .before .before .before .before .before .before .before .before .before .before .bit-of in
+    let start = c .before .before .before .before .before .before .before .before .before .before .before .before .before .before in
+    let r = start .args .row .now in
+    let k = start .args .k in
+    let z : List ℕ = zeroed .last .0 in
+    ap (λ (t : List ℕ). t ++ drop 512 z)
+    (written .ensures
+    ∙ ap (λ (x : ℕ). headWith (take 512 z) (getD r 17 0 - x) (closed .result)) (bit .ensures)
+    ∙ ap (λ (t : List ℕ). headWith (take 512 z) (getD r 17 0 - 2 ^ (k - 1)) t) (closed .ensures))
+    ∙ ap (λ (t : List ℕ). putBlock t 0 (headWith (take 512 t) (getD r 17 0 - 2 ^ (k - 1)) (closedUp (part r 20 8) k))) (zeroed .ensures)
+    ∙ free-law r k (start .pre .0) (start .pre .1)
 
 slice-read-bits : tie.Need-slice-read-bits
 slice-read-bits c =
@@ -68,26 +84,15 @@ part-write-line-end c =
     omega (arith, row-size (start .args .row .now) (start .pre .0), c .before .before .put-zeros .kept .0)
 
 write-line-requires : tie.Need-write-line-requires
-write-line-requires c κs = search needs
+write-line-requires c κs =
+    let start = c .before .before .before .before .before .before .before .before .before .before .before in
+    let r = start .args .row .now in
+    let k = start .args .k in
+    let w = place-in r (start .pre .0) k (start .pre .1) in
+    head-agrees r (c .before .before .before .put-zeros .last .0) (start .pre .0) (ap (take 512) (c .before .before .before .put-zeros .ensures) ∙ head-stays r k (zeros 512) (w .0) (w .1) (row-size r (start .pre .0)))
 
 same-length : tie.Need-same-length
 same-length c = search needs
-
-returns : tie.Need-returns
-returns c = let written = c .before .before .write-line in
-    let zeroed = c .before .before .before .before .before .before .before .put-zeros in
-    let closed = c .before .before .before .before .before .before .before .before .before .line-without in
-    let bit = c .before .before .before .before .before .before .before .before .before .before .before .before .bit-of in
-    let start = c .before .before .before .before .before .before .before .before .before .before .before .before .before .before .before in
-    let r = start .args .row .now in
-    let k = start .args .k in
-    let z : List ℕ = zeroed .last .0 in
-    ap (λ (t : List ℕ). t ++ drop 512 z)
-    (written .ensures
-    ∙ ap (λ (x : ℕ). headWith (take 512 z) (getD r 17 0 - x) (closed .result)) (bit .ensures)
-    ∙ ap (λ (t : List ℕ). headWith (take 512 z) (getD r 17 0 - 2 ^ (k - 1)) t) (closed .ensures))
-    ∙ ap (λ (t : List ℕ). putBlock t 0 (headWith (take 512 t) (getD r 17 0 - 2 ^ (k - 1)) (closedUp (part r 20 8) k))) (zeroed .ensures)
-    ∙ free-law r k (start .pre .0) (start .pre .1)
 
 pub free-place-spec : {M : Type 1} → statement M
 free-place-spec =

@@ -3,8 +3,7 @@ use mathlib.Core.Path.{_≡_, ap, _∙_}
 use mathlib.Core.List.{List, _++_}
 use Prim.Native.Nat.{ℕ, _+_, _-_, _*_, _^_}
 use native.Mathlib.Omega.{arith}
-use lib.Seq.{length-take-le}
-use lib.Count.{ones, trailingZeros}
+use lib.Count.{ones}
 use lib.ListN.{length, getD, take, drop, set}
 use borrow.Rule.Slice.PartMut.{same-len-mid}
 use borrow.Author.Needs.{needs}
@@ -14,7 +13,7 @@ use Rattle.table.specs.TheTable.{readRow}
 use Rattle.changes.specs.Changes.{lowestFree}
 use Rattle.changes.specs.Writes.{headWith, openedBytes}
 use Rattle.changes.proofs.Puts.{putBlock}
-use Rattle.changes.proofs.Rows.{bit-fits, length-opened, lowest-in, lowest-is, open-law, row-size}
+use Rattle.changes.proofs.Rows.{bit-fits, head-agrees, head-stays, length-opened, lowest-is, open-law, row-size, some-clear}
 use Rattle.changes.proofs.Steps.{ones-byte}
 use Rattle.changes.proofs.open_place.Statement.{statement}
 use Rattle.changes.proofs.open_place.Tie as tie
@@ -29,25 +28,15 @@ cast-count c =
     let start = c .before .before .before .before in
     omega (arith, ones-byte (start .args .row .now) (start .pre .0), start .pre .1)
 
-cast-place : tie.Need-cast-place
-cast-place c =
-    let start = c .before .before .before .before in
-    omega (arith, lowest-is (start .args .row .now) (start .pre .0) (start .pre .1), lowest-in (start .args .row .now) (start .pre .0) (start .pre .1))
-
-add-place : tie.Need-add-place
-add-place c =
-    let start = c .before .before .before .before in
-    omega (arith, lowest-is (start .args .row .now) (start .pre .0) (start .pre .1), lowest-in (start .args .row .now) (start .pre .0) (start .pre .1))
+lowest-free-requires : tie.Need-lowest-free-requires
+lowest-free-requires c κs = let start = c .before .before .before .before in
+    some-clear (start .args .row .now) (start .pre .0) (start .pre .1)
 
 mul-a : tie.Need-mul-a
-mul-a c =
-    let start = c .before .before .before .before in
-    omega (arith, lowest-is (start .args .row .now) (start .pre .0) (start .pre .1), lowest-in (start .args .row .now) (start .pre .0) (start .pre .1))
+mul-a c = search needs
 
 add-e : tie.Need-add-e
-add-e c =
-    let start = c .before .before .before .before in
-    omega (arith, lowest-is (start .args .row .now) (start .pre .0) (start .pre .1), lowest-in (start .args .row .now) (start .pre .0) (start .pre .1))
+add-e c = search needs
 
 sub-write-access : tie.Need-sub-write-access
 sub-write-access c = search needs
@@ -56,9 +45,8 @@ part-write-access-start : tie.Need-part-write-access-start
 part-write-access-start c = search needs
 
 part-write-access-end : tie.Need-part-write-access-end
-part-write-access-end c = let start = c .before .before .before .before in
-    let r = start .args .row .now in
-    omega (arith, lowest-is r (start .pre .0) (start .pre .1), lowest-in r (start .pre .0) (start .pre .1), row-size r (start .pre .0))
+part-write-access-end c = let start = c .before .before .before .before .before in
+    omega (arith, c .lowest-free .ensures .2, row-size (start .args .row .now) (start .pre .0))
 
 write-access-requires : tie.Need-write-access-requires
 write-access-requires c κs = search needs
@@ -70,48 +58,52 @@ part-enlist-start : tie.Need-part-enlist-start
 part-enlist-start c = search needs
 
 part-enlist-end : tie.Need-part-enlist-end
-part-enlist-end c = let start = c .before .before .before .before .before .before .before .before in
-    let a : ℕ = 512 * (trailingZeros 8 (255 - getD (start .args .row .now) 17 0) + 1) in
+part-enlist-end c = let start = c .before .before .before .before .before .before .before .before .before in
+    let a : ℕ = 512 * (c .before .before .before .before .lowest-free .result) in
     omega (arith, same-len-mid a (a + 512 - a) (start .args .row .now) (c .before .before .write-access .last .0) (c .before .before .write-access .kept .0), row-size (start .args .row .now) (start .pre .0))
 
 bit-of-requires : tie.Need-bit-of-requires
-bit-of-requires c κs =
-    let start = c .before .before .before .before .before .before .before .before .before in
-    omega (arith, lowest-is (start .args .row .now) (start .pre .0) (start .pre .1), lowest-in (start .args .row .now) (start .pre .0) (start .pre .1))
+bit-of-requires c κs = search needs
 
 add-enlist : tie.Need-add-enlist
-add-enlist c = let start = c .before .before .before .before .before .before .before .before .before .before in
+add-enlist c = let start = c .before .before .before .before .before .before .before .before .before .before .before in
     let r = start .args .row .now in
-    let bit : c .bit-of .result ≡ 2 ^ (lowestFree ((readRow r) .accesses) - 1) = c .bit-of .ensures ∙ ap (λ (i : ℕ). 2 ^ (i - 1)) (lowest-is r (start .pre .0) (start .pre .1)) in
+    let place = c .before .before .before .before .before .before .lowest-free in
+    let bit : c .bit-of .result ≡ 2 ^ (lowestFree ((readRow r) .accesses) - 1) =
+    c .bit-of .ensures ∙ ap (λ (i : ℕ). 2 ^ (i - 1)) (place .ensures .0 ∙ lowest-is r (start .pre .0) (start .pre .1)) in
     omega (arith, bit-fits r (start .pre .0) (start .pre .1))
 
 cast-enlist : tie.Need-cast-enlist
-cast-enlist c =
-    let start = c .before .before .before .before .before .before .before .before .before .before in
-    omega (arith, lowest-is (start .args .row .now) (start .pre .0) (start .pre .1), lowest-in (start .args .row .now) (start .pre .0) (start .pre .1))
+cast-enlist c = omega (arith, c .before .before .before .before .before .before .lowest-free .ensures .2)
 
 enlist-requires : tie.Need-enlist-requires
-enlist-requires c κs = let start = c .before .before .before .before .before .before .before .before .before .before in
+enlist-requires c κs = let start = c .before .before .before .before .before .before .before .before .before .before .before in
     let r = start .args .row .now in
-    let a : ℕ = 512 * (trailingZeros 8 (255 - getD r 17 0) + 1) in
+    let lowest = c .before .before .before .before .before .before .lowest-free in
+    let a : ℕ = 512 * lowest .result in
+    let o : List ℕ = openedBytes (start .args .entry) (start .args .session .now) (start .args .host .now) in
+    let size : length o ≡ a + 512 - a = length-opened (start .args .entry) (start .args .session .now) (start .args .host .now) ∙ omega arith in
     let w = c .before .before .before .before .write-access in
     let z : List ℕ = take a r ++ (w .last .0 ++ drop (a + 512 - a) (drop a r)) in
-    (length-take-le 512 z (omega (arith, same-len-mid a (a + 512 - a) r (w .last .0) (w .kept .0), row-size r (start .pre .0))), omega (arith, ones-byte r (start .pre .0), start .pre .1))
+    let taken : z ≡ put r a o = back-put r a (a + 512) (w .last .0) o size (w .ensures) in
+    let agrees = head-agrees r z (start .pre .0) (ap (take 512) taken ∙ head-stays r (lowest .result) o (lowest .ensures .1) (lowest .ensures .2) (row-size r (start .pre .0))) in
+    (agrees .0, agrees .1, omega (arith, ones-byte r (start .pre .0), start .pre .1))
 
 same-length : tie.Need-same-length
 same-length c = search needs
 
 returns : tie.Need-returns
-returns c = let start = c .before .before .before .before .before .before .before .before .before .before .before .before .before in
+returns c = let start = c .before .before .before .before .before .before .before .before .before .before .before .before .before .before in
     let r = start .args .row .now in
     let sid = start .args .session .now in
     let host = start .args .host .now in
     let n = start .args .entry in
-    let p : ℕ = trailingZeros 8 (255 - getD r 17 0) + 1 in
+    let lowest = c .before .before .before .before .before .before .before .before .before .lowest-free in
+    let p : ℕ = lowest .result in
     let a : ℕ = 512 * p in
     let o : List ℕ = openedBytes n sid host in
     let w = c .before .before .before .before .before .before .before .write-access in
-    let place : p ≡ lowestFree ((readRow r) .accesses) = lowest-is r (start .pre .0) (start .pre .1) in
+    let place : p ≡ lowestFree ((readRow r) .accesses) = lowest .ensures .0 ∙ lowest-is r (start .pre .0) (start .pre .1) in
     let size : length o ≡ a + 512 - a = length-opened n sid host ∙ omega arith in
     let z : List ℕ = take a r ++ (w .last .0 ++ drop (a + 512 - a) (drop a r)) in
     let taken : z ≡ put r a o = back-put r a (a + 512) (w .last .0) o size (w .ensures) in
@@ -128,8 +120,7 @@ open-place-spec =
     (tie.spec
     slice-read-bits
     cast-count
-    cast-place
-    add-place
+    lowest-free-requires
     mul-a
     add-e
     sub-write-access

@@ -5,15 +5,6 @@ use Rattle.changes.proofs.Blocks.{sealed-by}
 use Rattle.changes.proofs.seal.Statement.{statement}
 use Rattle.changes.proofs.seal.Tie as tie
 
-sub-sums-of : tie.Need-sub-sums-of
-sub-sums-of c = search needs
-
-part-sums-of-start : tie.Need-part-sums-of-start
-part-sums-of-start c = search needs
-
-part-sums-of-end : tie.Need-part-sums-of-end
-part-sums-of-end c = search needs
-
 sums-of-requires : tie.Need-sums-of-requires
 sums-of-requires c κs = search needs
 
@@ -34,16 +25,13 @@ same-length c = search needs
 
 returns : tie.Need-returns
 returns c = let sums = c .before .before .sums-of in
-    let start = c .before .before .before .before .before .before in
+    let start = c .before .before .before .before .before in
     sealed-by (start .args .block .now) (sums .result .first) (sums .result .second) (start .pre) (sums .ensures .0)
 
 pub seal-spec : {M : Type 1} → statement M
 seal-spec =
     tie.close
     (tie.spec
-    sub-sums-of
-    part-sums-of-start
-    part-sums-of-end
     sums-of-requires
     cast-first
     cast-second

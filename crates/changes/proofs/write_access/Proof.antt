@@ -25,11 +25,11 @@ slice-aggregate-put-bytes c = search needs
 put-bytes-requires : tie.Need-put-bytes-requires
 put-bytes-requires c κs = search needs
 
-put-bytes-requires-2 : tie.Need-put-bytes-requires-2
-put-bytes-requires-2 c κs = search needs
+put-text-requires : tie.Need-put-text-requires
+put-text-requires c κs = search needs
 
-put-bytes-requires-3 : tie.Need-put-bytes-requires-3
-put-bytes-requires-3 c κs = search needs
+put-text-requires-2 : tie.Need-put-text-requires-2
+put-text-requires-2 c κs = search needs
 
 seal-requires : tie.Need-seal-requires
 seal-requires c κs = search needs
@@ -50,8 +50,8 @@ returns c = let d = c .before .before in
     let cleared : z .clear .last .0 ≡ zeros 512 = z .clear .ensures ∙ ap zeros (start .pre .0) in
     d .seal .ensures
     ∙ ap (λ (t : List ℕ). sealed (take 510 t))
-    (w3 .put-bytes3 .ensures
-    ∙ ap (λ (t : List ℕ). put t 136 h) (w2 .put-bytes2 .ensures ∙ ap (λ (t : List ℕ). put t 8 s) (w1 .put-bytes .ensures ∙ ap (λ (t : List ℕ). put t 0 head) cleared)))
+    (w3 .put-text2 .ensures
+    ∙ ap (λ (t : List ℕ). put t 136 h) (w2 .put-text .ensures ∙ ap (λ (t : List ℕ). put t 8 s) (w1 .put-bytes .ensures ∙ ap (λ (t : List ℕ). put t 0 head) cleared)))
     ∙ access-put (start .args .entry) s h (start .pre .1) (start .pre .2)
 
 pub write-access-spec : {M : Type 1} → statement M
@@ -63,8 +63,8 @@ write-access-spec =
     cast-t12
     slice-aggregate-put-bytes
     put-bytes-requires
-    put-bytes-requires-2
-    put-bytes-requires-3
+    put-text-requires
+    put-text-requires-2
     seal-requires
     same-length
     returns)

@@ -23,17 +23,17 @@ slice-write-block-2 c = search needs
 put-zeros-requires : tie.Need-put-zeros-requires
 put-zeros-requires c κs = simp length-set (omega arith)
 
-put-bytes-requires : tie.Need-put-bytes-requires
-put-bytes-requires c κs = let z = c .before .before .before in omega (arith, simp length-set at (z .put-zeros .kept .0))
+put-text-requires : tie.Need-put-text-requires
+put-text-requires c κs = let z = c .before .before .before in omega (arith, simp length-set at (z .put-zeros .kept .0))
 
 seal-requires : tie.Need-seal-requires
 seal-requires c κs = let w = c .before .before .before in
     let z = w .before .before .before .before in
-    w .put-bytes .kept .0 ∙ z .put-zeros .kept .0 ∙ simp length-set (z .before .before .before .before .pre .0)
+    w .put-text .kept .0 ∙ z .put-zeros .kept .0 ∙ simp length-set (z .before .before .before .before .pre .0)
 
 same-length : tie.Need-same-length
 same-length c = let w = c .before .before .before .before .before .before in
-    c .before .before .seal .kept .0 ∙ w .put-bytes .kept .0 ∙ w .before .before .before .before .put-zeros .kept .0 ∙ simp length-set
+    c .before .before .seal .kept .0 ∙ w .put-text .kept .0 ∙ w .before .before .before .before .put-zeros .kept .0 ∙ simp length-set
 
 returns : tie.Need-returns
 returns c = let d = c .before .before in
@@ -43,7 +43,7 @@ returns c = let d = c .before .before in
     let block = start .args .block .now in
     let policy = start .args .policy .now in
     d .seal .ensures
-    ∙ ap (λ (t : List ℕ). sealed (take 510 t)) (w .put-bytes .ensures ∙ ap (λ (t : List ℕ). put t 264 policy) (z .put-zeros .ensures))
+    ∙ ap (λ (t : List ℕ). sealed (take 510 t)) (w .put-text .ensures ∙ ap (λ (t : List ℕ). put t 264 policy) (z .put-zeros .ensures))
     ∙ policy-put block policy (start .pre .0) (start .pre .1)
 
 pub write-policy-spec : {M : Type 1} → statement M
@@ -54,7 +54,7 @@ write-policy-spec =
     cast-block
     slice-write-block-2
     put-zeros-requires
-    put-bytes-requires
+    put-text-requires
     seal-requires
     same-length
     returns)

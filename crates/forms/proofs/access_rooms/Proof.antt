@@ -1,10 +1,12 @@
 -- The three rooms and the rest in order; each way out is the first that fails.
 use native.Mathlib.Omega.{arith}
 use lib.ListN.{getD}
+use mathlib.Core.Path.{_∙_}
 use borrow.Author.Needs.{needs}
 use Rattle.octets.specs.Texts.{part}
 use Rattle.octets.proofs.Texts.{length-part}
 use Rattle.table.proofs.Tests.{behind-said, fails, passes-on}
+use Rattle.forms.proofs.Rooms.{last-room}
 use Rattle.forms.proofs.access_rooms.Statement.{statement}
 use Rattle.forms.proofs.access_rooms.Tie as tie
 
@@ -69,40 +71,14 @@ returns-2 c =
     let test2 = c .if2 in
     rw (passes-on (behind-said (part (given .b .now) 8 128) (long-was .result) (getD (given .b .now) 2 0) (long-was .ensures .0) (zero-behind-was .ensures)) (test1 .left), fails (behind-said (part (given .b .now) 136 128) (long2-was .result) (getD (given .b .now) 3 0) (long2-was .ensures .0) (zero-behind2-was .ensures)) (test2 .taken))
 
-sub-zero-behind-3 : tie.Need-sub-zero-behind-3
-sub-zero-behind-3 c = search needs
-
-part-zero-behind-start-3 : tie.Need-part-zero-behind-start-3
-part-zero-behind-start-3 c = search needs
-
-part-zero-behind-end-3 : tie.Need-part-zero-behind-end-3
-part-zero-behind-end-3 c = search needs
-
 shared-slice-read-long-3 : tie.Need-shared-slice-read-long-3
 shared-slice-read-long-3 c = search needs
 
 long-requires-3 : tie.Need-long-requires-3
 long-requires-3 c κs = search needs
 
-zero-behind-requires-3 : tie.Need-zero-behind-requires-3
-zero-behind-requires-3 c κs =
-    let given = c .before .before .before .before .before .before .before .before .before .before .before .before .before .before .args in
-    let long3-was = c .long3 in
-    omega (arith, length-part (given .b .now) 264 128 (omega arith), long3-was .ensures .0)
-
-returns-3 : tie.Need-returns-3
-returns-3 c =
-    let given = c .before .before .before .before .before .before .before .before .before .before .before .before .before .before .before .before .args in
-    let long-was = c .before .before .before .before .before .before .before .before .before .before .before .before .long in
-    let zero-behind-was = c .before .before .before .before .before .before .before .before .before .before .before .zero-behind in
-    let test1 = c .before .before .before .before .before .before .before .before .before .before .if1 in
-    let long2-was = c .before .before .before .before .before .before .before .long2 in
-    let zero-behind2-was = c .before .before .before .before .before .before .zero-behind2 in
-    let test2 = c .before .before .before .before .before .if2 in
-    let long3-was = c .before .before .long3 in
-    let zero-behind3-was = c .before .zero-behind3 in
-    let test3 = c .if3 in
-    rw (passes-on (behind-said (part (given .b .now) 8 128) (long-was .result) (getD (given .b .now) 2 0) (long-was .ensures .0) (zero-behind-was .ensures)) (test1 .left), passes-on (behind-said (part (given .b .now) 136 128) (long2-was .result) (getD (given .b .now) 3 0) (long2-was .ensures .0) (zero-behind2-was .ensures)) (test2 .left), fails (behind-said (part (given .b .now) 264 128) (long3-was .result) (getD (given .b .now) 5 0) (long3-was .ensures .0) (zero-behind3-was .ensures)) (test3 .taken))
+add-from : tie.Need-add-from
+add-from c = search needs
 
 sub-all-zero : tie.Need-sub-all-zero
 sub-all-zero c = search needs
@@ -116,20 +92,18 @@ part-all-zero-end c = search needs
 all-zero-requires : tie.Need-all-zero-requires
 all-zero-requires c κs = search needs
 
-returns-4 : tie.Need-returns-4
-returns-4 c =
-    let given = c .before .before .before .before .before .before .before .before .before .before .before .before .before .before .before .before .before .before .args in
-    let long-was = c .before .before .before .before .before .before .before .before .before .before .before .before .before .before .long in
-    let zero-behind-was = c .before .before .before .before .before .before .before .before .before .before .before .before .before .zero-behind in
-    let test1 = c .before .before .before .before .before .before .before .before .before .before .before .before .if1 in
-    let long2-was = c .before .before .before .before .before .before .before .before .before .long2 in
-    let zero-behind2-was = c .before .before .before .before .before .before .before .before .zero-behind2 in
-    let test2 = c .before .before .before .before .before .before .before .if2 in
-    let long3-was = c .before .before .before .before .long3 in
-    let zero-behind3-was = c .before .before .before .zero-behind3 in
-    let test3 = c .before .before .if3 in
-    let all-zero-was = c .all-zero in
-    rw (passes-on (behind-said (part (given .b .now) 8 128) (long-was .result) (getD (given .b .now) 2 0) (long-was .ensures .0) (zero-behind-was .ensures)) (test1 .left), passes-on (behind-said (part (given .b .now) 136 128) (long2-was .result) (getD (given .b .now) 3 0) (long2-was .ensures .0) (zero-behind2-was .ensures)) (test2 .left), passes-on (behind-said (part (given .b .now) 264 128) (long3-was .result) (getD (given .b .now) 5 0) (long3-was .ensures .0) (zero-behind3-was .ensures)) (test3 .left)) (all-zero-was .ensures)
+returns-3 : tie.Need-returns-3
+returns-3 c =
+    let start = c .before .before .before .before .before .before .before .before .before .before .before .before .before .before .before in
+    let b = start .args .b .now in
+    let long-was = c .before .before .before .before .before .before .before .before .before .before .before .long in
+    let zero-behind-was = c .before .before .before .before .before .before .before .before .before .before .zero-behind in
+    let test1 = c .before .before .before .before .before .before .before .before .before .if1 in
+    let long2-was = c .before .before .before .before .before .before .long2 in
+    let zero-behind2-was = c .before .before .before .before .before .zero-behind2 in
+    let test2 = c .before .before .before .before .if2 in
+    rw (passes-on (behind-said (part b 8 128) (long-was .result) (getD b 2 0) (long-was .ensures .0) (zero-behind-was .ensures)) (test1 .left), passes-on (behind-said (part b 136 128) (long2-was .result) (getD b 3 0) (long2-was .ensures .0) (zero-behind2-was .ensures)) (test2 .left))
+    (c .all-zero .ensures ∙ last-room b (c .before .before .long3 .result) (getD b 5 0) (c .before .before .long3 .ensures .0) (start .pre .3))
 
 pub access-rooms-spec : {M : Type 1} → statement M
 access-rooms-spec =
@@ -149,15 +123,11 @@ access-rooms-spec =
     long-requires-2
     zero-behind-requires-2
     returns-2
-    sub-zero-behind-3
-    part-zero-behind-start-3
-    part-zero-behind-end-3
     shared-slice-read-long-3
     long-requires-3
-    zero-behind-requires-3
-    returns-3
+    add-from
     sub-all-zero
     part-all-zero-start
     part-all-zero-end
     all-zero-requires
-    returns-4)
+    returns-3)

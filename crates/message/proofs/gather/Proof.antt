@@ -2,7 +2,7 @@
 use mathlib.Core.Path.{_≡_, sym, ap, _∙_}
 use Prim.Native.Nat.{_-_, _≤_}
 use native.Mathlib.Omega.{arith}
-use lib.ListN.{length}
+use lib.ListN.{length, length-set}
 use borrow.Author.Needs.{needs}
 use Rattle.message.specs.Positions.{headAt}
 use Rattle.octets.proofs.Texts.{length-zeros}
@@ -43,102 +43,112 @@ enum-known-h-2 c = search needs
 loop-less : tie.Need-loop-less Inv-loop μ-loop Inv-walk μ-walk
 loop-less c =
     let l = c .before .before .before .before .before .before .before in
-    let m = l .before .before .before .before .args .m .now in
-    let n = next-place m (l .loop .at) (c .before .before .before .h2 .given .0 .0) (l .loop .inv .1 .inside)
-    (sym (c .before .before .before .before .before .head-at .ensures) ∙ c .before .before .before .h2 .given .1) in
+    let m = c .before .before .before .before .before .before .before .before .before .before .before .args .m .now in
+    let a = c .before .before .before .h2 .given .0 .0 in
+    let o : headAt m (l .loop .at) ≡ One a = sym (c .before .before .before .before .before .head-at .ensures) ∙ c .before .before .before .h2 .given .1 in
+    let n = next-place m (l .loop .at) a (l .loop .inv .1 .inside) o in
     omega (arith, n .0, n .1)
 
 loop-again : tie.Need-loop-again Inv-loop μ-loop Inv-walk μ-walk
 loop-again c =
     let l = c .before .before .before .before .before .before .before in
-    let m = l .before .before .before .before .args .m .now in
+    let m = c .before .before .before .before .before .before .before .before .before .before .before .args .m .now in
     let a = c .before .before .before .h2 .given .0 .0 in
-    let o : headAt m (l .loop .at) ≡ One a = sym (c .before .before .before .before .before .head-at .ensures)
-    ∙ c .before .before .before .h2 .given .1 in
+    let o : headAt m (l .loop .at) ≡ One a = sym (c .before .before .before .before .before .head-at .ensures) ∙ c .before .before .before .h2 .given .1 in
     let n = next-place m (l .loop .at) a (l .loop .inv .1 .inside) o in
     (omega (arith, n .0, l .loop .inv .0), stepped-over m (l .before .walk .index) (l .loop .at) a (l .loop .inv .1) o (c .if2 .left))
 
-mul-if3 : tie.Need-mul-if3 Inv-loop μ-loop Inv-walk μ-walk
-mul-if3 c = omega (arith, c .before .before .before .before .before .before .before .loop .inv .1 .size, c .if2 .taken)
+mul-seen : tie.Need-mul-seen Inv-loop μ-loop Inv-walk μ-walk
+mul-seen c = omega (arith, c .before .before .before .before .before .before .before .loop .inv .1 .size, c .if2 .taken)
 
-slice-read-if3 : tie.Need-slice-read-if3 Inv-loop μ-loop Inv-walk μ-walk
-slice-read-if3 c =
-    omega (arith, c .before .before .before .before .before .before .before .before .loop .inv .1 .size, c .before .if2 .taken)
+slice-read-seen : tie.Need-slice-read-seen Inv-loop μ-loop Inv-walk μ-walk
+slice-read-seen c = omega (arith, c .before .before .before .before .before .before .before .before .loop .inv .1 .size, c .before .if2 .taken)
+
+add-read24 : tie.Need-add-read24 Inv-loop μ-loop Inv-walk μ-walk
+add-read24 c =
+    let l = c .before .before .before .before .before .before .before .before in
+    let m = c .before .before .before .before .before .before .before .before .before .before .before .before .args .m .now in
+    let a = c .before .before .before .before .h2 .given .0 .0 in
+    let o : headAt m (l .loop .at) ≡ One a = sym (c .before .before .before .before .before .before .head-at .ensures) ∙ c .before .before .before .before .h2 .given .1 in
+    let n = next-place m (l .loop .at) a (l .loop .inv .1 .inside) o in
+    omega (arith, n .0, n .1)
+
+read24-requires : tie.Need-read24-requires Inv-loop μ-loop Inv-walk μ-walk
+read24-requires c κs =
+    let l = c .before .before .before .before .before .before .before .before in
+    let m = c .before .before .before .before .before .before .before .before .before .before .before .before .args .m .now in
+    let a = c .before .before .before .before .h2 .given .0 .0 in
+    let o : headAt m (l .loop .at) ≡ One a = sym (c .before .before .before .before .before .before .head-at .ensures) ∙ c .before .before .before .before .h2 .given .1 in
+    let n = next-place m (l .loop .at) a (l .loop .inv .1 .inside) o in
+    omega (arith, n .0, n .1)
+
+add-index : tie.Need-add-index Inv-loop μ-loop Inv-walk μ-walk
+add-index c = omega (arith, c .before .before .before .before .before .before .before .before .before .loop .inv .1 .size, c .before .before .if2 .taken)
 
 mul-index : tie.Need-mul-index Inv-loop μ-loop Inv-walk μ-walk
-mul-index c =
-    omega (arith, c .before .before .before .before .before .before .before .before .before .loop .inv .1 .size, c .before .before .if2 .taken)
+mul-index c = omega (arith, c .before .before .before .before .before .before .before .before .before .loop .inv .1 .size, c .before .before .if2 .taken)
 
 slice-write-index : tie.Need-slice-write-index Inv-loop μ-loop Inv-walk μ-walk
-slice-write-index c =
-    omega (arith, c .before .before .before .before .before .before .before .before .before .loop .inv .1 .size, c .before .before .if2 .taken)
+slice-write-index c = omega (arith, c .before .before .before .before .before .before .before .before .before .loop .inv .1 .size, c .before .before .if2 .taken)
 
 mul-index-2 : tie.Need-mul-index-2 Inv-loop μ-loop Inv-walk μ-walk
-mul-index-2 c =
-    omega (arith, c .before .before .before .before .before .before .before .before .before .loop .inv .1 .size, c .before .before .if2 .taken)
+mul-index-2 c = omega (arith, c .before .before .before .before .before .before .before .before .before .before .loop .inv .1 .size, c .before .before .before .if2 .taken)
 
 slice-write-index-2 : tie.Need-slice-write-index-2 Inv-loop μ-loop Inv-walk μ-walk
-slice-write-index-2 c =
-    omega (arith, c .before .before .before .before .before .before .before .before .before .loop .inv .1 .size, c .before .before .if2 .taken)
+slice-write-index-2 c = simp length-set (omega (arith, c .before .before .before .before .before .before .before .before .before .before .loop .inv .1 .size, c .before .before .before .if2 .taken))
+
+mul-index-3 : tie.Need-mul-index-3 Inv-loop μ-loop Inv-walk μ-walk
+mul-index-3 c = omega (arith, c .before .before .before .before .before .before .before .before .before .before .loop .inv .1 .size, c .before .before .before .if2 .taken)
+
+slice-write-index-3 : tie.Need-slice-write-index-3 Inv-loop μ-loop Inv-walk μ-walk
+slice-write-index-3 c = simp length-set (omega (arith, c .before .before .before .before .before .before .before .before .before .before .loop .inv .1 .size, c .before .before .before .if2 .taken))
 
 walk-less : tie.Need-walk-less Inv-loop μ-loop Inv-walk μ-walk
 walk-less c =
-    let l = c .before .before .before .before .before .before .before .before .before in
-    let m = l .before .before .before .before .args .m .now in
-    let n = next-place m (l .loop .at) (c .before .before .before .before .before .h2 .given .0 .0) (l .loop .inv .1 .inside)
-    (sym (c .before .before .before .before .before .before .before .head-at .ensures) ∙ c .before .before .before .before .before .h2 .given .1) in
+    let l = c .before .before .before .before .before .before .before .before .before .before in
+    let m = c .before .before .before .before .before .before .before .before .before .before .before .before .before .before .args .m .now in
+    let a = c .before .before .before .before .before .before .h2 .given .0 .0 in
+    let o : headAt m (l .loop .at) ≡ One a = sym (c .before .before .before .before .before .before .before .before .head-at .ensures) ∙ c .before .before .before .before .before .before .h2 .given .1 in
+    let n = next-place m (l .loop .at) a (l .loop .inv .1 .inside) o in
     omega (arith, n .0, n .1, l .loop .inv .0)
 
 walk-again : tie.Need-walk-again Inv-loop μ-loop Inv-walk μ-walk
 walk-again c =
-    let l = c .before .before .before .before .before .before .before .before .before in
-    let m = l .before .before .before .before .args .m .now in
-    let a = c .before .before .before .before .before .h2 .given .0 .0 in
-    noted-first m (l .before .walk .index) (l .loop .at) a (l .loop .inv .1)
-    (sym (c .before .before .before .before .before .before .before .head-at .ensures) ∙ c .before .before .before .before .before .h2 .given .1)
-    (c .before .before .if2 .taken) (c .if3 .taken)
+    let l = c .before .before .before .before .before .before .before .before .before .before in
+    let m = c .before .before .before .before .before .before .before .before .before .before .before .before .before .before .args .m .now in
+    let a = c .before .before .before .before .before .before .h2 .given .0 .0 in
+    noted-first m (l .before .walk .index) (l .loop .at) a (l .loop .inv .1) (sym (c .before .before .before .before .before .before .before .before .head-at .ensures) ∙ c .before .before .before .before .before .before .h2 .given .1) (c .before .before .before .if2 .taken)
+    (c .before .read24 .result) (c .before .read24 .ensures .0) (c .if3 .taken)
 
 walk-less-2 : tie.Need-walk-less-2 Inv-loop μ-loop Inv-walk μ-walk
 walk-less-2 c =
-    let l = c .before .before .before .before .before .before .before .before .before in
-    let m = l .before .before .before .before .args .m .now in
-    let n = next-place m (l .loop .at) (c .before .before .before .before .before .h2 .given .0 .0) (l .loop .inv .1 .inside)
-    (sym (c .before .before .before .before .before .before .before .head-at .ensures) ∙ c .before .before .before .before .before .h2 .given .1) in
+    let l = c .before .before .before .before .before .before .before .before .before .before in
+    let m = c .before .before .before .before .before .before .before .before .before .before .before .before .before .before .args .m .now in
+    let a = c .before .before .before .before .before .before .h2 .given .0 .0 in
+    let o : headAt m (l .loop .at) ≡ One a = sym (c .before .before .before .before .before .before .before .before .head-at .ensures) ∙ c .before .before .before .before .before .before .h2 .given .1 in
+    let n = next-place m (l .loop .at) a (l .loop .inv .1 .inside) o in
     omega (arith, n .0, n .1, l .loop .inv .0)
 
 walk-again-2 : tie.Need-walk-again-2 Inv-loop μ-loop Inv-walk μ-walk
 walk-again-2 c =
-    let l = c .before .before .before .before .before .before .before .before .before in
-    let m = l .before .before .before .before .args .m .now in
-    let a = c .before .before .before .before .before .h2 .given .0 .0 in
-    noted-again m (l .before .walk .index) (l .loop .at) a (l .loop .inv .1)
-    (sym (c .before .before .before .before .before .before .before .head-at .ensures) ∙ c .before .before .before .before .before .h2 .given .1)
-    (c .before .before .if2 .taken) (c .if3 .left)
+    let l = c .before .before .before .before .before .before .before .before .before .before in
+    let m = c .before .before .before .before .before .before .before .before .before .before .before .before .before .before .args .m .now in
+    let a = c .before .before .before .before .before .before .h2 .given .0 .0 in
+    noted-again m (l .before .walk .index) (l .loop .at) a (l .loop .inv .1) (sym (c .before .before .before .before .before .before .before .before .head-at .ensures) ∙ c .before .before .before .before .before .before .h2 .given .1) (c .before .before .before .if2 .taken)
+    (c .before .read24 .result) (c .before .read24 .ensures .0) (c .if3 .left)
 
 same-length : tie.Need-same-length Inv-loop μ-loop Inv-walk μ-walk
-same-length c =
-    omega (arith, c .before .loop .inv .1 .size, ap length (c .before .before .before .before .before .pre .1), length-zeros 14)
+same-length c = omega (arith, c .before .loop .inv .1 .size, ap length (c .before .before .before .before .before .pre .1), length-zeros 28)
 
 returns : tie.Need-returns Inv-loop μ-loop Inv-walk μ-walk
-returns c =
-    at-end (c .before .before .before .before .before .args .m .now) (c .before .before .walk .index) (c .before .loop .at) (c .before .loop .inv .1)
-    (c .if1 .taken)
+returns c = at-end (c .before .before .before .before .before .args .m .now) (c .before .before .walk .index) (c .before .loop .at) (c .before .loop .inv .1) (c .if1 .taken)
 
 same-length-2 : tie.Need-same-length-2 Inv-loop μ-loop Inv-walk μ-walk
-same-length-2 c =
-    omega (
-      arith,
-      c .before .before .before .before .before .loop .inv .1 .size,
-      ap length
-          (c .before .before .before .before .before .before .before .before .before .pre .1),
-      length-zeros 14,
-    )
+same-length-2 c = omega (arith, c .before .before .before .before .before .loop .inv .1 .size, ap length (c .before .before .before .before .before .before .before .before .before .pre .1), length-zeros 28)
 
 returns-2 : tie.Need-returns-2 Inv-loop μ-loop Inv-walk μ-walk
 returns-2 c =
-    at-bad (c .before .before .before .before .before .before .before .before .before .args .m .now)
-    (c .before .before .before .before .before .before .walk .index) (c .before .before .before .before .before .loop .at)
-    (c .before .h .given .0 .0) (c .before .before .before .before .before .loop .inv .1) (c .before .before .before .before .if1 .left)
+    at-bad (c .before .before .before .before .before .before .before .before .before .args .m .now) (c .before .before .before .before .before .before .walk .index) (c .before .before .before .before .before .loop .at) (c .before .h .given .0 .0) (c .before .before .before .before .before .loop .inv .1) (c .before .before .before .before .if1 .left)
     (sym (c .before .before .before .head-at .ensures) ∙ c .before .h .given .1)
 
 pub gather-spec : {M : Type 1} → statement M
@@ -156,12 +166,17 @@ gather-spec =
     enum-known-h-2
     loop-less
     loop-again
-    mul-if3
-    slice-read-if3
+    mul-seen
+    slice-read-seen
+    add-read24
+    read24-requires
+    add-index
     mul-index
     slice-write-index
     mul-index-2
     slice-write-index-2
+    mul-index-3
+    slice-write-index-3
     walk-less
     walk-again
     walk-less-2

@@ -1,28 +1,40 @@
--- The loop keeps the largest byte; that it is zero and the rest is zero stays the same answer.
-use mathlib.Core.Logic.{⊎-elim}
-use mathlib.Core.Bool.{_&&_, true, and-true}
-use lib.Dec.{eqb}
-use Rattle.octets.specs.Texts.{allZero}
-use Rattle.octets.proofs.Texts.{zero-step, zero-end, most-larger, most-stays}
+-- What has been gathered and the rest give the same answer: `zero-first`, `zero-turn`, `zero-last` of Words.
 use mathlib.Core.Path.{_≡_, sym, _∙_}
-use Prim.Native.Nat.{_+_, _-_, _≤_}
+use Prim.Native.Nat.{_+_, _-_, _/_, _≤_}
 use native.Mathlib.Omega.{arith}
-use lib.ListN.{length, getD, drop}
+use lib.ListN.{length, drop}
 use borrow.Author.Needs.{needs}
+use mathlib.Core.Bool.{_&&_}
+use lib.Dec.{eqb}
+use Rattle.octets.specs.Numbers.{low64}
+use Rattle.octets.specs.Texts.{allZero}
+use Rattle.octets.proofs.Words.{some-zero, zero-first, zero-last, zero-turn}
 use Rattle.octets.proofs.all_zero.Statement.{statement}
 use Rattle.octets.proofs.all_zero.Tie as tie
 
 abbrev Inv-loop : tie.InvT-loop
-Inv-loop s most₀ i₀ most i = (i ≤ length s) × (eqb most 0 && allZero (drop i s) ≡ allZero s)
+Inv-loop s n last some₀ i₀ some i = (i ≤ length s) × (last + 8 ≡ length s) × (some ≡ 0 → low64 s last ≡ 0) × (eqb some 0 && allZero (drop i s) ≡ allZero s)
 
 abbrev μ-loop : tie.MeasureT-loop
-μ-loop s most₀ i₀ most i = length s - i
+μ-loop s n last some₀ i₀ some i = length s - i
+
+zero-few-requires : tie.Need-zero-few-requires Inv-loop μ-loop
+zero-few-requires c κs = search needs
+
+returns : tie.Need-returns Inv-loop μ-loop
+returns c = search needs
+
+eight-requires : tie.Need-eight-requires Inv-loop μ-loop
+eight-requires c κs = search needs
 
 loop-holds : tie.Need-loop-holds Inv-loop μ-loop
-loop-holds c = search needs
+loop-holds c =
+    let s = c .before .before .before .args .s .now in
+    let w = c .eight in
+    (omega arith, omega arith, λ e. sym (w .ensures .0) ∙ e, zero-first s (length s - 8) (w .result) (omega arith) (w .ensures .0))
 
-shared-slice-read-x : tie.Need-shared-slice-read-x Inv-loop μ-loop
-shared-slice-read-x c = search needs
+eight-requires-2 : tie.Need-eight-requires-2 Inv-loop μ-loop
+eight-requires-2 c κs = search needs
 
 add-i : tie.Need-add-i Inv-loop μ-loop
 add-i c = search needs
@@ -32,27 +44,29 @@ loop-less c = search needs
 
 loop-again : tie.Need-loop-again Inv-loop μ-loop
 loop-again c =
-    let l = c .before .before .before in
-    let s = l .before .args .s .now in
-    let i = l .loop .i in
-    let most = l .loop .most in
-    let step : allZero (drop i s) ≡ eqb (getD s i 0) 0 && allZero (drop (i + 1) s) = zero-step s i (omega arith) in
-    let before : eqb most 0 && (eqb (getD s i 0) 0 && allZero (drop (i + 1) s)) ≡ allZero s = rw step at (l .loop .inv .1) in (
-      omega arith,
-      ⊎-elim
-          (λ w. rw (w .1) (most-larger most (getD s i 0) (allZero (drop (i + 1) s)) (w .0 .taken) ∙ before))
-          (λ w. rw (w .1) (most-stays most (getD s i 0) (allZero (drop (i + 1) s)) (w .0 .left) ∙ before))
-          (c .if1 .came),
-    )
+    let s = c .before .before .before .before .before .before .args .s .now in
+    let l = c .before .before .loop in
+    let w = c .eight2 in
+    (omega arith, omega arith, λ e. l .inv .2 (some-zero (l .some) (w .result) e), zero-turn s (l .i) (l .some) (w .result) (omega arith) (w .ensures .0) ∙ l .inv .3)
 
-returns : tie.Need-returns Inv-loop μ-loop
-returns c =
-    let l = c .before in
-    let s = l .before .args .s .now in
-    let none : allZero (drop (l .loop .i) s) ≡ true = zero-end s (l .loop .i) (omega arith) in
-    sym (and-true (eqb (l .loop .most) 0)) ∙ (rw none at (l .loop .inv .1))
+returns-2 : tie.Need-returns-2 Inv-loop μ-loop
+returns-2 c =
+    let s = c .before .before .before .before .before .args .s .now in
+    let l = c .before .loop in
+    sym (zero-last s (length s - 8) (l .i) (l .some) (omega arith) (omega arith) (l .inv .2)) ∙ l .inv .3
 
 pub all-zero-spec : {M : Type 1} → statement M
 all-zero-spec =
     tie.close
-    (tie.spec Inv-loop μ-loop loop-holds shared-slice-read-x add-i loop-less loop-again returns)
+    (tie.spec
+    Inv-loop
+    μ-loop
+    zero-few-requires
+    returns
+    eight-requires
+    loop-holds
+    eight-requires-2
+    add-i
+    loop-less
+    loop-again
+    returns-2)

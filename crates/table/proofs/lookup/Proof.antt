@@ -1,5 +1,5 @@
 -- The search from row i on finds what the lookup finds: `search-here`, `search-on` and `search-end` of Rows.
-use mathlib.Core.Path.{_∙_, _≡_, sym}
+use mathlib.Core.Path.{_∙_, _≡_, refl, sym}
 use mathlib.Core.Bool.{false, true}
 use Prim.Native.Nat.{_*_, _-_, _/_, _<_, _≤_}
 use native.Mathlib.Omega.{arith}
@@ -7,7 +7,7 @@ use lib.ListN.{length}
 use borrow.Author.Needs.{needs}
 use Rattle.table.specs.TheTable.{isRowOf, lookup, rowAt}
 use Rattle.table.proofs.Tests.{lent-length}
-use Rattle.table.proofs.Rows.{lent-test, rows-most, search-all, search-end, search-here, search-on, searched, whole-rows}
+use Rattle.table.proofs.Rows.{lent-test, rows-most, search-all, search-end, search-here, search-on, search-skip, searched, whole-rows}
 use Rattle.table.proofs.lookup.Statement.{statement}
 use Rattle.table.proofs.lookup.Tie as tie
 
@@ -20,13 +20,22 @@ abbrev μ-loop : tie.MeasureT-loop
 loop-holds : tie.Need-loop-holds Inv-loop μ-loop
 unfolding lookup
 loop-holds c =
-    let given = c .before .before .args in
-    (omega arith, omega arith, search-all (isRowOf (given .name .now)) (given .t .now))
+    let given = c .before .before .before .args in
+    let passed = c .rows-passed .ensures in
+    (refl, passed .0, search-skip (isRowOf (given .name .now)) (given .t .now) (c .rows-passed .result) (passed .0) (passed .1) ∙ search-all (isRowOf (given .name .now)) (given .t .now))
+
+rows-passed-requires : tie.Need-rows-passed-requires Inv-loop μ-loop
+rows-passed-requires c κs = search needs
+
+mul-at : tie.Need-mul-at Inv-loop μ-loop
+mul-at c =
+    let start = c .before .before .before in
+    omega (arith, rows-most (start .args .t .now) (start .pre), c .rows-passed .ensures .0)
 
 add-end : tie.Need-add-end Inv-loop μ-loop
 add-end c =
-    let given = c .before .before .before .before .args in
-    let pre-was = c .before .before .before .before .pre in
+    let given = c .before .before .before .before .before .args in
+    let pre-was = c .before .before .before .before .before .pre in
     omega (arith, whole-rows (given .t .now) pre-was)
 
 sub-is-row-of : tie.Need-sub-is-row-of Inv-loop μ-loop
@@ -34,61 +43,61 @@ sub-is-row-of c = search needs
 
 part-is-row-of-start : tie.Need-part-is-row-of-start Inv-loop μ-loop
 part-is-row-of-start c =
-    let given = c .before .before .before .before .args in
-    let pre-was = c .before .before .before .before .pre in
+    let given = c .before .before .before .before .before .args in
+    let pre-was = c .before .before .before .before .before .pre in
     omega (arith, whole-rows (given .t .now) pre-was)
 
 part-is-row-of-end : tie.Need-part-is-row-of-end Inv-loop μ-loop
 part-is-row-of-end c =
-    let given = c .before .before .before .before .args in
-    let pre-was = c .before .before .before .before .pre in
+    let given = c .before .before .before .before .before .args in
+    let pre-was = c .before .before .before .before .before .pre in
     omega (arith, whole-rows (given .t .now) pre-was)
 
 is-row-of-requires : tie.Need-is-row-of-requires Inv-loop μ-loop
 is-row-of-requires c κs =
-    let given = c .before .before .before .before .before .args in
+    let given = c .before .before .before .before .before .before .args in
     let loop-was = c .before .before .loop in
-    let pre-was = c .before .before .before .before .before .pre in
+    let pre-was = c .before .before .before .before .before .before .pre in
     lent-length (given .t .now) (loop-was .at) 4608 (omega (arith, whole-rows (given .t .now) pre-was))
 
 returns : tie.Need-returns Inv-loop μ-loop
 returns c =
-    let given = c .before .before .before .before .before .before .before .args in
+    let given = c .before .before .before .before .before .before .before .before .args in
     let loop-was = c .before .before .before .before .loop in
     let is-row-of-was = c .before .is-row-of in
     let test1 = c .if1 in
-    let pre-was = c .before .before .before .before .before .before .before .pre in
+    let pre-was = c .before .before .before .before .before .before .before .before .pre in
     let here : isRowOf (given .name .now) (rowAt (given .t .now) (loop-was .n)) ≡ true = lent-test (isRowOf (given .name .now)) (given .t .now) (loop-was .at) (loop-was .n) _ true (loop-was .inv .0) (is-row-of-was .ensures) (test1 .taken) in
     (sym (search-here (isRowOf (given .name .now)) (given .t .now) (loop-was .n) (omega (arith, whole-rows (given .t .now) pre-was)) here) ∙ loop-was .inv .2, omega (arith, whole-rows (given .t .now) pre-was))
 
 add-n : tie.Need-add-n Inv-loop μ-loop
 add-n c =
-    let given = c .before .before .before .before .before .before .before .args in
-    let pre-was = c .before .before .before .before .before .before .before .pre in
+    let given = c .before .before .before .before .before .before .before .before .args in
+    let pre-was = c .before .before .before .before .before .before .before .before .pre in
     omega (arith, rows-most (given .t .now) pre-was)
 
 loop-less : tie.Need-loop-less Inv-loop μ-loop
 loop-less c =
-    let given = c .before .before .before .before .before .before .before .args in
-    let pre-was = c .before .before .before .before .before .before .before .pre in
+    let given = c .before .before .before .before .before .before .before .before .args in
+    let pre-was = c .before .before .before .before .before .before .before .before .pre in
     omega (arith, whole-rows (given .t .now) pre-was)
 
 loop-again : tie.Need-loop-again Inv-loop μ-loop
 loop-again c =
-    let given = c .before .before .before .before .before .before .before .args in
+    let given = c .before .before .before .before .before .before .before .before .args in
     let loop-was = c .before .before .before .before .loop in
     let is-row-of-was = c .before .is-row-of in
     let test1 = c .if1 in
-    let pre-was = c .before .before .before .before .before .before .before .pre in
+    let pre-was = c .before .before .before .before .before .before .before .before .pre in
     let other : isRowOf (given .name .now) (rowAt (given .t .now) (loop-was .n)) ≡ false = lent-test (isRowOf (given .name .now)) (given .t .now) (loop-was .at) (loop-was .n) _ false (loop-was .inv .0) (is-row-of-was .ensures) (test1 .left) in
     let inside : loop-was .n < length (given .t .now) / 4608 = omega (arith, whole-rows (given .t .now) pre-was) in
     (omega arith, omega arith, search-on (isRowOf (given .name .now)) (given .t .now) (loop-was .n) inside other ∙ loop-was .inv .2)
 
 returns-2 : tie.Need-returns-2 Inv-loop μ-loop
 returns-2 c =
-    let given = c .before .before .before .before .args in
+    let given = c .before .before .before .before .before .args in
     let loop-was = c .before .loop in
-    let pre-was = c .before .before .before .before .pre in
+    let pre-was = c .before .before .before .before .before .pre in
     (sym (search-end (isRowOf (given .name .now)) (given .t .now) (loop-was .n) (omega (arith, whole-rows (given .t .now) pre-was))) ∙ loop-was .inv .2, omega arith)
 
 pub lookup-spec : {M : Type 1} → statement M
@@ -97,6 +106,8 @@ lookup-spec =
     (tie.spec
     Inv-loop
     μ-loop
+    rows-passed-requires
+    mul-at
     loop-holds
     add-end
     sub-is-row-of

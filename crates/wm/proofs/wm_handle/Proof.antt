@@ -1,7 +1,9 @@
--- What the request leaves, with its result in 32 bits.
-use mathlib.Core.Path.{ap}
+-- What the request leaves; its numbers fit 32 bits, by `small` of Small.
+use mathlib.Core.Path.{ap, subst, sym}
 use Rattle.decision.specs.Outcomes.{leaves}
-use Rattle.wm.specs.InC.{leavesInC, inC}
+use Rattle.wm.specs.InC.{leavesInC, In32}
+use Rattle.decision.specs.Calls.{Left}
+use Rattle.wm.proofs.Small.{small}
 use borrow.Author.Needs.{needs}
 use Rattle.wm.proofs.wm_handle.Statement.{statement}
 use Rattle.wm.proofs.wm_handle.Tie as tie
@@ -10,7 +12,11 @@ handle-requires : tie.Need-handle-requires
 handle-requires c κs = search needs
 
 outcome-in-c-requires : tie.Need-outcome-in-c-requires
-outcome-in-c-requires c κs = search needs
+unfolding leaves
+outcome-in-c-requires c κs =
+    let asked = c .before .before .before .before .before .before in
+    let given = asked .before .before .before .before .before .before .before .before .before .before .args in
+    subst In32 (sym (ap (λ (l : Left). l .reply .result) (asked .handle .ensures))) (small (given .table .now) (given .message .now) (given .host .now) (given .realm .now) (given .answer .now) (given .notice .now) (given .wag))
 
 same-length : tie.Need-same-length
 same-length c = search needs
@@ -22,10 +28,10 @@ same-length-3 : tie.Need-same-length-3
 same-length-3 c = search needs
 
 returns : tie.Need-returns
-unfolding leavesInC inC leaves
+unfolding leavesInC leaves
 returns c =
     let asked = c .before .before .before .before .before .before .before in
-    rw (c .outcome-in-c .ensures) (ap inC (asked .handle .ensures))
+    rw (c .outcome-in-c .ensures) (asked .handle .ensures)
 
 pub wm-handle-spec : {M : Type 1} → statement M
 wm-handle-spec =

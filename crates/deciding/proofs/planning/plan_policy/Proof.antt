@@ -1,6 +1,7 @@
 -- Each way out is the law of the test that failed, or of both having passed.
 use Rattle.octets.proofs.Lists.{both}
 use Rattle.deciding.specs.Plans.{fitPlan}
+use mathlib.Core.Bool.{true, false}
 use lib.Dec.{eqb}
 use borrow.Author.Tests.{eq-eqb, ne-eqb}
 use Rattle.table.specs.TheTable.{readRow}
@@ -38,8 +39,9 @@ returns-2 c =
     let s = readRow (a .row .now) in
     let session = a .session .now in
     let at : c .before .before .place-of .result ≡ placeOf (withSession session (s .accesses)) = c .before .before .place-of .ensures .0 in
-    let there : none (withSession session (s .accesses)) ≡ eqb (c .before .before .place-of .result) 0 = none-with (a .row .now) session (start .pre) ∙ ap (λ (k : ℕ). eqb k 0) (sym at) in (
-      λ host route. rw (c .if2 .taken, at) (sym (gateway-yes session route s (there ∙ ne-eqb _ 0 (c .before .if1 .left)))),
+    let there : none (withSession session (s .accesses)) ≡ eqb (c .before .before .place-of .result) 0 = none-with (a .row .now) session (start .pre) ∙ ap (λ (k : ℕ). eqb k 0) (sym at) in
+    let yes : a .wag ≡ true = c .if2 .taken in (
+      λ host route. rw (yes, at) (sym (gateway-yes session route s (there ∙ ne-eqb _ 0 (c .before .if1 .left)))),
       λ route w. rw (at, fit-place (a .row .now) (start .pre) session (λ z. c .before .if1 .left (at ∙ z)), w),
     )
 
@@ -51,8 +53,9 @@ returns-3 c =
     let s = readRow (a .row .now) in
     let session = a .session .now in
     let at : c .before .before .place-of .result ≡ placeOf (withSession session (s .accesses)) = c .before .before .place-of .ensures .0 in
-    let there : none (withSession session (s .accesses)) ≡ eqb (c .before .before .place-of .result) 0 = none-with (a .row .now) session (start .pre) ∙ ap (λ (k : ℕ). eqb k 0) (sym at) in (
-      λ host route. rw (c .if2 .left) (sym (gateway-no session route s (there ∙ ne-eqb _ 0 (c .before .if1 .left)))),
+    let there : none (withSession session (s .accesses)) ≡ eqb (c .before .before .place-of .result) 0 = none-with (a .row .now) session (start .pre) ∙ ap (λ (k : ℕ). eqb k 0) (sym at) in
+    let no : a .wag ≡ false = c .if2 .left in (
+      λ host route. rw no (sym (gateway-no session route s (there ∙ ne-eqb _ 0 (c .before .if1 .left)))),
       λ route w. refl,
     )
 

@@ -33,23 +33,23 @@ returns c =
 flags-of-requires : tie.Need-flags-of-requires
 flags-of-requires c κs = search needs
 
+roams-unasked-requires : tie.Need-roams-unasked-requires
+roams-unasked-requires c κs = search needs
+
 returns-2 : tie.Need-returns-2
 unfolding planned fitPlan
 returns-2 c =
-    let start = c .before .before .before .before .before .before .before in
+    let start = c .before .before .before .before .before .before .before .before in
     let a = start .args in
     let s = readRow (a .row .now) in
     let session = a .session .now in
     let label = a .label .now in
-    let named : c .before .before .before .entry-named .result ≡ entryNamed label s = c .before .before .before .entry-named .ensures .0 in
-    let entered : entryNamed label s ≡ 0 → ⊥ = λ z. c .before .before .if1 .left (named ∙ z) in
-    let flags : c .before .flags-of .result ≡ (entryAt (entryNamed label s) s) .flags = c .before .flags-of .ensures ∙ ap (λ (n : ℕ). (entryAt n s) .flags) named in (
+    let named : c .before .before .before .before .entry-named .result ≡ entryNamed label s = c .before .before .before .before .entry-named .ensures .0 in
+    let entered : entryNamed label s ≡ 0 → ⊥ = λ z. c .before .before .before .if1 .left (named ∙ z) in
+    let flags : c .before .before .flags-of .result ≡ (entryAt (entryNamed label s) s) .flags = c .before .before .flags-of .ensures ∙ ap (λ (n : ℕ). (entryAt n s) .flags) named in (
       λ host route. sym (is-barred session host label (a .visited) s entered (ap (λ (n : ℕ). n % 2) (sym flags) ∙ c .if2 .taken)),
       λ route. refl,
     )
-
-roams-unasked-requires : tie.Need-roams-unasked-requires
-roams-unasked-requires c κs = search needs
 
 returns-3 : tie.Need-returns-3
 unfolding planned mayRoam fitPlan
@@ -62,9 +62,9 @@ returns-3 c =
     let named : c .before .before .before .before .before .entry-named .result ≡ entryNamed label s = c .before .before .before .before .before .entry-named .ensures .0 in
     let entered : entryNamed label s ≡ 0 → ⊥ = λ z. c .before .before .before .before .if1 .left (named ∙ z) in
     let flags : c .before .before .before .flags-of .result ≡ (entryAt (entryNamed label s) s) .flags = c .before .before .before .flags-of .ensures ∙ ap (λ (n : ℕ). (entryAt n s) .flags) named in
-    let unbarred : (entryAt (entryNamed label s) s) .flags % 2 ≡ 1 → ⊥ = λ z. c .before .before .if2 .left (ap (λ (n : ℕ). n % 2) flags ∙ z) in
-    let roams : c .before .roams-unasked .result ≡ a .visited && not (mayRoam (entryAt (entryNamed label s) s)) =
-    c .before .roams-unasked .ensures ∙ ap (λ (n : ℕ). a .visited && not (eqb (n / 2 % 2) 1)) flags in (
+    let unbarred : (entryAt (entryNamed label s) s) .flags % 2 ≡ 1 → ⊥ = λ z. c .before .if2 .left (ap (λ (n : ℕ). n % 2) flags ∙ z) in
+    let roams : c .before .before .roams-unasked .result ≡ a .visited && not (mayRoam (entryAt (entryNamed label s) s)) =
+    c .before .before .roams-unasked .ensures ∙ ap (λ (n : ℕ). a .visited && not (eqb (n / 2 % 2) 1)) flags in (
       λ host route. sym (no-roaming session host label (a .visited) s entered unbarred (sym roams ∙ c .if3 .taken)),
       λ route. refl,
     )
@@ -83,9 +83,9 @@ returns-4 c =
     let named : c .before .before .before .before .before .before .before .entry-named .result ≡ entryNamed label s = c .before .before .before .before .before .before .before .entry-named .ensures .0 in
     let entered : entryNamed label s ≡ 0 → ⊥ = λ z. c .before .before .before .before .before .before .if1 .left (named ∙ z) in
     let flags : c .before .before .before .before .before .flags-of .result ≡ (entryAt (entryNamed label s) s) .flags = c .before .before .before .before .before .flags-of .ensures ∙ ap (λ (n : ℕ). (entryAt n s) .flags) named in
-    let unbarred : (entryAt (entryNamed label s) s) .flags % 2 ≡ 1 → ⊥ = λ z. c .before .before .before .before .if2 .left (ap (λ (n : ℕ). n % 2) flags ∙ z) in
-    let roams : c .before .before .before .roams-unasked .result ≡ a .visited && not (mayRoam (entryAt (entryNamed label s) s)) =
-    c .before .before .before .roams-unasked .ensures ∙ ap (λ (n : ℕ). a .visited && not (eqb (n / 2 % 2) 1)) flags in
+    let unbarred : (entryAt (entryNamed label s) s) .flags % 2 ≡ 1 → ⊥ = λ z. c .before .before .before .if2 .left (ap (λ (n : ℕ). n % 2) flags ∙ z) in
+    let roams : c .before .before .before .before .roams-unasked .result ≡ a .visited && not (mayRoam (entryAt (entryNamed label s) s)) =
+    c .before .before .before .before .roams-unasked .ensures ∙ ap (λ (n : ℕ). a .visited && not (eqb (n / 2 % 2) 1)) flags in
     let home : a .visited && not (mayRoam (entryAt (entryNamed label s) s)) ≡ false = sym roams ∙ c .before .before .if3 .left in
     let there : none (withSession session (s .accesses)) ≡ eqb (c .before .place-of .result) 0 =
     none-with (a .row .now) session (start .pre) ∙ ap (λ (k : ℕ). eqb k 0) (sym (c .before .place-of .ensures .0)) in (
@@ -107,9 +107,9 @@ returns-5 c =
     let named : c .before .before .before .before .before .before .before .before .entry-named .result ≡ entryNamed label s = c .before .before .before .before .before .before .before .before .entry-named .ensures .0 in
     let entered : entryNamed label s ≡ 0 → ⊥ = λ z. c .before .before .before .before .before .before .before .if1 .left (named ∙ z) in
     let flags : c .before .before .before .before .before .before .flags-of .result ≡ (entryAt (entryNamed label s) s) .flags = c .before .before .before .before .before .before .flags-of .ensures ∙ ap (λ (n : ℕ). (entryAt n s) .flags) named in
-    let unbarred : (entryAt (entryNamed label s) s) .flags % 2 ≡ 1 → ⊥ = λ z. c .before .before .before .before .before .if2 .left (ap (λ (n : ℕ). n % 2) flags ∙ z) in
-    let roams : c .before .before .before .before .roams-unasked .result ≡ a .visited && not (mayRoam (entryAt (entryNamed label s) s)) =
-    c .before .before .before .before .roams-unasked .ensures ∙ ap (λ (n : ℕ). a .visited && not (eqb (n / 2 % 2) 1)) flags in
+    let unbarred : (entryAt (entryNamed label s) s) .flags % 2 ≡ 1 → ⊥ = λ z. c .before .before .before .before .if2 .left (ap (λ (n : ℕ). n % 2) flags ∙ z) in
+    let roams : c .before .before .before .before .before .roams-unasked .result ≡ a .visited && not (mayRoam (entryAt (entryNamed label s) s)) =
+    c .before .before .before .before .before .roams-unasked .ensures ∙ ap (λ (n : ℕ). a .visited && not (eqb (n / 2 % 2) 1)) flags in
     let home : a .visited && not (mayRoam (entryAt (entryNamed label s) s)) ≡ false = sym roams ∙ c .before .before .before .if3 .left in
     let there : none (withSession session (s .accesses)) ≡ eqb (c .before .before .place-of .result) 0 =
     none-with (a .row .now) session (start .pre) ∙ ap (λ (k : ℕ). eqb k 0) (sym (c .before .before .place-of .ensures .0)) in (
@@ -126,8 +126,8 @@ plan-tunnel-spec =
     entry-named-requires
     returns
     flags-of-requires
-    returns-2
     roams-unasked-requires
+    returns-2
     returns-3
     place-of-requires
     returns-4

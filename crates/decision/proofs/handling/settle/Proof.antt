@@ -18,6 +18,31 @@ use borrow.Author.Needs.{needs}
 use Rattle.decision.proofs.handling.settle.Statement.{statement}
 use Rattle.decision.proofs.handling.settle.Tie as tie
 
+returns : tie.Need-returns
+returns c =
+    let start = c .before .before .before .before .before .before .before .before .before .before .before .before .before .before .before .before .before .before .before .before .before .before .before .before .before .before .before .before in
+    let a = start .args in
+    let m = a .m .now in
+    let session = c .before .before .before .before .before .before .before .before .before .before .before .before .before .before .before .before .before .text .ensures ∙ c .before .before .before .before .before .before .before .before .before .before .before .before .before .before .before .before .before .before .session-span .ensures m .0 in
+    let gateway = c .before .before .before .before .before .before .before .before .before .before .before .before .before .before .before .text2 .ensures ∙ c .before .before .before .before .before .before .before .before .before .before .before .before .before .before .before .before .host-span .ensures m .0 in
+    let route = c .before .before .before .before .before .before .before .before .before .before .before .before .before .text3 .ensures ∙ c .before .before .before .before .before .before .before .before .before .before .before .before .before .before .route-span .ensures m .0 in
+    let row = lent-row (a .table .now) (4608 * a .i) (a .i) refl in
+    let plan = c .before .before .before .before .before .before .before .before .before .before .before .before .before .before .before .before .before .before .before .plan-for .result in
+    let s = readRow (rowAt (a .table .now) (a .i)) in
+    let v = decide (asks m (a .asked)) (a .wag) s in
+    let carried = c .before .before .before .before .before .before .before .before .before .before .carry .ensures in
+    let answered = c .before .before .answer-call .ensures in
+    let by : planned (sessionText m (a .asked)) (hostText m (a .asked)) (routeText m (a .asked)) plan s ≡ v = rw row at (c .before .before .before .before .before .before .before .before .before .before .before .before .before .before .before .before .before .before .before .plan-for .ensures .0) in
+    let is : planned (c .before .before .before .before .before .before .before .before .before .before .before .before .before .before .before .before .before .text .result .now) (c .before .before .before .before .before .before .before .before .before .before .before .before .before .before .before .text2 .result .now) (c .before .before .before .before .before .before .before .before .before .before .before .before .before .text3 .result .now) plan s ≡ v =
+    (λ j. planned (session j) (gateway j) (route j) plan s) ∙ by in
+    let kind = c .before .before .before .before .before .kind-of .ensures in
+    let code = c .before .before .before .before .code-of .ensures in
+    let coded : v .code ≡ codeFrom (c .before .before .before .before .before .kind-of .result) (c .before .before .before .before .code-of .result) =
+    ap (λ (x : Verdict). x .code) (sym by) ∙ plan-code (sessionText m (a .asked)) (hostText m (a .asked)) (routeText m (a .asked)) plan s ∙ (λ j. codeFrom (sym kind j) (sym code j)) in
+    settled-is (a .table .now) (a .i) m (a .host .now) (a .realm .now) (a .room .now) (a .notice .now) (a .wag) v (c .before .before .before .before .before .kind-of .result) (c .before .before .before .before .code-of .result) (c .before .before .before .before .before .before .before .before .before .before .carry .result) _ _ _ _
+    coded (carried .0 ∙ ap (tableAfter (a .table .now) (a .i)) is) (carried .1 ∙ ap (λ (x : Verdict). noticeRoom (x .cut) (a .notice .now)) is) (carried .2 ∙ ap doneFor is)
+    (answered .0) (answered .1)
+
 mul-a : tie.Need-mul-a
 mul-a c = search needs
 
@@ -113,31 +138,6 @@ same-length-2 c = search needs
 
 same-length-3 : tie.Need-same-length-3
 same-length-3 c = search needs
-
-returns : tie.Need-returns
-returns c =
-    let start = c .before .before .before .before .before .before .before .before .before .before .before .before .before .before .before .before .before .before .before .before .before .before .before .before .before .before .before .before in
-    let a = start .args in
-    let m = a .m .now in
-    let session = c .before .before .before .before .before .before .before .before .before .before .before .before .before .before .before .before .before .text .ensures ∙ c .before .before .before .before .before .before .before .before .before .before .before .before .before .before .before .before .before .before .session-span .ensures m .0 in
-    let gateway = c .before .before .before .before .before .before .before .before .before .before .before .before .before .before .before .text2 .ensures ∙ c .before .before .before .before .before .before .before .before .before .before .before .before .before .before .before .before .host-span .ensures m .0 in
-    let route = c .before .before .before .before .before .before .before .before .before .before .before .before .before .text3 .ensures ∙ c .before .before .before .before .before .before .before .before .before .before .before .before .before .before .route-span .ensures m .0 in
-    let row = lent-row (a .table .now) (4608 * a .i) (a .i) refl in
-    let plan = c .before .before .before .before .before .before .before .before .before .before .before .before .before .before .before .before .before .before .before .plan-for .result in
-    let s = readRow (rowAt (a .table .now) (a .i)) in
-    let v = decide (asks m (a .asked)) (a .wag) s in
-    let carried = c .before .before .before .before .before .before .before .before .before .before .carry .ensures in
-    let answered = c .before .before .answer-call .ensures in
-    let by : planned (sessionText m (a .asked)) (hostText m (a .asked)) (routeText m (a .asked)) plan s ≡ v = rw row at (c .before .before .before .before .before .before .before .before .before .before .before .before .before .before .before .before .before .before .before .plan-for .ensures .0) in
-    let is : planned (c .before .before .before .before .before .before .before .before .before .before .before .before .before .before .before .before .before .text .result .now) (c .before .before .before .before .before .before .before .before .before .before .before .before .before .before .before .text2 .result .now) (c .before .before .before .before .before .before .before .before .before .before .before .before .before .text3 .result .now) plan s ≡ v =
-    (λ j. planned (session j) (gateway j) (route j) plan s) ∙ by in
-    let kind = c .before .before .before .before .before .kind-of .ensures in
-    let code = c .before .before .before .before .code-of .ensures in
-    let coded : v .code ≡ codeFrom (c .before .before .before .before .before .kind-of .result) (c .before .before .before .before .code-of .result) =
-    ap (λ (x : Verdict). x .code) (sym by) ∙ plan-code (sessionText m (a .asked)) (hostText m (a .asked)) (routeText m (a .asked)) plan s ∙ (λ j. codeFrom (sym kind j) (sym code j)) in
-    settled-is (a .table .now) (a .i) m (a .host .now) (a .realm .now) (a .room .now) (a .notice .now) (a .wag) v (c .before .before .before .before .before .kind-of .result) (c .before .before .before .before .code-of .result) (c .before .before .before .before .before .before .before .before .before .before .carry .result) _ _ _ _
-    coded (carried .0 ∙ ap (tableAfter (a .table .now) (a .i)) is) (carried .1 ∙ ap (λ (x : Verdict). noticeRoom (x .cut) (a .notice .now)) is) (carried .2 ∙ ap doneFor is)
-    (answered .0) (answered .1)
 
 pub settle-spec : {M : Type 1} → statement M
 settle-spec =

@@ -1,0 +1,392 @@
+/* Runs the proved library and the plain C of server.c on the same calls.
+ *
+ *   driver lines                   the names of the lines
+ *   driver check                   every line and both libraries: outcomes, tables, answer and notice rooms are the same, and
+ *                                  the outcome is the one expected
+ *   driver mix CALLS SEED          the same on calls by chance (mix.c)
+ *   driver answers FILE CALLS      the proved library's answers to such calls, one behind the other, into a file
+ *   driver count LINE LIBRARY N    N calls of one line, for the counting of instructions; LIBRARY is proved, plain or none
+ *   driver time                    one table of time ratios, the libraries measured in turn
+ */
+#include "requests.h"
+
+int printf(const char *, ...);
+int strcmp(const char *, const char *);
+unsigned long strtoul(const char *, char **, int);
+struct timespec {
+    long tv_sec, tv_nsec;
+};
+int clock_gettime(int, struct timespec *);
+int mix(uint32_t calls, uint64_t seed, const char *answers);
+enum { CLOCK_MONOTONIC = 1 };
+
+enum { ROWS = 1024, MESSAGES = 12 };
+
+typedef struct wm_outcome handle_function(uint8_t *, size_t, const uint8_t *, size_t, const uint8_t *, size_t,
+                                          const uint8_t *, size_t, bool, uint8_t *, size_t, uint8_t *, size_t);
+
+/* What a call costs without a library: the loop around it. */
+static struct wm_outcome none_handle(uint8_t *t, size_t tl, const uint8_t *h, size_t hl, const uint8_t *r, size_t rl,
+                                     const uint8_t *m, size_t ml, bool w, uint8_t *a, size_t al, uint8_t *n, size_t nl) {
+    (void)t, (void)tl, (void)h, (void)hl, (void)r, (void)rl, (void)m, (void)ml, (void)w, (void)a, (void)al, (void)n, (void)nl;
+    return (struct wm_outcome){0};
+}
+
+/* volatile: the compiler must not see which function it is, or it takes the loop around the empty one away. */
+static const struct {
+    const char *name;
+    handle_function *volatile handle;
+} libraries[3] = {{"proved", wm_handle}, {"plain", plain_handle}, {"none", none_handle}};
+
+/* Everything that a library is lent. */
+struct lent {
+    uint8_t table[ROWS * WM_ROW], answer[WM_ANSWER_LEAST], notice[WM_NOTICE_LEAST];
+};
+static struct lent lent[2];
+static uint8_t saved[WM_ROW]; /* the subscriber's row as it was set up */
+
+static struct request messages[MESSAGES];
+
+static const char host[] = "aaa1.wlan.mnc001.mcc001.3gppnetwork.org", realm[] = "wlan.mnc001.mcc001.3gppnetwork.org";
+static const char gateway[] = "pdg1.wlan.mnc001.mcc001.3gppnetwork.org", label[] = "internet.operator.example";
+
+/* ---- messages ---- */
+
+/* The usual Session-Id: the gateway's name, two numbers and a mark, 72 bytes; `number` tells them apart. */
+static void put_session(struct request *r, uint32_t number) {
+    char text[] = "pdg1.wlan.mnc001.mcc001.3gppnetwork.org;3402123456;0000000000;tunnel-aaa";
+    for (size_t i = strlen(text) - 12; number != 0; i--, number /= 10)
+        text[i] = (char)('0' + number % 10);
+    put_text(r, 263, text);
+}
+
+/* Names of 15 digits that differ in the last ones. */
+static const uint8_t *name_of(uint32_t row) {
+    static uint8_t name[15];
+    memcpy(name, "001010123450000", 15);
+    for (size_t i = 14; row != 0; i--, row /= 10)
+        name[i] = (uint8_t)('0' + row % 10);
+    return name;
+}
+
+static void put_common(struct request *r, uint32_t session, bool termination) {
+    put_session(r, session);
+    put_value(r, 258, false, 1);
+    put_text(r, 264, gateway);
+    put_text(r, 296, realm);
+    put_text(r, 283, realm);
+    put_value(r, termination ? 295 : 274, false, termination ? 1 : 2);
+    put_text(r, 293, host);
+}
+
+/* 388 bytes. */
+static void put_opening(uint32_t i, uint32_t session, uint32_t row) {
+    struct request *r = &messages[i];
+    start(r, 0xC0, 265, 1, i);
+    put_common(r, session, false);
+    put_avp(r, 1, false, name_of(row), 15);
+    put_value(r, 311, true, 0);
+    put_avp(r, 100, true, label, sizeof label - 1);
+    finish(r);
+}
+
+static void put_policy(uint32_t i, uint32_t session, uint32_t row, const char *policy) {
+    struct request *r = &messages[i];
+    start(r, 0xC0, 265, 1, i);
+    put_common(r, session, false);
+    put_avp(r, 1, false, name_of(row), 15);
+    put_value(r, 311, true, 1);
+    put_avp(r, 312, true, policy, strlen(policy));
+    finish(r);
+}
+
+static void put_termination(uint32_t i, uint32_t session, uint32_t row) {
+    struct request *r = &messages[i];
+    start(r, 0xC0, 275, 1, i);
+    put_common(r, session, true);
+    put_avp(r, 1, false, name_of(row), 15);
+    put_avp(r, 100, true, label, sizeof label - 1);
+    finish(r);
+}
+
+/* ---- lines ---- */
+
+/* restore: the subscriber's row is set back before each call. */
+struct line {
+    const char *name;
+    void (*set_up)(void);
+    uint32_t rows, messages;
+    bool restore;
+    struct wm_outcome expected; /* length 0: not looked at */
+};
+
+static uint8_t *table;
+static uint32_t rows;
+
+/* Subscribers in every row; the last one has two W-APNs, the first with `limit` places, of which `open` are in use. */
+static void subscribers(uint8_t limit, uint32_t open) {
+    static uint8_t answer[WM_ANSWER_LEAST], notice[WM_NOTICE_LEAST];
+    plain_clear(table, rows * WM_ROW);
+    for (uint32_t i = 0; i < rows; i++)
+        plain_enter(table + i * WM_ROW, WM_ROW, name_of(i), 15);
+    uint8_t *row = table + (rows - 1) * WM_ROW;
+    plain_add(row, WM_ROW, name_of(rows - 1), 15, (const uint8_t *)label, sizeof label - 1, limit, 2);
+    if (limit < 8)
+        plain_add(row, WM_ROW, name_of(rows - 1), 15, (const uint8_t *)"corporate.example", 17, 1, 0);
+    for (uint32_t i = 0; i < open; i++) {
+        put_opening(0, i, rows - 1);
+        plain_handle(row, WM_ROW, (const uint8_t *)host, sizeof host - 1, (const uint8_t *)realm, sizeof realm - 1,
+                     messages[0].bytes, messages[0].length, true, answer, sizeof answer, notice, sizeof notice);
+    }
+}
+
+/* Twelve sessions in turn: each opening cuts the oldest one, and the row is in the same state after twelve. */
+static void openings(uint32_t open) {
+    for (uint32_t i = 0; i < MESSAGES; i++)
+        put_opening(i, (open + i) % MESSAGES, rows - 1);
+}
+
+static void cutting(void) {
+    subscribers(2, 2);
+    openings(2);
+}
+
+static void cutting_full(void) {
+    subscribers(8, 8);
+    openings(8);
+}
+
+static void opening_first(void) {
+    subscribers(2, 0);
+    openings(0);
+}
+
+static void policies(void) {
+    subscribers(2, 2);
+    put_policy(0, 1, rows - 1, "permit out 50 from 10.20.30.40 to 192.0.2.0/24");
+    put_policy(1, 1, rows - 1, "permit in 50 from 192.0.2.0/24 to 10.20.30.40 4500");
+}
+
+static void terminations(void) {
+    subscribers(2, 2);
+    put_termination(0, 0, rows - 1);
+}
+
+static void wrong_header(void) {
+    cutting();
+    messages[0].bytes[4] |= 1;
+}
+
+static void wrong_length(void) {
+    cutting();
+    messages[0].bytes[3] ^= 4;
+}
+
+/* The last AVP that is asked for, the W-APN, has another vendor. */
+static void no_label(void) {
+    cutting();
+    messages[0].bytes[messages[0].length - 29] ^= 1;
+}
+
+static void bare(void) {
+    cutting();
+    start(&messages[0], 0xC0, 265, 1, 0);
+    finish(&messages[0]);
+}
+
+static void put_tiny(struct request *r) {
+    while (r->length + 8 <= MESSAGE_MOST)
+        put_avp(r, 33, false, "", 0);
+    finish(r);
+}
+
+static void tiny_refused(void) {
+    cutting();
+    start(&messages[0], 0xC0, 265, 1, 0);
+    put_tiny(&messages[0]);
+}
+
+static void tiny_opened(void) {
+    cutting();
+    for (size_t i = 0; i < MESSAGES; i++)
+        put_tiny(&messages[i]);
+}
+
+/* Proxy-Infos, each followed by a Route-Record where they stand apart. */
+static void put_proxies(size_t count, bool apart) {
+    cutting();
+    for (struct request *r = messages; r < messages + MESSAGES; r++) {
+        for (size_t i = 0; i < count; i++) {
+            put_proxy_info(r);
+            if (apart)
+                put_text(r, 282, "relay.example.org");
+        }
+        finish(r);
+    }
+}
+
+static void many_proxies(void) {
+    put_proxies(64, false);
+}
+
+static void proxies_apart(void) {
+    put_proxies(40, true);
+}
+
+static void unknown(void) {
+    cutting();
+    put_opening(0, 3, rows);
+}
+
+/* A byte of the newest access's Session-Id is another. */
+static void unsound(void) {
+    cutting();
+    table[(rows - 1) * WM_ROW + 2 * 512 + 8 + 70] ^= 1;
+}
+
+static const struct line lines[] = {
+    {"opening with a cut, 1 row", cutting, 1, MESSAGES, false, {2001, 1, 0, 0, 1, 72, 39}},
+    {"opening with a cut, 64 rows", cutting, 64, MESSAGES, false, {2001, 1, 0, 0, 1, 72, 39}},
+    {"opening with a cut, 1,024 rows", cutting, 1024, MESSAGES, false, {2001, 1, 0, 0, 1, 72, 39}},
+    {"opening with a cut, 8 accesses", cutting_full, 1, MESSAGES, false, {2001, 1, 0, 0, 1, 72, 39}},
+    {"opening without a cut, 1 row", opening_first, 1, MESSAGES, true, {2001, 1, 0, 1, 0, 0, 0}},
+    {"opening without a cut, 1,024 rows", opening_first, 1024, MESSAGES, true, {2001, 1, 0, 1, 0, 0, 0}},
+    {"policy", policies, 1, 2, false, {2001, 1, 0, 0, 0, 0, 0}},
+    {"termination", terminations, 1, 1, true, {2001, 1, 0, 0, 0, 0, 0}},
+    {"refused: number 7", wrong_length, 1, 1, false, {7, 0, 0, 0, 0, 0, 0}},
+    {"refused: header flags", wrong_header, 1, 1, false, {5013, 1, 0, 0, 0, 0, 0}},
+    {"refused: bare header", bare, 1, 1, false, {5005, 1, 0, 0, 0, 0, 0}},
+    {"refused: no W-APN", no_label, 1, 1, false, {5005, 1, 0, 0, 0, 0, 0}},
+    {"refused: 509 AVPs of 8 bytes", tiny_refused, 1, 1, false, {5005, 1, 0, 0, 0, 0, 0}},
+    {"opening with a cut, 463 more AVPs", tiny_opened, 1, MESSAGES, false, {2001, 1, 0, 0, 1, 72, 39}},
+    {"opening with a cut, 64 Proxy-Infos", many_proxies, 1, MESSAGES, false, {2001, 1, 0, 0, 1, 72, 39}},
+    {"opening with a cut, 40 Proxy-Infos apart", proxies_apart, 1, MESSAGES, false, {2001, 1, 0, 0, 1, 72, 39}},
+    {"unknown user, 1,024 rows", unknown, 1024, 1, false, {5001, 2, 0, 0, 0, 0, 0}},
+    {"unsound row", unsound, 1, 1, false, {5012, 1, 0, 0, 0, 0, 0}},
+};
+enum { LINES = sizeof lines / sizeof *lines };
+
+static void set_up(const struct line *line) {
+    table = lent[0].table;
+    rows = line->rows;
+    line->set_up();
+    memcpy(saved, table + (rows - 1) * WM_ROW, WM_ROW);
+    memcpy(lent[1].table, table, rows * WM_ROW);
+    for (size_t i = 0; i < 2; i++) {
+        memset(lent[i].answer, 0xA5, sizeof lent[i].answer);
+        memset(lent[i].notice, 0x5A, sizeof lent[i].notice);
+    }
+}
+
+static inline struct wm_outcome call(handle_function *handle, struct lent *l, const struct line *line, size_t i) {
+    if (line->restore)
+        memcpy(l->table + (line->rows - 1) * WM_ROW, saved, WM_ROW);
+    return handle(l->table, line->rows * WM_ROW, (const uint8_t *)host, sizeof host - 1, (const uint8_t *)realm,
+                  sizeof realm - 1, messages[i].bytes, messages[i].length, true, l->answer, sizeof l->answer, l->notice,
+                  sizeof l->notice);
+}
+
+/* ---- checking ---- */
+
+static bool same_lent(uint32_t of_rows) {
+    return memcmp(lent[0].table, lent[1].table, of_rows * WM_ROW) == 0 &&
+           memcmp(lent[0].answer, lent[1].answer, sizeof lent[0].answer) == 0 &&
+           memcmp(lent[0].notice, lent[1].notice, sizeof lent[0].notice) == 0;
+}
+
+static bool as_expected(const struct wm_outcome *o, const struct wm_outcome *e) {
+    return o->code == e->code && o->kind == e->kind && o->cut == e->cut && o->cut_session == e->cut_session &&
+           o->cut_host == e->cut_host && (e->place == 0 || o->place == e->place) && (e->kind != 0) == (o->length >= 20);
+}
+
+static void say(const char *who, const struct wm_outcome *o) {
+    printf("  %s: code %u, kind %u, length %u, place %u, cut %u, lengths %u and %u\n", who, o->code, o->kind, o->length,
+           o->place, o->cut, o->cut_session, o->cut_host);
+}
+
+/* One call of each library: true if all is the same. */
+static bool agree(const struct line *line, size_t i, struct wm_outcome *o) {
+    struct wm_outcome other = call(libraries[1].handle, &lent[1], line, i);
+    *o = call(libraries[0].handle, &lent[0], line, i);
+    if (memcmp(o, &other, sizeof other) == 0 && same_lent(line->rows))
+        return true;
+    printf("the libraries differ:\n");
+    say("proved", o);
+    say("plain", &other);
+    return false;
+}
+
+static int check(void) {
+    uint32_t calls = 0, failed = 0;
+    for (const struct line *line = lines; line < lines + LINES; line++) {
+        set_up(line);
+        for (size_t i = 0; i < 3 * MESSAGES; i++, calls++) {
+            struct wm_outcome o;
+            if (agree(line, i % line->messages, &o) && as_expected(&o, &line->expected))
+                continue;
+            printf("%s, call %zu: not as expected\n", line->name, i);
+            say("proved", &o);
+            failed++;
+            break;
+        }
+    }
+    printf("check: %u calls on %u lines, %u failed\n", calls, (uint32_t)LINES, failed);
+    return failed != 0;
+}
+
+/* ---- measuring ---- */
+
+static uint32_t run(const struct line *line, handle_function *handle, struct lent *l, uint32_t calls) {
+    uint32_t sum = 0;
+    for (uint32_t n = 0, i = 0; n < calls; n++, i = i + 1 < line->messages ? i + 1 : 0)
+        sum += call(handle, l, line, i).length;
+    return sum;
+}
+
+static double seconds(void) {
+    struct timespec t;
+    clock_gettime(CLOCK_MONOTONIC, &t);
+    return (double)t.tv_sec + (double)t.tv_nsec / 1e9;
+}
+
+/* The shortest of many short runs for each, the libraries in turn; the loop around the call taken off. */
+static void time_line(const struct line *line) {
+    double best[3] = {1e9, 1e9, 1e9};
+    set_up(line);
+    for (uint32_t turn = 0; turn < 60; turn++)
+        for (size_t k = 0; k < 3; k++) {
+            double from = seconds();
+            run(line, libraries[k].handle, &lent[k % 2], 50 * MESSAGES);
+            double took = (seconds() - from) / (50 * MESSAGES);
+            best[k] = took < best[k] ? took : best[k];
+        }
+    double proved = best[0] - best[2], plain = best[1] - best[2];
+    printf("%s\t%.0f\t%.0f\t%.2f\n", line->name, proved * 1e9, plain * 1e9, proved / plain);
+}
+
+int main(int count, char **words) {
+    const char *what = count > 1 ? words[1] : "";
+    if (!strcmp(what, "lines"))
+        for (size_t i = 0; i < LINES; i++)
+            printf("%s\n", lines[i].name);
+    else if (!strcmp(what, "check"))
+        return check();
+    else if (!strcmp(what, "mix") && count == 4)
+        return mix((uint32_t)strtoul(words[2], 0, 10), strtoul(words[3], 0, 10), 0);
+    else if (!strcmp(what, "answers") && count == 4)
+        return mix((uint32_t)strtoul(words[3], 0, 10), 1, words[2]);
+    else if (!strcmp(what, "time"))
+        for (size_t i = 0; i < LINES; i++)
+            time_line(&lines[i]);
+    else if (!strcmp(what, "count") && count == 5) {
+        const struct line *line = &lines[strtoul(words[2], 0, 10) % LINES];
+        set_up(line);
+        for (size_t k = 0; k < 3; k++)
+            if (!strcmp(words[3], libraries[k].name))
+                printf("%u\n", run(line, libraries[k].handle, &lent[0], (uint32_t)strtoul(words[4], 0, 10)));
+    } else {
+        printf("driver: lines, check, mix CALLS SEED, answers FILE CALLS, count LINE LIBRARY N, or time\n");
+        return 2;
+    }
+    return 0;
+}

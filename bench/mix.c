@@ -1,0 +1,258 @@
+/* Calls by chance: set-up operations and requests, good and damaged, on tables that live on. After each one both libraries must
+ * have given the same and left the same bytes everywhere. */
+#include "requests.h"
+
+int printf(const char *, ...);
+typedef struct file FILE;
+FILE *fopen(const char *, const char *);
+size_t fwrite(const void *, size_t, size_t, FILE *);
+int fclose(FILE *);
+
+enum { ROWS = 4, ANSWER = WM_ANSWER_LEAST + 64, NOTICE = WM_NOTICE_LEAST + 64 };
+
+static struct side {
+    uint8_t table[ROWS * WM_ROW], answer[ANSWER], notice[NOTICE];
+} proved, plain;
+
+static uint64_t seed;
+
+static uint32_t below(uint32_t n) {
+    seed = seed * 6364136223846793005u + 1442695040888963407u;
+    return (uint32_t)(seed >> 33) % n;
+}
+
+static bool one_in(uint32_t n) {
+    return below(n) == 0;
+}
+
+struct text {
+    const char *bytes;
+    size_t length;
+};
+#define TEXT(s) {s, sizeof(s) - 1}
+#define TEN "abcdefghij"
+#define HUNDRED TEN TEN TEN TEN TEN TEN TEN TEN TEN TEN
+#define GATEWAY "pdg1.wlan.mnc001.mcc001.3gppnetwork.org"
+
+/* The last ones of each are wrong in one way or another. */
+static const struct text names[] = {TEXT("1"),         TEXT("12345"),           TEXT("12346"),           TEXT("123456"),
+                                    TEXT("223456"),    TEXT("001010123456789"), TEXT("001010123456780"), TEXT(""),
+                                    TEXT("12a"),       TEXT("0010101234567890"), TEXT(HUNDRED),          TEXT(HUNDRED HUNDRED)};
+static const struct text labels[] = {TEXT("a"),  TEXT("board"), TEXT("yard"),   TEXT("internet.operator.example"),
+                                     TEXT("b"),  TEXT("Board"), TEXT(HUNDRED), TEXT(""),
+                                     TEXT(HUNDRED "k")};
+static const struct text sessions[] = {
+    TEXT("s"),          TEXT("t"),          TEXT("session"),    TEXT("sessions"),      TEXT(GATEWAY ";1;1"),
+    TEXT(GATEWAY ";1;2"), TEXT(GATEWAY ";2;1"), TEXT(HUNDRED TEN TEN "abcdefg"), TEXT(HUNDRED TEN TEN "abcdefgh"),
+    TEXT(HUNDRED TEN TEN "abcdefgi"), TEXT(""), TEXT(HUNDRED TEN TEN "abcdefghi")};
+static const struct text texts[] = {TEXT(GATEWAY), TEXT("x"), TEXT("relay.example.org"), TEXT(HUNDRED TEN TEN "abcdefgh"), TEXT(""),
+                                    TEXT(HUNDRED TEN TEN "abcdefghi")};
+
+/* Mostly one of the right ones. */
+#define PICK(of) pick(of, sizeof of / sizeof *of)
+static const struct text *pick(const struct text *of, uint32_t count) {
+    return &of[one_in(40) ? below(count) : below(count - 2 < 7 ? count - 2 : 7)];
+}
+
+/* Where the answers are for another decoder: requests are wrong in their fields only, commands are known ones, and a
+ * subscriber's name is as long as an IMSI is. */
+static bool decoded;
+
+static const struct text *pick_name(void) {
+    return decoded && !one_in(40) ? &names[3 + below(4)] : PICK(names);
+}
+
+/* ---- a request ---- */
+
+/* A field of the list: now and then it is absent, twice there, of another vendor, or as long as it must not be. */
+static void field(struct request *r, uint32_t code, bool of_3gpp, const void *value, size_t length) {
+    uint32_t chance = below(400);
+    if (chance == 0)
+        return;
+    put_avp(r, code, chance == 1 ? !of_3gpp : of_3gpp, value, chance == 2 ? length / 2 : length);
+    if (chance == 3)
+        put_avp(r, code, of_3gpp, value, length);
+}
+
+static void text_field(struct request *r, uint32_t code, bool of_3gpp, const struct text *t) {
+    field(r, code, of_3gpp, t->bytes, t->length);
+}
+
+static void value_field(struct request *r, uint32_t code, bool of_3gpp, uint32_t n) {
+    uint8_t value[4] = {one_in(400), 0, 0, (uint8_t)(one_in(100) ? below(12) : n)};
+    field(r, code, of_3gpp, value, 4);
+}
+
+static void other(struct request *r) {
+    while (one_in(3) && r->length < 2000) {
+        if (one_in(2))
+            put_proxy_info(r);
+        else
+            put_text(r, one_in(2) ? 282 : 33, one_in(2) ? "relay.example.org" : "");
+    }
+}
+
+/* Fields in a turned order behind Session-Id: `turn` is the one that comes first. */
+static void fields(struct request *r, bool termination, uint32_t type) {
+    uint32_t count = termination ? 8 : 11, turn = one_in(3) ? below(count) : 0;
+    for (uint32_t i = 0; i < count; i++) {
+        other(r);
+        switch ((i + turn) % count) {
+        case 0:
+            value_field(r, 258, false, 1);
+            break;
+        case 1:
+            text_field(r, 264, false, PICK(texts));
+            break;
+        case 2:
+            text_field(r, 296, false, PICK(texts));
+            break;
+        case 3:
+            text_field(r, 283, false, PICK(texts));
+            break;
+        case 4:
+            value_field(r, termination ? 295 : 274, false, termination ? 1 + below(8) : 2);
+            break;
+        case 5:
+            text_field(r, 293, false, PICK(texts));
+            break;
+        case 6:
+            text_field(r, 1, false, pick_name());
+            break;
+        case 7:
+            if (termination || type == 0 || one_in(4))
+                text_field(r, 100, true, PICK(labels));
+            break;
+        case 8:
+            value_field(r, 311, true, type);
+            break;
+        case 9:
+            if (one_in(4))
+                text_field(r, 600, true, PICK(texts));
+            break;
+        default:
+            if (type == 1 || one_in(8))
+                text_field(r, 312, true, PICK(texts));
+        }
+    }
+}
+
+static void damage(uint8_t *bytes, size_t length, uint32_t times) {
+    for (; times > 0; times--)
+        bytes[one_in(2) && length > 64 ? below(64) : below((uint32_t)length)] ^= (uint8_t)(1u << below(8));
+}
+
+static void by_chance(struct request *r) {
+    bool termination = one_in(4);
+    uint32_t flags = one_in(40) ? below(256) : 0x80 + 0x40 * below(2) + 0x10 * one_in(8);
+    if (decoded)
+        flags |= 0x80;
+    start(r, flags, one_in(100) ? 272 + (decoded ? 2 : below(4)) : termination ? 275 : 265, one_in(60) ? below(3) : 1, below(9999));
+    if (one_in(60))
+        put_text(r, 33, "before");
+    text_field(r, 263, false, PICK(sessions));
+    fields(r, termination, one_in(4));
+    other(r);
+    if (one_in(100))
+        while (r->length < MESSAGE_MOST - 8 + 4 * below(4))
+            put_avp(r, 33, false, "", 0);
+    if (one_in(100)) {
+        put_text(r, 33, "");
+        r->bytes[r->length - 4] |= 1;
+    }
+    finish(r);
+    if (!decoded && one_in(8))
+        damage(r->bytes, r->length, 1 + below(3));
+    if (!decoded && one_in(100))
+        r->length = one_in(2) ? below(24) : r->length - below(6);
+}
+
+/* ---- one call of both ---- */
+
+static bool same_rooms(void) {
+    return memcmp(proved.table, plain.table, sizeof plain.table) == 0 &&
+           memcmp(proved.answer, plain.answer, sizeof plain.answer) == 0 &&
+           memcmp(proved.notice, plain.notice, sizeof plain.notice) == 0;
+}
+
+static size_t table_length(void) {
+    return one_in(100) ? below(3) * WM_ROW + below(2) : ROWS * WM_ROW;
+}
+
+static bool set_up(uint32_t *number) {
+    size_t length = table_length();
+    const struct text *name = decoded ? &names[3 + below(4)] : PICK(names), *label = PICK(labels);
+    const uint8_t *n = (const uint8_t *)name->bytes, *l = (const uint8_t *)label->bytes;
+    uint8_t limit = (uint8_t)(one_in(20) ? below(12) : 1 + below(3)), flags = (uint8_t)(one_in(20) ? below(6) : 2 * below(2));
+    if (one_in(12)) {
+        *number = wm_clear(proved.table, length);
+        return *number == plain_clear(plain.table, length);
+    }
+    if (one_in(3)) {
+        *number = wm_enter(proved.table, length, n, name->length);
+        return *number == plain_enter(plain.table, length, n, name->length);
+    }
+    *number = wm_add(proved.table, length, n, name->length, l, label->length, limit, flags);
+    return *number == plain_add(plain.table, length, n, name->length, l, label->length, limit, flags);
+}
+
+static bool request(struct wm_outcome *o) {
+    static struct request r;
+    const struct text *host = PICK(texts), *realm = PICK(texts);
+    size_t table = table_length(), answer = WM_ANSWER_LEAST, notice = WM_NOTICE_LEAST;
+    bool wag = !one_in(4);
+    by_chance(&r);
+    if (one_in(100))
+        answer = answer + below(3) - 1;
+    if (one_in(100))
+        notice = notice + below(3) - 1;
+    *o = wm_handle(proved.table, table, (const uint8_t *)host->bytes, host->length, (const uint8_t *)realm->bytes,
+                   realm->length, r.bytes, r.length, wag, proved.answer, answer, proved.notice, notice);
+    struct wm_outcome other =
+        plain_handle(plain.table, table, (const uint8_t *)host->bytes, host->length, (const uint8_t *)realm->bytes,
+                     realm->length, r.bytes, r.length, wag, plain.answer, answer, plain.notice, notice);
+    return memcmp(o, &other, sizeof other) == 0;
+}
+
+/* Each outcome that was seen, once. */
+static uint32_t outcomes(uint32_t outcome) {
+    static uint32_t seen[64], count;
+    for (uint32_t i = 0; i < count; i++)
+        if (seen[i] == outcome)
+            return count;
+    if (count < 64)
+        seen[count++] = outcome;
+    return count;
+}
+
+/* Both libraries on `calls` calls; the proved one's answers go to the file, where one is named. */
+int mix(uint32_t calls, uint64_t from, const char *answers) {
+    uint32_t differ = 0, kinds = 0, written = 0;
+    FILE *file = answers ? fopen(answers, "wb") : 0;
+    if (answers && !file)
+        return 2;
+    seed = from;
+    decoded = file != 0;
+    for (uint32_t n = 0; n < calls && differ < 10; n++) {
+        struct wm_outcome o = {0};
+        bool setting_up = one_in(8), agree = setting_up ? set_up(&o.code) : request(&o);
+        kinds = outcomes(setting_up ? 20000 + o.code : o.code + 10000 * (o.kind == 2));
+        if (!agree || !same_rooms()) {
+            printf("mix: call %u of seed %llu: the libraries differ; the proved one said %u\n", n, (unsigned long long)from, o.code);
+            differ++;
+        }
+        if (file && o.kind != 0) {
+            fwrite(proved.answer, 1, o.length, file);
+            written++;
+        }
+        if (!decoded && one_in(60)) {
+            damage(proved.table + below(ROWS) * WM_ROW, one_in(2) ? 512 : WM_ROW, 1);
+            memcpy(plain.table, proved.table, sizeof plain.table);
+        }
+    }
+    if (file)
+        fclose(file);
+    printf("mix: %u calls, %u differ, %u outcomes seen", calls, differ, kinds);
+    printf(file ? ", %u answers written\n" : "\n", written);
+    return differ != 0;
+}

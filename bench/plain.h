@@ -1,0 +1,31 @@
+/* The interface of include/wm.h once more, for the plain C of server.c: the same arguments, outcomes and numbers. */
+#ifndef PLAIN_H
+#define PLAIN_H
+
+/* The kit's compiler comes without headers, so the types and the functions of the C library that are used stand here. */
+#define WM_OWN_TYPES
+typedef __UINT8_TYPE__ uint8_t;
+typedef __INT16_TYPE__ int16_t;
+typedef __UINT16_TYPE__ uint16_t;
+typedef __INT32_TYPE__ int32_t;
+typedef __UINT32_TYPE__ uint32_t;
+typedef __UINT64_TYPE__ uint64_t;
+typedef __SIZE_TYPE__ size_t;
+typedef _Bool bool;
+#define false 0
+#define true 1
+void *memcpy(void *restrict to, const void *restrict from, size_t bytes);
+void *memset(void *to, int byte, size_t bytes);
+int memcmp(const void *a, const void *b, size_t bytes);
+
+#include "../include/wm.h"
+
+uint32_t plain_clear(uint8_t *table, size_t table_length);
+uint32_t plain_enter(uint8_t *table, size_t table_length, const uint8_t *name, size_t name_length);
+uint32_t plain_add(uint8_t *table, size_t table_length, const uint8_t *name, size_t name_length, const uint8_t *label,
+                   size_t label_length, uint8_t limit, uint8_t flags);
+struct wm_outcome plain_handle(uint8_t *table, size_t table_length, const uint8_t *host, size_t host_length,
+                               const uint8_t *realm, size_t realm_length, const uint8_t *message, size_t message_length,
+                               bool wag, uint8_t *answer, size_t answer_length, uint8_t *notice, size_t notice_length);
+
+#endif

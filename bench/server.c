@@ -1,0 +1,755 @@
+/* The rules of document 01 in plain C, written from the paper for speed: what the proved library is measured against.
+ *
+ * C11 without intrinsics, for any byte order. Words are read by memcpy, which compiles to one load.
+ */
+#include "plain.h"
+
+enum { ROWS = 1024, BLOCK = 512, SUMMED = 510, NAME_MOST = 15, TEXT_MOST = 128, LABEL_MOST = 100, ENTRIES = 4, PLACES = 8 };
+enum { ENTRY = 32, ENTRY_SIZE = 104, ENTRIES_END = ENTRY + ENTRIES * ENTRY_SIZE, LINE = 20 }; /* in block 0 */
+enum { SESSION_AT = 8, HOST_AT = 136, POLICY_AT = 264, TEXTS_END = 392 };                     /* in a place's block */
+enum { BARRED = 1, MAY_ROAM = 2 };
+enum { RESULT = 1, EXPERIMENTAL = 2 };
+enum { VENDOR = 10415 };
+
+/* Loops that are better off with all registers to themselves. */
+#ifdef __GNUC__
+#define APART __attribute__((noinline))
+#else
+#define APART
+#endif
+
+/* ---- words and texts ---- */
+
+static inline uint64_t word(const uint8_t *p) {
+    uint64_t w;
+    memcpy(&w, p, 8);
+    return w;
+}
+
+/* Between the machine's order and the network's, both ways: compilers have one instruction for the swap. */
+static inline uint32_t network(uint32_t n) {
+#if defined __BYTE_ORDER__ && __BYTE_ORDER__ == __ORDER_LITTLE_ENDIAN__
+    return n << 24 | (n & 0xFF00) << 8 | (n >> 8 & 0xFF00) | n >> 24;
+#else
+    const uint8_t *p = (const uint8_t *)&n;
+    return (uint32_t)p[0] << 24 | (uint32_t)p[1] << 16 | (uint32_t)p[2] << 8 | p[3];
+#endif
+}
+
+static inline uint32_t number(const uint8_t *p) {
+    uint32_t n;
+    memcpy(&n, p, 4);
+    return network(n);
+}
+
+static inline void put_number(uint8_t *p, uint32_t n) {
+    n = network(n);
+    memcpy(p, &n, 4);
+}
+
+/* Are `bytes` (8 or more) all zero? The last word may overlap the one before. */
+static inline bool all_zero(const uint8_t *p, size_t bytes) {
+    uint64_t any = word(p + bytes - 8);
+    for (size_t i = 0; i + 8 <= bytes; i += 8)
+        any |= word(p + i);
+    return any == 0;
+}
+
+/* Is a field zero from byte `used` to its end at `size`? */
+static inline bool tail_zero(const uint8_t *field, size_t used, size_t size) {
+    if (size - used >= 8)
+        return all_zero(field + used, size - used);
+    uint8_t any = 0;
+    for (size_t i = used; i < size; i++)
+        any |= field[i];
+    return any == 0;
+}
+
+/* Texts of one length. The ends are looked at first: names and Session-Ids often begin alike. */
+static inline bool same(const uint8_t *a, const uint8_t *b, size_t bytes) {
+    if (bytes >= 8 && word(a + bytes - 8) != word(b + bytes - 8))
+        return false;
+    return memcmp(a, b, bytes) == 0;
+}
+
+/* ---- sums ---- */
+
+/* Fletcher-16 of a block: the second sum times 256, and the first.
+ *
+ * The block is taken as 16 lines of 32 columns, so that the columns are summed side by side in words of 16 bits (none is over
+ * 16 * 255, nor over 120 * 255 for the sum of the sums before). The second sum of 512 bytes weighs byte 32 k + j by
+ * 512 - 32 k - j; the two last bytes, which are the sums themselves, are taken out at the end. */
+static uint32_t sums(const uint8_t *b) {
+    int16_t first[32], before[32];
+    for (uint32_t j = 0; j < 32; j++) {
+        uint16_t x = 0, y = 0;
+        for (uint32_t k = 0; k < 16; k++) {
+            y = (uint16_t)(y + x);
+            x = (uint16_t)(x + b[32 * k + j]);
+        }
+        first[j] = (int16_t)x;
+        before[j] = (int16_t)y;
+    }
+    static const int16_t weight[32] = {32, 31, 30, 29, 28, 27, 26, 25, 24, 23, 22, 21, 20, 19, 18, 17,
+                                       16, 15, 14, 13, 12, 11, 10, 9,  8,  7,  6,  5,  4,  3,  2,  1};
+    int32_t one = 0, two = 0;
+    for (uint32_t j = 0; j < 32; j++) {
+        one += first[j];
+        two += 32 * before[j] + weight[j] * first[j];
+    }
+    uint32_t p = b[510], q = b[511], s1 = (uint32_t)one - p - q, s2 = (uint32_t)two - 2 * p - q - 2 * s1;
+    return s2 % 255 << 8 | s1 % 255;
+}
+
+static inline bool sums_agree(const uint8_t *b) {
+    return sums(b) == ((uint32_t)b[510] << 8 | b[511]);
+}
+
+static inline void put_sums(uint8_t *b) {
+    uint32_t s = sums(b);
+    b[510] = (uint8_t)(s >> 8);
+    b[511] = (uint8_t)s;
+}
+
+/* ---- the table ---- */
+
+/* What a sound row's tests have found on the way: how many places are in use, and how many of each entry (from 1). */
+struct row_use {
+    uint32_t used;
+    uint8_t of_entry[ENTRIES + 1];
+};
+
+static inline const uint8_t *entry_at(const uint8_t *row, uint32_t i) {
+    return row + ENTRY + ENTRY_SIZE * i;
+}
+
+static inline bool in_use(const uint8_t *row, uint32_t place) {
+    return row[17] >> (place - 1) & 1;
+}
+
+/* The entry with this label, counted from 1, or 0. */
+static uint32_t find_entry(const uint8_t *row, const uint8_t *label, size_t length) {
+    for (uint32_t i = 0; i < row[18]; i++) {
+        const uint8_t *e = entry_at(row, i);
+        if (e[0] == length && same(e + 1, label, length))
+            return i + 1;
+    }
+    return 0;
+}
+
+/* The place with this Session-Id among those in use up to `last`, or 0. */
+static uint32_t find_session(const uint8_t *row, const uint8_t *session, size_t length, uint32_t last) {
+    for (uint32_t place = 1; place <= last; place++) {
+        const uint8_t *b = row + BLOCK * place;
+        if (in_use(row, place) && b[2] == length && same(b + SESSION_AT, session, length))
+            return place;
+    }
+    return 0;
+}
+
+static bool name_sound(const uint8_t *row) {
+    uint32_t wrong = 0, i = 0;
+    for (; i < row[1]; i++)
+        wrong |= (uint32_t)(row[2 + i] - '0') > 9;
+    for (; i < NAME_MOST; i++)
+        wrong |= row[2 + i];
+    return wrong == 0;
+}
+
+/* The order line lists each place in use once, and then holds zeros. */
+static bool line_sound(const uint8_t *row, struct row_use *use) {
+    uint32_t listed = 0, n = 0;
+    for (; n < PLACES && row[LINE + n] != 0; n++) {
+        uint32_t place = row[LINE + n];
+        if (place > PLACES || (listed >> (place - 1) & 1))
+            return false;
+        listed |= 1u << (place - 1);
+    }
+    use->used = n;
+    uint32_t rest = 0;
+    for (; n < PLACES; n++)
+        rest |= row[LINE + n];
+    return listed == row[17] && rest == 0;
+}
+
+static bool entries_sound(const uint8_t *row) {
+    uint32_t limits = 0;
+    for (uint32_t i = 0; i < row[18]; i++) {
+        const uint8_t *e = entry_at(row, i);
+        if (e[0] < 1 || e[0] > LABEL_MOST || e[101] > 3 || e[102] < 1 || e[102] > 8 || e[103] != 0)
+            return false;
+        if (!tail_zero(e + 1, e[0], LABEL_MOST))
+            return false;
+        for (uint32_t j = 0; j < i; j++) {
+            const uint8_t *other = entry_at(row, j);
+            if (other[0] == e[0] && same(other + 1, e + 1, e[0]))
+                return false;
+        }
+        limits += e[102];
+    }
+    const uint8_t *end = entry_at(row, row[18]);
+    return limits <= 8 && all_zero(end, (size_t)(row + SUMMED - end));
+}
+
+static bool access_sound(const uint8_t *b, uint32_t entries) {
+    if (b[0] != 2 || b[1] < 1 || b[1] > entries || b[2] < 1 || b[2] > TEXT_MOST || b[3] < 1 || b[3] > TEXT_MOST)
+        return false;
+    if (b[4] > 1 || b[5] > TEXT_MOST || (b[5] != 0) != b[4] || (b[6] | b[7]) != 0)
+        return false;
+    return tail_zero(b + SESSION_AT, b[2], TEXT_MOST) && tail_zero(b + HOST_AT, b[3], TEXT_MOST) &&
+           all_zero(b + POLICY_AT + b[5], (size_t)(SUMMED - POLICY_AT - b[5])) && sums_agree(b);
+}
+
+static bool places_sound(const uint8_t *row, struct row_use *use) {
+    for (uint32_t place = 1; place <= PLACES; place++) {
+        const uint8_t *b = row + BLOCK * place;
+        if (!in_use(row, place)) {
+            if (!all_zero(b, BLOCK))
+                return false;
+            continue;
+        }
+        if (!access_sound(b, row[18]) || ++use->of_entry[b[1]] > entry_at(row, b[1] - 1u)[102])
+            return false;
+        if (find_session(row, b + SESSION_AT, b[2], place - 1) != 0)
+            return false;
+    }
+    return true;
+}
+
+/* Of a row that was found: its first byte and its name's length are right. */
+static bool row_sound(const uint8_t *row, struct row_use *use) {
+    memset(use, 0, sizeof *use);
+    return row[18] <= ENTRIES && row[19] == 0 && (row[28] | row[29] | row[30] | row[31]) == 0 && name_sound(row) &&
+           line_sound(row, use) && entries_sound(row) && sums_agree(row) && places_sound(row, use);
+}
+
+/* The first row of this name, or none. A row starts with the byte 1, the length and the name. The word that ends with the name
+ * tells almost every row apart; where the name is too short for one, the first byte does. */
+static APART uint8_t *find_row(uint8_t *table, size_t table_length, const uint8_t *name, size_t length) {
+    if (length < 1 || length > NAME_MOST)
+        return 0;
+    uint8_t start[2 + NAME_MOST] = {1, (uint8_t)length}, *end = table + table_length;
+    memcpy(start + 2, name, length);
+    if (length >= 6) {
+        size_t at = length - 6;
+        uint64_t wanted = word(start + at);
+        for (uint8_t *row = table; row != end; row += WM_ROW)
+            if (word(row + at) == wanted && memcmp(row, start, length + 2) == 0)
+                return row;
+        return 0;
+    }
+    for (uint8_t *row = table; row != end; row += WM_ROW)
+        if (row[0] == 1 && memcmp(row, start, length + 2) == 0)
+            return row;
+    return 0;
+}
+
+static bool table_fits(size_t table_length) {
+    return table_length != 0 && table_length <= (size_t)ROWS * WM_ROW && table_length % WM_ROW == 0;
+}
+
+/* ---- set-up ---- */
+
+uint32_t plain_clear(uint8_t *table, size_t table_length) {
+    if (!table_fits(table_length))
+        return 1;
+    memset(table, 0, table_length);
+    return 0;
+}
+
+uint32_t plain_enter(uint8_t *table, size_t table_length, const uint8_t *name, size_t name_length) {
+    if (!table_fits(table_length))
+        return 1;
+    if (name_length < 1 || name_length > NAME_MOST)
+        return 9;
+    for (size_t i = 0; i < name_length; i++)
+        if (name[i] < '0' || name[i] > '9')
+            return 9;
+    if (find_row(table, table_length, name, name_length))
+        return 10;
+    for (uint8_t *row = table; row != table + table_length; row += WM_ROW) {
+        if (row[0] != 0 || !all_zero(row, WM_ROW))
+            continue;
+        row[0] = 1;
+        row[1] = (uint8_t)name_length;
+        memcpy(row + 2, name, name_length);
+        put_sums(row);
+        return 0;
+    }
+    return 11;
+}
+
+uint32_t plain_add(uint8_t *table, size_t table_length, const uint8_t *name, size_t name_length, const uint8_t *label,
+                   size_t label_length, uint8_t limit, uint8_t flags) {
+    if (!table_fits(table_length))
+        return 1;
+    uint8_t *row = find_row(table, table_length, name, name_length);
+    struct row_use use;
+    if (!row)
+        return 12;
+    if (!row_sound(row, &use))
+        return 13;
+    if (label_length < 1 || label_length > LABEL_MOST || limit < 1 || limit > 8 || flags > 3)
+        return 14;
+    if (find_entry(row, label, label_length))
+        return 15;
+    if (row[18] == ENTRIES)
+        return 16;
+    uint32_t limits = limit;
+    for (uint32_t i = 0; i < row[18]; i++)
+        limits += entry_at(row, i)[102];
+    if (limits > 8)
+        return 17;
+    uint8_t *e = row + ENTRY + ENTRY_SIZE * row[18];
+    e[0] = (uint8_t)label_length;
+    memcpy(e + 1, label, label_length);
+    e[101] = flags;
+    e[102] = limit;
+    row[18]++;
+    put_sums(row);
+    return 0;
+}
+
+/* ---- reading a message ---- */
+
+enum slot {
+    OTHER,
+    SESSION_ID,
+    AUTH_APPLICATION,
+    ORIGIN_HOST,
+    ORIGIN_REALM,
+    DESTINATION_REALM,
+    AUTH_TYPE,
+    DESTINATION_HOST,
+    USER_NAME,
+    REQUEST_TYPE,
+    VISITED_NETWORK,
+    APN,
+    ROUTING_POLICY,
+    CAUSE,
+    PROXY_INFO,
+    SLOTS
+};
+
+/* Codes without V. */
+static const uint8_t base_slot[297] = {[1] = USER_NAME,           [258] = AUTH_APPLICATION, [263] = SESSION_ID,
+                                       [264] = ORIGIN_HOST,       [274] = AUTH_TYPE,        [283] = DESTINATION_REALM,
+                                       [284] = PROXY_INFO,        [293] = DESTINATION_HOST, [295] = CAUSE,
+                                       [296] = ORIGIN_REALM};
+
+/* What one walk gathers: bit s of `seen` and `twice` for slot s, where its value starts and how long it is (of the last one
+ * where there are several: then only their number counts), and the stretch from the first Proxy-Info to the last one's end. */
+struct avps {
+    uint32_t seen, twice;
+    const uint8_t *proxies, *proxies_end;
+    struct {
+        const uint8_t *start;
+        uint32_t length;
+    } of[SLOTS];
+};
+
+static inline uint32_t vendor_slot(const uint8_t *avp) {
+    if (number(avp + 8) != VENDOR)
+        return OTHER;
+    switch (number(avp)) {
+    case 100:
+        return APN;
+    case 311:
+        return REQUEST_TYPE;
+    case 312:
+        return ROUTING_POLICY;
+    case 600:
+        return VISITED_NETWORK;
+    default:
+        return OTHER;
+    }
+}
+
+/* The tests on one AVP of which 8 bytes are there; `left` is a multiple of 4, so that the padding needs no test of its own. */
+static inline uint32_t avp_code(uint32_t flags_length, uint32_t left) {
+    uint32_t length = flags_length & 0xFFFFFF;
+    if (flags_length & 0x1F000000)
+        return 3009;
+    return length > left || length < (flags_length >> 31 ? 12u : 8u) ? 5014 : 0;
+}
+
+static inline void gather(struct avps *a, uint32_t slot, const uint8_t *p, uint32_t head, uint32_t length,
+                          const uint8_t *next) {
+    uint32_t bit = 1u << slot;
+    if (slot == PROXY_INFO) {
+        if (!(a->seen & bit))
+            a->proxies = p;
+        a->proxies_end = next;
+    }
+    a->twice |= a->seen & bit;
+    a->seen |= bit;
+    a->of[slot].start = p + head;
+    a->of[slot].length = length - head;
+}
+
+/* The whole walk: 0, or the code. All but a few AVPs are of the base: they have V clear, and one test tells. */
+static APART uint32_t walk(const uint8_t *m, const uint8_t *end, struct avps *a) {
+    const uint8_t *p = m + 20, *next;
+    for (; end - p >= 8; p = next) {
+        uint32_t flags_length = number(p + 4), length = flags_length & 0xFFFFFF, slot;
+        if (flags_length & 0x9F000000) {
+            uint32_t code = avp_code(flags_length, (uint32_t)(end - p));
+            if (code)
+                return code;
+            next = p + ((length + 3) & ~3u);
+            slot = vendor_slot(p);
+            if (slot != OTHER)
+                gather(a, slot, p, 12, length, next);
+        } else {
+            next = p + ((length + 3) & ~3u);
+            if (length < 8 || next > end)
+                return 5014;
+            slot = number(p);
+            slot = slot < sizeof base_slot ? base_slot[slot] : OTHER;
+            if (slot != OTHER)
+                gather(a, slot, p, 8, length, next);
+        }
+    }
+    return p == end ? 0 : 5014;
+}
+
+static uint32_t header_code(const uint8_t *m) {
+    uint32_t command = number(m + 4) & 0xFFFFFF, application = number(m + 8);
+    if (m[4] & 0x0F)
+        return 5013;
+    if (m[4] & 0x20)
+        return 3008;
+    if (command != 265 && command != 275)
+        return 3001;
+    if (application != 1 && !(command == 275 && application == 0))
+        return 3007;
+    return 0;
+}
+
+/* The length of the first AVP's value if that is a Session-Id for the answer, else 0. */
+static uint32_t first_session(const uint8_t *m, uint32_t end) {
+    if (end < 28 || number(m + 20) != 263)
+        return 0;
+    uint32_t flags_length = number(m + 24), length = (flags_length & 0xFFFFFF) - 8;
+    return !(flags_length >> 31) && length <= TEXT_MOST && avp_code(flags_length, end - 20) == 0 ? length : 0;
+}
+
+/* ---- the lists ---- */
+
+static inline uint32_t stands_once(const struct avps *a, enum slot s) {
+    if (!(a->seen >> s & 1))
+        return 5005;
+    return a->twice >> s & 1 ? 5009 : 0;
+}
+
+static inline uint32_t text(const struct avps *a, enum slot s, uint32_t most) {
+    uint32_t code = stands_once(a, s);
+    if (code)
+        return code;
+    return a->of[s].length - 1 < most ? 0 : 5014;
+}
+
+/* As text, but it may be absent. */
+static inline uint32_t text_if(const struct avps *a, enum slot s, uint32_t most, bool required) {
+    return required || (a->seen >> s & 1) ? text(a, s, most) : 0;
+}
+
+static inline uint32_t value(const struct avps *a, enum slot s, uint32_t least, uint32_t most) {
+    uint32_t code = stands_once(a, s);
+    if (code)
+        return code;
+    if (a->of[s].length != 4)
+        return 5014;
+    return number(a->of[s].start) - least <= most - least ? 0 : 5004;
+}
+
+#define TRY(test)          \
+    do {                   \
+        uint32_t c = test; \
+        if (c)             \
+            return c;      \
+    } while (0)
+
+static uint32_t lists(const uint8_t *m, const struct avps *a, bool opening_or_policy) {
+    if (!(a->seen >> SESSION_ID & 1) || number(m + 20) != 263 || m[24] >> 7)
+        return 5005;
+    TRY(text(a, SESSION_ID, TEXT_MOST));
+    TRY(value(a, AUTH_APPLICATION, 1, 1));
+    TRY(text(a, ORIGIN_HOST, TEXT_MOST));
+    TRY(text(a, ORIGIN_REALM, TEXT_MOST));
+    TRY(text(a, DESTINATION_REALM, TEXT_MOST));
+    if (opening_or_policy)
+        TRY(value(a, AUTH_TYPE, 2, 2));
+    else
+        TRY(value(a, CAUSE, 1, 8));
+    TRY(text(a, DESTINATION_HOST, TEXT_MOST));
+    TRY(text(a, USER_NAME, TEXT_MOST));
+    if (!opening_or_policy)
+        return text(a, APN, LABEL_MOST);
+    TRY(value(a, REQUEST_TYPE, 0, 1));
+    bool policy = a->of[REQUEST_TYPE].start[3];
+    TRY(text_if(a, VISITED_NETWORK, TEXT_MOST, false));
+    TRY(text_if(a, APN, LABEL_MOST, !policy));
+    return text_if(a, ROUTING_POLICY, TEXT_MOST, policy);
+}
+
+/* ---- deciding ---- */
+
+/* One call's view of what it was lent. */
+struct call {
+    uint8_t *row;
+    const uint8_t *m;
+    uint8_t *notice;
+    struct avps a;
+    struct row_use use;
+};
+
+static inline const uint8_t *field(const struct call *c, enum slot s) {
+    return c->a.of[s].start;
+}
+
+/* The place leaves the order line, which closes up, and the mask; its block is zeroed. */
+static void free_place(struct call *c, uint32_t place) {
+    uint8_t *line = c->row + LINE;
+    uint32_t i = 0;
+    while (line[i] != place)
+        i++;
+    for (; i + 1 < PLACES; i++)
+        line[i] = line[i + 1];
+    line[PLACES - 1] = 0;
+    c->use.used--;
+    c->row[17] &= (uint8_t)~(1u << (place - 1));
+    memset(c->row + BLOCK * place, 0, BLOCK);
+}
+
+/* Cuts the first-opened access of the entry. Texts in a block are zero filled, so the notice is one stretch of it. */
+static void cut_first(struct call *c, uint32_t entry, struct wm_outcome *o) {
+    const uint8_t *line = c->row + LINE;
+    while (c->row[BLOCK * *line + 1] != entry)
+        line++;
+    const uint8_t *b = c->row + BLOCK * *line;
+    o->cut = 1;
+    o->cut_session = b[2];
+    o->cut_host = b[3];
+    memcpy(c->notice, b + SESSION_AT, 2 * TEXT_MOST);
+    free_place(c, *line);
+}
+
+static uint32_t open_access(struct call *c, uint32_t entry) {
+    uint32_t place = 1;
+    while (in_use(c->row, place))
+        place++;
+    c->row[LINE + c->use.used] = (uint8_t)place;
+    c->row[17] |= (uint8_t)(1u << (place - 1));
+    put_sums(c->row);
+    uint8_t *b = c->row + BLOCK * place;
+    b[0] = 2;
+    b[1] = (uint8_t)entry;
+    b[2] = (uint8_t)c->a.of[SESSION_ID].length;
+    b[3] = (uint8_t)c->a.of[ORIGIN_HOST].length;
+    memcpy(b + SESSION_AT, field(c, SESSION_ID), b[2]);
+    memcpy(b + HOST_AT, field(c, ORIGIN_HOST), b[3]);
+    put_sums(b);
+    return place;
+}
+
+static void decide_opening(struct call *c, struct wm_outcome *o) {
+    uint32_t entry = find_entry(c->row, field(c, APN), c->a.of[APN].length);
+    if (entry == 0) {
+        o->kind = EXPERIMENTAL;
+        o->code = 5044;
+        return;
+    }
+    const uint8_t *e = entry_at(c->row, entry - 1);
+    o->kind = RESULT;
+    if (e[101] & BARRED) {
+        o->code = 5003;
+    } else if ((c->a.seen >> VISITED_NETWORK & 1) && !(e[101] & MAY_ROAM)) {
+        o->kind = EXPERIMENTAL;
+        o->code = 5004;
+    } else if (find_session(c->row, field(c, SESSION_ID), c->a.of[SESSION_ID].length, PLACES)) {
+        o->code = 5012;
+    } else {
+        if (c->use.of_entry[entry] == e[102])
+            cut_first(c, entry, o);
+        o->place = open_access(c, entry);
+        o->code = 2001;
+    }
+}
+
+static void decide_policy(struct call *c, bool wag, struct wm_outcome *o) {
+    uint32_t place = find_session(c->row, field(c, SESSION_ID), c->a.of[SESSION_ID].length, PLACES);
+    o->kind = RESULT;
+    o->code = 5012;
+    if (place == 0 || !wag)
+        return;
+    uint8_t *b = c->row + BLOCK * place;
+    b[4] = 1;
+    b[5] = (uint8_t)c->a.of[ROUTING_POLICY].length;
+    memcpy(b + POLICY_AT, field(c, ROUTING_POLICY), b[5]);
+    memset(b + POLICY_AT + b[5], 0, (size_t)TEXT_MOST - b[5]);
+    put_sums(b);
+    o->code = 2001;
+}
+
+static void decide_termination(struct call *c, struct wm_outcome *o) {
+    uint32_t entry = find_entry(c->row, field(c, APN), c->a.of[APN].length);
+    uint32_t place = find_session(c->row, field(c, SESSION_ID), c->a.of[SESSION_ID].length, PLACES);
+    if (entry == 0 || place == 0 || c->row[BLOCK * place + 1] != entry) {
+        o->kind = EXPERIMENTAL;
+        o->code = 5042;
+        return;
+    }
+    free_place(c, place);
+    put_sums(c->row);
+    o->kind = RESULT;
+    o->code = 2001;
+}
+
+static void decide(uint8_t *table, size_t table_length, struct call *c, bool aa, bool wag, struct wm_outcome *o) {
+    c->row = find_row(table, table_length, field(c, USER_NAME), c->a.of[USER_NAME].length);
+    if (!c->row) {
+        o->kind = EXPERIMENTAL;
+        o->code = 5001;
+    } else if (!row_sound(c->row, &c->use)) {
+        o->code = 5012;
+    } else if (!aa) {
+        decide_termination(c, o);
+    } else if (field(c, REQUEST_TYPE)[3]) {
+        decide_policy(c, wag, o);
+    } else {
+        decide_opening(c, o);
+    }
+}
+
+/* ---- writing the answer ---- */
+
+static inline uint8_t *put_head(uint8_t *to, uint32_t code, uint32_t length) {
+    put_number(to, code);
+    put_number(to + 4, 0x40000000 | length);
+    return to + 8;
+}
+
+static inline uint8_t *put_avp_number(uint8_t *to, uint32_t code, uint32_t n) {
+    put_number(put_head(to, code, 12), n);
+    return to + 12;
+}
+
+/* The last word is zeroed first, for the padding. */
+static inline uint8_t *put_text(uint8_t *to, uint32_t code, const uint8_t *from, size_t length) {
+    size_t padded = (length + 3) & ~(size_t)3;
+    put_head(to, code, (uint32_t)(8 + length));
+    put_number(to + 8 + padded - 4, 0);
+    memcpy(to + 8, from, length);
+    return to + 8 + padded;
+}
+
+static uint8_t *put_result(uint8_t *to, const struct wm_outcome *o) {
+    if (o->kind == RESULT)
+        return put_avp_number(to, 268, o->code);
+    to = put_head(to, 297, 32);
+    to = put_avp_number(to, 266, VENDOR);
+    return put_avp_number(to, 298, o->code);
+}
+
+static uint8_t *put_subscription(uint8_t *to, const uint8_t *name, size_t length) {
+    uint32_t padded = (uint32_t)(length + 3) & ~3u;
+    to = put_head(to, 443, 8 + 12 + 8 + padded);
+    to = put_avp_number(to, 450, 1);
+    return put_text(to, 444, name, length);
+}
+
+/* Each stretch of Proxy-Infos that stand together is one copy. */
+static uint8_t *put_proxies(uint8_t *to, const struct avps *a) {
+    const uint8_t *from = a->proxies, *p = from;
+    while (p != a->proxies_end) {
+        uint32_t flags_length = number(p + 4);
+        const uint8_t *next = p + (((flags_length & 0xFFFFFF) + 3) & ~3u);
+        if (number(p) != 284 || flags_length >> 31) {
+            memcpy(to, from, (size_t)(p - from));
+            to += p - from;
+            from = next;
+        }
+        p = next;
+    }
+    memcpy(to, from, (size_t)(p - from));
+    return to + (p - from);
+}
+
+struct own {
+    const uint8_t *host, *realm;
+    size_t host_length, realm_length;
+};
+
+static void write_answer(uint8_t *answer, const struct call *c, const struct own *own, uint32_t session,
+                         struct wm_outcome *o) {
+    const uint8_t *m = c->m;
+    bool error = o->code - 3000 < 1000, aa = (number(m + 4) & 0xFFFFFF) == 265;
+    memcpy(answer + 4, m + 4, 16);
+    answer[4] = (uint8_t)((m[4] & 0x40) | (error ? 0x20 : 0));
+    uint8_t *to = answer + 20;
+    if (session)
+        to = put_text(to, 263, m + 28, session);
+    if (aa && !error) {
+        to = put_avp_number(to, 258, 1);
+        to = put_avp_number(to, 274, 2);
+    }
+    to = put_result(to, o);
+    to = put_text(to, 264, own->host, own->host_length);
+    to = put_text(to, 296, own->realm, own->realm_length);
+    if (aa && o->code == 2001)
+        to = put_subscription(to, field(c, USER_NAME), c->a.of[USER_NAME].length);
+    if (c->a.seen >> PROXY_INFO & 1)
+        to = put_proxies(to, &c->a);
+    o->length = (uint32_t)(to - answer);
+    put_number(answer, 0x01000000 | o->length);
+}
+
+/* ---- a request ---- */
+
+static uint32_t no_answer(size_t table_length, size_t host_length, size_t realm_length, const uint8_t *message,
+                          size_t message_length, size_t answer_length, size_t notice_length) {
+    if (!table_fits(table_length))
+        return 1;
+    if (host_length - 1 >= TEXT_MOST || realm_length - 1 >= TEXT_MOST)
+        return 2;
+    if (answer_length < WM_ANSWER_LEAST)
+        return 3;
+    if (notice_length < WM_NOTICE_LEAST)
+        return 4;
+    if (message_length < 20 || message_length > 4096)
+        return 5;
+    if (message[0] != 1)
+        return 6;
+    if ((number(message) & 0xFFFFFF) != message_length || message_length % 4 != 0)
+        return 7;
+    return message[4] & 0x80 ? 0 : 8;
+}
+
+struct wm_outcome plain_handle(uint8_t *table, size_t table_length, const uint8_t *host, size_t host_length,
+                               const uint8_t *realm, size_t realm_length, const uint8_t *message, size_t message_length,
+                               bool wag, uint8_t *answer, size_t answer_length, uint8_t *notice, size_t notice_length) {
+    struct wm_outcome o = {0};
+    o.code = no_answer(table_length, host_length, realm_length, message, message_length, answer_length, notice_length);
+    if (o.code)
+        return o;
+    struct call c;
+    struct own own = {host, realm, host_length, realm_length};
+    bool aa = message[7] == (265 & 0xFF);
+    c.m = message;
+    c.notice = notice;
+    c.a.seen = c.a.twice = 0;
+    o.kind = RESULT;
+    o.code = header_code(message);
+    if (o.code == 0) {
+        o.code = walk(message, message + message_length, &c.a);
+        if (o.code)
+            c.a.seen = 0; /* no Proxy-Info is copied */
+        else
+            o.code = lists(message, &c.a, aa);
+    }
+    if (o.code == 0)
+        decide(table, table_length, &c, aa, wag, &o);
+    write_answer(answer, &c, &own, first_session(message, (uint32_t)message_length), &o);
+    return o;
+}

@@ -1,0 +1,58 @@
+-- The row that is lent comes back: `back-row` of Rows.
+use mathlib.Core.Path.{refl, ap, _∙_}
+use mathlib.Core.List.{List}
+use Prim.Native.Nat.{_*_, ℕ, _-_}
+use borrow.Author.Needs.{needs}
+use Rattle.octets.specs.Lists.{isOn}
+use Rattle.table.specs.Soundness.{sound}
+use Rattle.table.specs.TheTable.{orderLine, readRow}
+use Rattle.table.proofs.Rows.{lent-row}
+use Rattle.changes.specs.Changes.{freed, lowestFree, opened}
+use Rattle.changes.proofs.Rows.{back-row}
+use Rattle.changes.proofs.cut_and_open.Statement.{statement}
+use Rattle.changes.proofs.cut_and_open.Tie as tie
+
+mul-a : tie.Need-mul-a
+mul-a c = search needs
+
+add-e : tie.Need-add-e
+add-e c = search needs
+
+sub-cut-and-open-place : tie.Need-sub-cut-and-open-place
+sub-cut-and-open-place c = search needs
+
+part-cut-and-open-place-start : tie.Need-part-cut-and-open-place-start
+part-cut-and-open-place-start c = search needs
+
+part-cut-and-open-place-end : tie.Need-part-cut-and-open-place-end
+part-cut-and-open-place-end c = search needs
+
+cut-and-open-place-requires : tie.Need-cut-and-open-place-requires
+cut-and-open-place-requires c κs = let start = c .before .before .before .before in
+    let lent = lent-row (start .args .table .now) (4608 * (start .args .i)) (start .args .i) refl in
+    (ap sound lent ∙ start .pre .1, ap (λ (r : List ℕ). isOn (orderLine r) (start .args .k)) lent ∙ start .pre .2, start .pre .3, start .pre .4)
+
+same-length : tie.Need-same-length
+same-length c = search needs
+
+returns : tie.Need-returns
+returns c = let start = c .before .before .before .before .before .before .before in
+    let taken = c .before .before .cut-and-open-place in
+    let t = start .args .table .now in
+    let i = start .args .i in (
+      back-row t i (taken .last .0) (λ r. opened (start .args .entry) (start .args .session .now) (start .args .host .now) (freed (start .args .k) (readRow r))) (taken .ensures .0),
+      taken .ensures .1 ∙ ap (λ (r : List ℕ). lowestFree ((freed (start .args .k) (readRow r)) .accesses)) (lent-row t (4608 * i) i refl),
+    )
+
+pub cut-and-open-spec : {M : Type 1} → statement M
+cut-and-open-spec =
+    tie.close
+    (tie.spec
+    mul-a
+    add-e
+    sub-cut-and-open-place
+    part-cut-and-open-place-start
+    part-cut-and-open-place-end
+    cut-and-open-place-requires
+    same-length
+    returns)

@@ -1,0 +1,131 @@
+-- Every number of a result fits 32 bits by far: an answer has at most 5,120 bytes, a place is at most 8, a cut text has at most 128.
+use mathlib.Core.Path.{_≡_, refl, sym, ap}
+use mathlib.Core.Bool.{Bool, true, _&&_}
+use mathlib.Core.List.{List, [], _∷_}
+use Prim.Native.Nat.{ℕ, _≤_}
+use native.Mathlib.Omega.{arith}
+use borrow.Author.Tests.{eqb-true, eqb-false, leb-true, le-leb}
+use lib.Dec.{eqb, leb}
+use lib.ListN.{length}
+use Rattle.octets.specs.Choice.{within}
+use Rattle.octets.specs.Lists.{every, firstOr, keep}
+use Rattle.octets.proofs.Choice.{by-pick}
+use Rattle.octets.proofs.Lists.{and-left, and-right, both, by-test, every-imp, every-keep, within-high}
+use Rattle.message.specs.Codes.{Code, plain, numberOf, userUnknown}
+use Rattle.message.specs.ReadingAMessage.{Ask, tunnel, policy, termination, Reading, refused, request, Request, avps, command, read, requestOf, userName, valueOf}
+use Rattle.message.specs.WritingTheAnswer.{answer}
+use Rattle.message.proofs.Callers.{never-2001}
+use Rattle.message.proofs.Lengths.{user-length, passing}
+use Rattle.answers.proofs.Writing.{answer-fits}
+use Rattle.table.specs.TheTable.{Access, Subscriber, Found, row, nothing, lookup, places, readRow, rowAt}
+use Rattle.table.specs.Soundness.{sound}
+use Rattle.table.proofs.Good.{Good, goodAccess, places-eight, standing}
+use Rattle.table.proofs.Sound.{says-good}
+use Rattle.changes.specs.Changes.{lowestFree, vacant}
+use Rattle.deciding.specs.Deciding.{Verdict, admit, atLimit, atPlace, decide, entryNamed, grant, heldAlready, openOn, refuse, terminate, type0, type1}
+use Rattle.decision.specs.Calls.{Call, Left, callNumber, handle, onReading, onRow, refusal, reply, resultOf, settled, silent}
+use Rattle.decision.specs.Outcomes.{Ready, callOf}
+use Rattle.wm.specs.InC.{In32}
+use Rattle.decision.proofs.Numbers.{handled, is-ready, unanswered}
+
+-- texts that a notice has room for
+unfoldable short : Access → Bool
+short a = leb (length (a .session)) 128 && leb (length (a .host)) 128
+
+result-small : (n place : ℕ) (c : Code) (cut : List Access) → n ≤ 5120 → place ≤ 8 → every short cut ≡ true → In32 (resultOf n place c cut)
+unfolding resultOf every short
+result-small n p c [] hn hp hc = record { length-fits = omega arith; place-fits = omega arith; session-fits = omega arith; host-fits = omega arith }
+result-small n p c (a ∷ others) hn hp hc =
+    let here : short a ≡ true = and-left (short a) (every short others) hc in
+    record {
+      length-fits = omega arith;
+      place-fits = omega arith;
+      session-fits = omega (arith, leb-true (length (a .session)) 128 (and-left (leb (length (a .session)) 128) (leb (length (a .host)) 128) here));
+      host-fits = omega (arith, leb-true (length (a .host)) 128 (and-right (leb (length (a .session)) 128) (leb (length (a .host)) 128) here));
+    }
+
+-- WHAT IS DECIDED ON A SOUND ROW
+
+first-most : (l : List ℕ) → every (within 1 8) l ≡ true → firstOr 0 l ≤ 8
+unfolding firstOr every
+first-most [] h = omega arith
+first-most (x ∷ l) h = within-high 1 8 x (and-left (within 1 8 x) (every (within 1 8) l) h)
+
+lowest-most : (a : List Access) → lowestFree a ≤ 8
+unfolding lowestFree
+lowest-most a = first-most (keep (vacant a) places) (every-keep (within 1 8) (vacant a) places (places-eight .1))
+
+all-short : (s : Subscriber) → Good s → every short (s .accesses) ≡ true
+unfolding short
+all-short s g =
+    every-imp (goodAccess (length (s .entries))) short
+    (λ (x : Access) t. let st = standing (length (s .entries)) x t in
+    both (le-leb _ 128 (within-high 1 128 _ (st .sid-fits))) (le-leb _ 128 (within-high 1 128 _ (st .host-fits))))
+    (s .accesses) (g .accesses-good .each)
+
+abbrev SmallVerdict : Verdict → Type 0
+SmallVerdict v = (v .place ≤ 8) × (every short (v .cut) ≡ true)
+
+refuse-small : (c : Code) (s : Subscriber) → SmallVerdict (refuse c s)
+unfolding refuse every
+refuse-small c s = (omega arith, refl)
+
+grant-small : (s : Subscriber) → SmallVerdict (grant s)
+unfolding grant every
+grant-small s = (omega arith, refl)
+
+admit-small : (n : ℕ) (session host : List ℕ) (s : Subscriber) → Good s → SmallVerdict (admit n session host s)
+unfolding admit openOn atPlace every
+admit-small n session host s g =
+    by-pick SmallVerdict (atLimit n s)
+    (λ e. (lowest-most _, every-keep short _ (s .accesses) (all-short s g)))
+    (λ e. (lowest-most _, refl))
+
+decided-small : (q : Ask) (wag : Bool) (s : Subscriber) → Good s → SmallVerdict (decide q wag s)
+unfolding decide type0 type1 terminate heldAlready
+decided-small (tunnel session host label visited) wag s g =
+    by-pick SmallVerdict _ (λ e. refuse-small _ s) (λ e.
+    by-pick SmallVerdict _ (λ e. refuse-small _ s) (λ e.
+    by-pick SmallVerdict _ (λ e. refuse-small _ s) (λ e.
+    by-pick SmallVerdict _ (λ e. refuse-small _ s) (λ e. admit-small (entryNamed label s) session host s g))))
+decided-small (policy session route) wag s g =
+    by-pick SmallVerdict _ (λ e. refuse-small _ s) (λ e. by-pick SmallVerdict _ (λ e. grant-small _) (λ e. refuse-small _ s))
+decided-small (termination session label) wag s g = by-pick SmallVerdict _ (λ e. refuse-small _ s) (λ e. grant-small _)
+
+-- A WHOLE CALL
+
+module _ (t : List ℕ) (c : Call) (ready : Ready (c .message) (c .host) (c .realm) (c .answer)) where
+  answer-small : (code : Code) → (command (c .message) ≡ 265 → numberOf code ≡ 2001 → length (valueOf userName (avps (c .message))) ≤ 128)
+      → length (answer (c .message) (c .host) (c .realm) code) ≤ 5120
+  answer-small code u = answer-fits (c .message) (c .host) (c .realm) code (ready .least) (ready .most) (ready .host-fits) (ready .realm-fits) u
+
+  refusal-small : (code : Code) → (numberOf code ≡ 2001 → ⊥) → In32 ((refusal t c code) .reply .result)
+  unfolding refusal reply every
+  refusal-small code other = result-small _ 0 code [] (answer-small code (λ h e. absurd (other e))) (omega arith) refl
+
+  row-small : (q : Request) → read (c .message) ≡ request q → (f : Found) → In32 ((onRow t c q f) .reply .result)
+  unfolding onRow settled reply numberOf requestOf
+  row-small q e nothing = refusal-small userUnknown (λ h. absurd (omega arith))
+  row-small q e (row i) =
+      by-pick (λ (l : Left). In32 (l .reply .result)) (sound (rowAt t i))
+      (λ s. let v : Verdict = decide (q .ask) (c .wag) (readRow (rowAt t i)) in
+      let small-enough = decided-small (q .ask) (c .wag) (readRow (rowAt t i)) (says-good (rowAt t i) s) in
+      let user : q .user ≡ valueOf userName (avps (c .message)) = ap (λ (x : Request). x .user) (passing (c .message) q e .asked) in
+      let fits : length (valueOf userName (avps (c .message))) ≤ 128 = omega (arith, within-high 1 128 _ (user-length (c .message) q e), ap length user) in
+      result-small _ (v .place) (v .code) (v .cut) (answer-small (v .code) (λ h d. fits)) (small-enough .0) (small-enough .1))
+      (λ s. refusal-small (plain 5012) (λ h. absurd (omega arith)))
+
+  reading-small : (g : Reading) → read (c .message) ≡ g → In32 ((onReading t c g) .reply .result)
+  unfolding onReading numberOf
+  reading-small (refused n) e = refusal-small (plain n) (λ h. never-2001 (c .message) n e h)
+  reading-small (request q) e = row-small q e (lookup t (q .user))
+
+pub small : (t m host realm room notice : List ℕ) (wag : Bool) → In32 ((handle t (callOf m host realm room notice wag)) .reply .result)
+unfolding silent callOf
+small t m host realm room notice wag =
+    let c : Call = callOf m host realm room notice wag in
+    by-test (eqb (callNumber t c) 0)
+    (λ e. let z : callNumber t c ≡ 0 = eqb-true (callNumber t c) 0 e in
+    rw (handled t c z) (reading-small t c (is-ready t m host realm room notice wag z) (read m) refl))
+    (λ e. rw (sym (unanswered t c (callNumber t c) refl (eqb-false (callNumber t c) 0 e)))
+    (record { length-fits = omega arith; place-fits = omega arith; session-fits = omega arith; host-fits = omega arith }))
