@@ -8,7 +8,7 @@ pub fn play() {
     let mut out = [0u8; 4096];
     let mut k: usize = 0;
     while k < 37 {
-        let n = played::step(k, &mut table, &mut room, &mut answer, &mut notice, &mut out);
+        let n = cases::step(k, &mut table, &mut room, &mut answer, &mut notice, &mut out);
         files::print(&out, n);
         k += 1;
     }

@@ -5,7 +5,7 @@ use words::say;
 
 // A step is three signs: what is done, the Session-Id, and the first letter of the label.
 // # is the case of that number, < the cases 1 to 3 again, + a fresh table, s the sums, r the result in the last answer, and a letter else a
-// request (`played_requests`).
+// request (`case_requests`).
 fn sign(i: usize) -> u8 {
     let signs =
         b"#01+..oab#02obb#03ocb#04odb<..+..oabobbocb#05obb#06tcbtab#07veyveboeB#08s..#09ofbr..#10ugbr..#11l8.l9.m6.m0.b..";
@@ -36,7 +36,7 @@ fn set(out: &mut [u8; 4096], at: usize, what: &[u8], n: u32) -> usize {
 
 // The order line of the only row, on a line of its own. The Session-Ids of the steps about sizes are too long for it.
 fn line(out: &mut [u8; 4096], at: usize, what: u8, row: &[u8]) -> usize {
-    if played_requests::is_sized(what) {
+    if case_requests::is_sized(what) {
         return at;
     }
     let a = say(out, at, b"    ");
@@ -158,8 +158,8 @@ pub fn step(
     if what == b'r' {
         return result(out, answer);
     }
-    let n = played_requests::build(room, what, who, label);
-    let a = played_requests::asked(out, what, who, label);
+    let n = case_requests::build(room, what, who, label);
+    let a = case_requests::asked(out, what, who, label);
     let b = send(table, room, n, answer, notice, out, a);
     line(out, b, what, table)
 }
