@@ -68,7 +68,7 @@ fn fresh(table: &mut [u8; 4608], out: &mut [u8; 4096]) -> usize {
     )
 }
 
-fn sums(out: &mut [u8; 4096], at: usize, block: &[u8; 510]) -> usize {
+fn sums(out: &mut [u8; 4096], at: usize, block: &[u8; 512]) -> usize {
     let sums = table::sums_of(block);
     let a = octet(out, at, (sums.second % 256) as u8);
     let b = say(out, a, b" ");
@@ -78,7 +78,7 @@ fn sums(out: &mut [u8; 4096], at: usize, block: &[u8; 510]) -> usize {
 
 // The zeros in front of a text leave both sums at 0.
 fn both_sums(out: &mut [u8; 4096]) -> usize {
-    let mut block = [0u8; 510];
+    let mut block = [0u8; 512];
     let a = say(out, 0, b"  the sums of a zero block: ");
     let b = sums(out, a, &block);
     block[505] = b'a';

@@ -97,8 +97,8 @@ pub fn summary(t: Totals) {
     let c = number(&mut out, b, t.good as u64);
     let d = say(&mut out, c, b" with success, ");
     let e = number(&mut out, d, t.silent as u64);
-    let f = say(&mut out, e, b" without an answer, ");
+    let f = say(&mut out, e, b" without an answer; cuts: ");
     let g = number(&mut out, f, t.cuts as u64);
-    let h = say(&mut out, g, b" cuts\n");
+    let h = say(&mut out, g, b"\n");
     files::print(&out, h);
 }
