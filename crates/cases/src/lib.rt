@@ -123,11 +123,6 @@ fn send(
     say(out, b, b"\n")
 }
 
-// How many steps there are.
-pub fn steps() -> usize {
-    37
-}
-
 // The step k: what it says stands in `out`, as many bytes as are returned.
 pub fn step(
     k: usize,
