@@ -7,9 +7,10 @@ use std::process::ExitCode;
 use oracle::framing::{read, write};
 use oracle::generator::generate;
 use oracle::rules::DOCUMENT_01;
-use oracle::script::{Record, judge};
+use oracle::script::{Record, judge, spoil};
 
-const USAGE: &str = "usage: oracle script [--seed N] [--calls M] [--out FILE] | oracle check FILE";
+const USAGE: &str =
+    "usage: oracle script [--seed N] [--calls M] [--out FILE] [--spoil 0|1] | oracle check FILE";
 
 /// From this size on, a script in which something never comes up is a failure.
 const FULL_SIZE: usize = 5_000;
@@ -39,6 +40,7 @@ struct Options {
     seed: u64,
     calls: usize,
     out: Option<String>,
+    spoil: usize,
 }
 
 impl Options {
@@ -47,6 +49,7 @@ impl Options {
             seed: 1,
             calls: 5_000,
             out: None,
+            spoil: 0,
         };
         for pair in words.chunks(2) {
             let &[option, value] = pair else {
@@ -56,6 +59,7 @@ impl Options {
             match option {
                 "--seed" => options.seed = value.parse().map_err(no_number)?,
                 "--calls" => options.calls = value.parse().map_err(no_number)?,
+                "--spoil" => options.spoil = value.parse().map_err(no_number)?,
                 "--out" => options.out = Some(value.to_string()),
                 _ => return Err(USAGE.to_string()),
             }
@@ -65,7 +69,10 @@ impl Options {
 }
 
 fn script(options: &Options) -> Result<(), String> {
-    let recorder = generate(options.seed, options.calls);
+    let mut recorder = generate(options.seed, options.calls);
+    if options.spoil != 0 {
+        eprintln!("{} calls are spoiled", spoil(&mut recorder.records));
+    }
     let bytes = write(&recorder.records);
     let written = match &options.out {
         Some(file) => fs::write(file, &bytes),

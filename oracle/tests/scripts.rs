@@ -3,7 +3,7 @@
 use oracle::framing::{LONGEST_RECORD, read, write};
 use oracle::generator::generate;
 use oracle::rules::DOCUMENT_01;
-use oracle::script::{K1, K2, Record, digest, digests, judge};
+use oracle::script::{K1, K2, Record, digest, digests, judge, spoil};
 
 #[test]
 fn a_script_comes_back() {
@@ -20,6 +20,15 @@ fn a_script_agrees_with_the_oracle() {
     }
     let calls = records.iter().filter(|r| matches!(r, Record::Call(..)));
     assert_eq!(calls.count(), 1_500);
+}
+
+#[test]
+fn twelve_wrong_expectations_are_told() {
+    let mut records = generate(1, 2_000).records;
+    assert_eq!(spoil(&mut records), 12);
+    let mut table = Vec::new();
+    let told = |record: &Record| judge(&mut DOCUMENT_01.clone(), record, &mut table).is_err();
+    assert_eq!(records.iter().map(told).filter(|&t| t).count(), 12);
 }
 
 #[test]
