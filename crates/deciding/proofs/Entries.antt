@@ -13,7 +13,7 @@ use Rattle.table.specs.TheTable.{Entry, block, readEntry, readEntries, readRow}
 use Rattle.table.specs.Soundness.{sound, sameLabel, entryForm, entriesForm}
 use Rattle.table.proofs.Form.{part-take, length-read}
 use Rattle.table.proofs.Sound.{clauses, head-of}
-use Rattle.deciding.specs.Deciding.{entryFrom, noEntry, entryAt}
+use Rattle.rules.specs.Deciding.{entryFrom, noEntry, entryAt}
 
 -- the bytes of the entries, and how many there are
 abbrev pub room : List ℕ → List ℕ

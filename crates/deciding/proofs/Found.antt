@@ -15,7 +15,7 @@ use Rattle.table.specs.TheTable.{Access, places, line, orderLine, block, readRo
 use Rattle.table.specs.Soundness.{sound, hasForm, sumsAgree, lineExact, onEntry}
 use Rattle.table.proofs.Form.{line-read}
 use Rattle.changes.proofs.Steps.{keep-map}
-use Rattle.deciding.specs.Deciding.{withSession, placeOf, firstOn, none}
+use Rattle.rules.specs.Deciding.{withSession, placeOf, firstOn, none}
 use Rattle.deciding.proofs.Search.{hunt, all-in}
 
 pub line-sound : (r : List ℕ) → sound r ≡ true → lineExact r ≡ true

@@ -20,7 +20,7 @@ use Rattle.table.specs.Soundness.{limits, onEntry, sameLabel, sessions, underLi
 use Rattle.table.specs.TheTable.{Access, Entry, Subscriber, line}
 use Rattle.changes.proofs.Keep.{good-freed, good-opened, good-routed}
 use Rattle.changes.proofs.Stays.{MayOpen, under-snoc}
-use Rattle.deciding.specs.Deciding.{Verdict, admit, atLimit, decide, entryAt, entryFrom, entryNamed, firstOn, grant, heldAlready, noEntry, none, openOn, placeOf, refuse, terminate, type0, type1, withSession}
+use Rattle.rules.specs.Deciding.{Verdict, admit, atLimit, decide, entryAt, entryFrom, entryNamed, firstOn, grant, heldAlready, noEntry, none, openOn, placeOf, refuse, terminate, type0, type1, withSession}
 use Rattle.octets.proofs.Choice.{by-pick}
 use Rattle.octets.proofs.Lists.{and-left, and-right, by-test, every-append, every-keep, every-map, every-one, in-within, keep-comm, keep-length, keep-none, within-high, within-low}
 use Rattle.table.proofs.Good.{Fits, Good, each-entry, fewer, goodEntry, length-limits}

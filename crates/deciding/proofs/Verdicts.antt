@@ -15,7 +15,7 @@ use Rattle.deciding.proofs.Entries.{most-four}
 use Rattle.deciding.proofs.Found.{bothAre, ended-is, entryIs, first-is, on-places, session-is, sessionIs}
 use Rattle.deciding.proofs.Search.{hunt-on}
 use Rattle.deciding.proofs.Stay.{limit-is, limit-some, room-left}
-use Rattle.deciding.specs.Deciding.{admit, atLimit, entryAt, entryNamed, firstOn, grant, heldAlready, none, placeOf, refuse, terminate, type0, type1, withSession}
+use Rattle.rules.specs.Deciding.{admit, atLimit, entryAt, entryNamed, firstOn, grant, heldAlready, none, placeOf, refuse, terminate, type0, type1, withSession}
 use Rattle.deciding.specs.declared.Plan.the-variants.{Open, Route}
 use Rattle.deciding.specs.Plans.{fitPlan, planned}
 use Rattle.octets.proofs.Lists.{and-left, both, in-within, within-low}

@@ -12,7 +12,7 @@ use Rattle.table.specs.TheTable.{Subscriber, orderLine, readRow}
 use Rattle.changes.specs.Changes.{freed, routed}
 use Rattle.deciding.specs.declared.Plan.{Plan}
 use Rattle.deciding.specs.declared.Plan.the-variants.{NotSubscribed, Barred, RoamingNotAllowed, UnableToComply, UnusedByUser, Open, Route, Free}
-use Rattle.deciding.specs.Deciding.{Verdict, refuse, grant, openOn, atPlace}
+use Rattle.rules.specs.Deciding.{Verdict, refuse, grant, openOn, atPlace}
 
 -- The verdict that a plan stands for, for a request that brings these texts.
 unfoldable pub planned : (session host route : List ℕ) → Plan → Subscriber → Verdict

@@ -10,7 +10,7 @@ ghost use lib.ListN.{length};
 ghost use Rattle.octets.specs.Choice.{within};
 ghost use Rattle.table.specs.TheTable.{readRow};
 ghost use Rattle.table.specs.Soundness.{sound};
-ghost use Rattle.deciding.specs.Deciding.{type0, type1, terminate, admit};
+ghost use Rattle.rules.specs.Deciding.{type0, type1, terminate, admit};
 ghost use Rattle.deciding.specs.Plans.{planned, fitPlan};
 
 // An opening on entry n: at its limit, the entry's first-opened access is cut for it.

@@ -7,7 +7,7 @@ ghost use lib.ListN.{length, getD};
 ghost use Rattle.octets.specs.Texts.{same};
 ghost use Rattle.table.specs.TheTable.{block, orderLine, readAccess, readRow};
 ghost use Rattle.table.specs.Soundness.{sound, onEntry, sameLabel};
-ghost use Rattle.deciding.specs.Deciding.{entryNamed, entryAt, withSession, placeOf, firstOn};
+ghost use Rattle.rules.specs.Deciding.{entryNamed, entryAt, withSession, placeOf, firstOn};
 
 // The i-th place on the order line, first opened first; 0 where the line is over.
 fn line_at(row: &[u8], i: usize) -> usize

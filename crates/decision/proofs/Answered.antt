@@ -24,12 +24,12 @@ use Rattle.table.specs.TheTable.{Access, Subscriber}
 use Rattle.deciding.specs.declared.Plan.{Plan}
 use Rattle.deciding.specs.declared.Plan.the-variants.{NotSubscribed, Barred, RoamingNotAllowed, UnableToComply, UnusedByUser, Open, Route, Free}
 use Rattle.message.specs.WritingTheAnswer.{answer, answerRoom}
-use Rattle.decision.specs.declared.Outcome.{Outcome}
 use Rattle.decision.specs.declared.Done.{Done}
-use Rattle.deciding.specs.Deciding.{Verdict, refuse, grant, openOn}
+use Rattle.decision.specs.declared.Decided.{Decided}
+use Rattle.rules.specs.Deciding.{Verdict, refuse, grant, openOn}
 use Rattle.deciding.specs.Plans.{planned, fitting}
-use Rattle.decision.specs.Calls.{resultOf, noticeRoom, reply, settled}
-use Rattle.decision.specs.Outcomes.{cutMade, cutSession, cutHost, resultSaid, planKind, planCode, sessionText, hostText, leaves, callOf, cutFor, doneFor, tableAfter}
+use Rattle.rules.specs.Calls.{resultOf, noticeRoom, reply, settled}
+use Rattle.decision.specs.Outcomes.{Named, answeredBy, cutMade, cutSession, cutHost, resultSaid, planKind, planCode, sessionText, hostText, leaves, callOf, cutFor, doneFor, tableAfter}
 
 -- CODES
 
@@ -99,29 +99,37 @@ module _ (m : List ℕ) (u : Span) (inside : isInside m u ≡ true) (a : Ask) (e
 
 -- THE REPLY
 
--- an outcome and its rooms, from what was written
-pub answered-is : (k : Kind) (n : ℕ) (m host realm room notice : List ℕ) (wag : Bool) (place : ℕ) (cut : List Access) (o : Outcome) (t a u : List ℕ)
-    → a ≡ answerRoom m host realm (codeFrom k n) room
-    → o ≡ record { code = n; kind = k; length = length (answer m host realm (codeFrom k n)); place = place; cut = cutFor cut }
-    → u ≡ noticeRoom cut notice
-    → leaves o t a u ≡ record { reply = reply (callOf m host realm room notice wag) (codeFrom k n) place cut; table = t }
-unfolding leaves reply callOf
-answered-is k n m host realm room notice wag place cut o t a u ea eo eu =
-    let r : resultSaid o ≡ resultOf (length (answer m host realm (codeFrom k n))) place (codeFrom k n) cut =
-    ap resultSaid eo ∙ result-is k n (length (answer m host realm (codeFrom k n))) place cut in
-    λ i. record { reply = record { result = r i; answer = ea i; notice = eu i }; table = t }
+-- a code other than 2001 names nobody
+pub nobody-named : (m : List ℕ) (d : Decided) → (d .code ≡ 2001 → ⊥) → Named m d
+nobody-named m d h = record { holds = λ e. absurd (h e); short = λ e. absurd (h e) }
 
-pub settled-is : (t : List ℕ) (i : ℕ) (m host realm room notice : List ℕ) (wag : Bool) (v : Verdict) (k : Kind) (n : ℕ) (d : Done) (o : Outcome) (t′ a u : List ℕ)
+-- the outcome, from what was written
+pub written-is : (d : Decided) (n : ℕ) (m host realm room t a u : List ℕ)
+    → n ≡ length (answer m host realm (codeFrom (d .kind) (d .code)))
+    → a ≡ answerRoom m host realm (codeFrom (d .kind) (d .code)) room
+    → leaves (record { code = d .code; kind = d .kind; length = n; place = d .place; cut = d .cut }) t a u ≡ answeredBy d m host realm room t u
+unfolding answeredBy
+written-is d n m host realm room t a u en ea = λ j. leaves (record { code = d .code; kind = d .kind; length = en j; place = d .place; cut = d .cut }) t (ea j) u
+
+-- what is decided and the notice room, answered
+pub answered-is : (k : Kind) (n : ℕ) (user : Span) (m host realm room notice : List ℕ) (wag : Bool) (place : ℕ) (cut : List Access) (t u : List ℕ)
+    → u ≡ noticeRoom cut notice
+    → answeredBy (record { code = n; kind = k; user = user; place = place; cut = cutFor cut }) m host realm room t u
+    ≡ record { reply = reply (callOf m host realm room notice wag) (codeFrom k n) place cut; table = t }
+unfolding answeredBy leaves reply callOf
+answered-is k n user m host realm room notice wag place cut t u eu =
+    let c = codeFrom k n in
+    λ i. record { reply = record { result = result-is k n (length (answer m host realm c)) place cut i; answer = answerRoom m host realm c room; notice = eu i }; table = t }
+
+pub settled-is : (t : List ℕ) (i : ℕ) (m host realm room notice : List ℕ) (wag : Bool) (v : Verdict) (k : Kind) (n : ℕ) (user : Span) (d : Done) (t′ u : List ℕ)
     → v .code ≡ codeFrom k n
     → t′ ≡ tableAfter t i v
     → u ≡ noticeRoom (v .cut) notice
     → d ≡ doneFor v
-    → a ≡ answerRoom m host realm (codeFrom k n) room
-    → o ≡ record { code = n; kind = k; length = length (answer m host realm (codeFrom k n)); place = d .place; cut = d .cut }
-    → leaves o t′ a u ≡ settled t (callOf m host realm room notice wag) i v
+    → answeredBy (record { code = n; kind = k; user = user; place = d .place; cut = d .cut }) m host realm room t′ u
+    ≡ settled t (callOf m host realm room notice wag) i v
 unfolding settled tableAfter doneFor
-settled-is t i m host realm room notice wag v k n d o t′ a u ec et eu ed ea eo =
-    let eo′ : o ≡ record { code = n; kind = k; length = length (answer m host realm (codeFrom k n)); place = v .place; cut = cutFor (v .cut) } =
-    eo ∙ ap (λ (x : Done). record { code = n; kind = k; length = length (answer m host realm (codeFrom k n)); place = x .place; cut = x .cut }) ed in
-    answered-is k n m host realm room notice wag (v .place) (v .cut) o t′ a u ea eo′ eu
+settled-is t i m host realm room notice wag v k n user d t′ u ec et eu ed =
+    ap (λ (x : Done). answeredBy (record { code = n; kind = k; user = user; place = x .place; cut = x .cut }) m host realm room t′ u) ed
+    ∙ answered-is k n user m host realm room notice wag (v .place) (v .cut) t′ u eu
     ∙ (λ j. record { reply = reply (callOf m host realm room notice wag) (sym ec j) (v .place) (v .cut); table = et j })

@@ -18,8 +18,8 @@ use Rattle.message.proofs.Callers.{message-length}
 use Rattle.decision.specs.declared.Cut.the-variants.{NoCut}
 use Rattle.message.specs.CallsThatGetNoAnswer.{messageNumber}
 use Rattle.table.specs.TheTable.{tableNumber}
-use Rattle.decision.specs.Calls.{Call, callNumber, handle, onReading, silent}
-use Rattle.decision.specs.Outcomes.{callOf, cutHost, cutMade, cutSession, leaves, resultSaid, Ready}
+use Rattle.rules.specs.Calls.{Call, callNumber, handle, onReading, silent}
+use Rattle.decision.specs.Outcomes.{callOf, cutHost, cutMade, cutSession, leaves, resultSaid}
 
 module _ (t : List ℕ) (c : Call) where
   pub number-table : (tableNumber t ≡ 0 → ⊥) → callNumber t c ≡ tableNumber t
@@ -55,6 +55,14 @@ module _ (t : List ℕ) (c : Call) where
               (λ e. rw e))
 
 -- A CALL THAT IS ANSWERED
+
+-- A call that gets an answer: the message has 20 to 4,096 bytes, the own names at most 128, and the answer room 5,120 or more.
+pub record Ready (m host realm room : List ℕ) : Type 0 where
+  pub least : 20 ≤ length m
+  pub most : length m ≤ 4096
+  pub host-fits : length host ≤ 128
+  pub realm-fits : length realm ≤ 128
+  pub room-fits : 5120 ≤ length room
 
 -- what lent things are like where no number is given
 module _ (t m host realm room notice : List ℕ) (wag : Bool) (z : callNumber t (callOf m host realm room notice wag) ≡ 0) where

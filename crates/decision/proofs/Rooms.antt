@@ -14,8 +14,8 @@ use Rattle.octets.specs.Texts.{filled, part, put, zeros}
 use Rattle.table.specs.Soundness.{sound}
 use Rattle.table.specs.TheTable.{Access, accessBytes, block, held, orderLine, readAccess, readRow, rowAt, sealed, sumsFrom}
 use Rattle.changes.proofs.Steps.{keep-map}
-use Rattle.decision.specs.Calls.{noticeRoom}
-use Rattle.deciding.specs.Deciding.{atPlace}
+use Rattle.rules.specs.Calls.{noticeRoom}
+use Rattle.rules.specs.Deciding.{atPlace}
 use Rattle.octets.proofs.Lists.{and-left, and-right, by-test, eqb-comm, every-imp, on-cons, on-none, within-high}
 use Rattle.octets.proofs.Texts.{length-filled, length-part}
 use Rattle.table.proofs.Bytes.{block-place}

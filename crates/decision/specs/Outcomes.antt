@@ -1,11 +1,14 @@
 -- What the code's structs and enums say in the paper's numbers.
+use mathlib.Core.Path.{_≡_}
 use mathlib.Core.Bool.{Bool}
 use mathlib.Core.List.{List, [], _∷_}
 use Prim.Native.Nat.{ℕ, _≤_}
 use lib.ListN.{length}
-use Rattle.message.specs.Codes.{kindOf, numberOf}
+use Rattle.message.specs.Codes.{Code, kindOf, numberOf}
 use Rattle.message.specs.Kinds.{codeFrom}
-use Rattle.message.specs.Spans.{bytesOf}
+use Rattle.message.specs.ReadingAMessage.{userName}
+use Rattle.message.specs.Spans.{Holds, bytesOf}
+use Rattle.message.specs.WritingTheAnswer.{answer, answerRoom}
 use Rattle.message.specs.declared.Kind.{Kind}
 use Rattle.message.specs.declared.Kind.the-variants.{Plain, Experimental}
 use Rattle.message.specs.declared.Asked.{Asked}
@@ -16,9 +19,10 @@ use Rattle.decision.specs.declared.Cut.{Cut}
 use Rattle.decision.specs.declared.Cut.the-variants.{NoCut, Lengths}
 use Rattle.decision.specs.declared.Outcome.{Outcome}
 use Rattle.decision.specs.declared.Done.{Done}
-use Rattle.decision.specs.Calls.{Call, Result, Left}
+use Rattle.decision.specs.declared.Decided.{Decided}
+use Rattle.rules.specs.Calls.{Call, Result, Left}
 use Rattle.table.specs.TheTable.{Access, rowBytes, withRow}
-use Rattle.deciding.specs.Deciding.{Verdict}
+use Rattle.rules.specs.Deciding.{Verdict}
 use lib.Dec.{eqb}
 use Rattle.octets.specs.Choice.{pick}
 
@@ -52,6 +56,18 @@ resultSaid o =
 -- All that a call leaves: its outcome, and the full contents of table, answer room and notice room.
 unfoldable pub leaves : Outcome → (table answer notice : List ℕ) → Left
 leaves o table answer notice = record { reply = record { result = resultSaid o; answer = answer; notice = notice }; table = table }
+
+-- All that a call leaves once what is decided is answered.
+unfoldable pub answeredBy : Decided → (message host realm answer : List ℕ) → (table notice : List ℕ) → Left
+answeredBy d m host realm room table notice =
+    let c : Code = codeFrom (d .kind) (d .code) in
+    let n : ℕ = length (answer m host realm c) in
+    leaves (record { code = d .code; kind = d .kind; length = n; place = d .place; cut = d .cut }) table (answerRoom m host realm c room) notice
+
+-- Where the code is 2001, the span is that of the User-Name, of at most 128 bytes.
+pub record Named (m : List ℕ) (d : Decided) : Type 0 where
+  pub holds : d .code ≡ 2001 → Holds m userName (d .user)
+  pub short : d .code ≡ 2001 → d .user .len ≤ 128
 
 -- A call, from what is lent.
 unfoldable pub callOf : (message host realm answer notice : List ℕ) → (wag : Bool) → Call
@@ -107,11 +123,3 @@ doneFor v = record { place = v .place; cut = cutFor (v .cut) }
 -- The table that a verdict on row i leaves.
 unfoldable pub tableAfter : List ℕ → ℕ → Verdict → List ℕ
 tableAfter t i v = pick (eqb (numberOf (v .code)) 2001) (withRow t i (rowBytes (v .after))) t
-
--- A call that gets an answer: the message has 20 to 4,096 bytes, the own names at most 128, and the answer room 5,120 or more.
-pub record Ready (m host realm room : List ℕ) : Type 0 where
-  pub least : 20 ≤ length m
-  pub most : length m ≤ 4096
-  pub host-fits : length host ≤ 128
-  pub realm-fits : length realm ≤ 128
-  pub room-fits : 5120 ≤ length room

@@ -10,8 +10,8 @@ ghost use Rattle.octets.specs.Lists.{isOn};
 ghost use Rattle.table.specs.TheTable.{orderLine, readRow, rowAt, rowBytes, withRow};
 ghost use Rattle.table.specs.Soundness.{sound};
 ghost use Rattle.changes.specs.Changes.{freed, lowestFree, opened};
-ghost use Rattle.deciding.specs.Deciding.{atPlace};
-ghost use Rattle.decision.specs.Calls.{noticeRoom};
+ghost use Rattle.rules.specs.Deciding.{atPlace};
+ghost use Rattle.rules.specs.Calls.{noticeRoom};
 ghost use Rattle.deciding.specs.Plans.{planned, fitPlan};
 ghost use Rattle.decision.specs.Outcomes.{cutFor, doneFor, tableAfter};
 

@@ -1,5 +1,6 @@
 // A whole call.
 use super::Cut;
+use super::Decided;
 use super::Outcome;
 use super::carrying;
 use deciding::Plan;
@@ -16,14 +17,14 @@ ghost use lib.ListN.{length};
 ghost use Rattle.octets.specs.Choice.{within};
 ghost use Rattle.octets.specs.Lists.{every};
 ghost use Rattle.message.specs.Kinds.{codeFrom};
-ghost use Rattle.message.specs.Spans.{asks, bytesOf, hasProxies, isInside, spansIn};
-ghost use Rattle.decision.specs.Calls.{callNumber, handle, onRow, refusal, settled};
+ghost use Rattle.message.specs.Spans.{asks, bytesOf, isInside, says, spans, spansIn};
+ghost use Rattle.rules.specs.Calls.{callNumber, handle, onReading, onRow, refusal, settled};
 ghost use Rattle.message.specs.ReadingAMessage.{read, request};
 ghost use Rattle.table.specs.TheTable.{lookup, readRow, rowAt, tableNumber};
 ghost use Rattle.table.specs.Soundness.{sound};
-ghost use Rattle.deciding.specs.Deciding.{decide};
+ghost use Rattle.rules.specs.Deciding.{decide};
 ghost use Rattle.deciding.specs.Plans.{planned, fitPlan, fitting};
-ghost use Rattle.decision.specs.Outcomes.{leaves, callOf, planKind, planCode, sessionText, hostText, routeText, Ready};
+ghost use Rattle.decision.specs.Outcomes.{Named, answeredBy, callOf, hostText, leaves, planCode, planKind, routeText, sessionText};
 
 // An own name of 1 to 128 bytes.
 fn name_fits(s: &[u8]) -> bool
@@ -177,51 +178,36 @@ fn plan_for(row: &[u8], m: &[u8], asked: Asked, wag: bool) -> Plan
     }
 }
 
-// A refusal: the answer is written, nothing else is changed.
-fn refuse(
-    m: &[u8],
-    host: &[u8],
-    realm: &[u8],
-    kind: Kind,
-    code: u32,
-    proxies: bool,
-    room: &mut [u8],
-) -> Outcome
-    requires { ⌜ Ready (now m) (now host) (now realm) (now room) × (proxies ≡ hasProxies (now m)) × (code ≡ 2001 → ⊥) ⌝ }
-    ensures { λ r. ⌜ ((table notice : List ℕ) (wag : Bool) → leaves r table (now (room .exit)) notice
-        ≡ refusal table (callOf (now (m .entry)) (now (host .entry)) (now (realm .entry)) (now (room .entry)) notice wag) (codeFrom kind code)) ⌝ }
+// A refusal, which leaves the table as it is and has no notice.
+fn refused(kind: Kind, code: u32) -> Decided
+    ensures { λ r. ⌜ (r .code ≡ code) × ((m host realm room table notice : List ℕ) (wag : Bool) → answeredBy r m host realm room table notice
+        ≡ refusal table (callOf m host realm room notice wag) (codeFrom kind code)) ⌝ }
 {
-    let none = Span { at: 0, len: 0 };
-    let size = answers::answer(m, host, realm, kind, code, none, proxies, room);
-    Outcome {
+    Decided {
         code: code,
         kind: kind,
-        length: size,
+        user: Span { at: 0, len: 0 },
         place: 0,
         cut: Cut::NoCut,
     }
 }
 
-// A request on row i, which is sound: what is decided is carried out and answered.
+// A request on row i, which is sound: what is decided is carried out.
 fn settle(
     table: &mut [u8],
     i: usize,
     m: &[u8],
-    host: &[u8],
-    realm: &[u8],
     wag: bool,
     user: Span,
     asked: Asked,
-    proxies: bool,
-    room: &mut [u8],
     notice: &mut [u8],
-) -> Outcome
-    requires { ⌜ Ready (now m) (now host) (now realm) (now room) × (256 ≤ length (now notice)) × (4608 * i + 4608 ≤ length (now table)) × (sound (rowAt (now table) i) ≡ true)
-        × (every (isInside (now m)) (spansIn asked) ≡ true) × (isInside (now m) user ≡ true) × (proxies ≡ hasProxies (now m))
+) -> Decided
+    requires { ⌜ (256 ≤ length (now notice)) × (4608 * i + 4608 ≤ length (now table)) × (sound (rowAt (now table) i) ≡ true)
+        × (every (isInside (now m)) (spansIn asked) ≡ true) × (isInside (now m) user ≡ true)
         × (read (now m) ≡ request (record { user = bytesOf (now m) user; ask = asks (now m) asked })) ⌝ }
-    ensures { λ r. ⌜ leaves r (now (table .exit)) (now (room .exit)) (now (notice .exit))
-        ≡ settled (now (table .entry)) (callOf (now (m .entry)) (now (host .entry)) (now (realm .entry)) (now (room .entry)) (now (notice .entry)) wag) i
-        (decide (asks (now (m .entry)) asked) wag (readRow (rowAt (now (table .entry)) i))) ⌝ }
+    ensures { λ r. ⌜ Named (now (m .entry)) r × ((host realm room : List ℕ) → answeredBy r (now (m .entry)) host realm room (now (table .exit)) (now (notice .exit))
+        ≡ settled (now (table .entry)) (callOf (now (m .entry)) host realm room (now (notice .entry)) wag) i
+        (decide (asks (now (m .entry)) asked) wag (readRow (rowAt (now (table .entry)) i)))) ⌝ }
 {
     let a = 4608 * i;
     let e = a + 4608;
@@ -232,13 +218,12 @@ fn settle(
     let done = carrying::carry(table, i, plan, session, gateway, route, notice);
     let kind = kind_of(plan);
     let code = code_of(plan);
-    let written = answers::answer(m, host, realm, kind, code, user, proxies, room);
     let place = done.place;
     let cut = done.cut;
-    Outcome {
+    Decided {
         code: code,
         kind: kind,
-        length: written,
+        user: user,
         place: place,
         cut: cut,
     }
@@ -248,44 +233,45 @@ fn settle(
 fn on_request(
     table: &mut [u8],
     m: &[u8],
-    host: &[u8],
-    realm: &[u8],
     wag: bool,
     user: Span,
     asked: Asked,
-    proxies: bool,
-    room: &mut [u8],
     notice: &mut [u8],
-) -> Outcome
-    requires { ⌜ Ready (now m) (now host) (now realm) (now room) × (256 ≤ length (now notice)) × (tableNumber (now table) ≡ 0)
-        × (every (isInside (now m)) (spansIn asked) ≡ true) × (isInside (now m) user ≡ true) × (proxies ≡ hasProxies (now m))
+) -> Decided
+    requires { ⌜ (256 ≤ length (now notice)) × (tableNumber (now table) ≡ 0)
+        × (every (isInside (now m)) (spansIn asked) ≡ true) × (isInside (now m) user ≡ true)
         × (read (now m) ≡ request (record { user = bytesOf (now m) user; ask = asks (now m) asked })) ⌝ }
-    ensures { λ r. ⌜ leaves r (now (table .exit)) (now (room .exit)) (now (notice .exit))
-        ≡ onRow (now (table .entry)) (callOf (now (m .entry)) (now (host .entry)) (now (realm .entry)) (now (room .entry)) (now (notice .entry)) wag)
-        (record { user = bytesOf (now (m .entry)) user; ask = asks (now (m .entry)) asked }) (lookup (now (table .entry)) (bytesOf (now (m .entry)) user)) ⌝ }
+    ensures { λ r. ⌜ Named (now (m .entry)) r × ((host realm room : List ℕ) → answeredBy r (now (m .entry)) host realm room (now (table .exit)) (now (notice .exit))
+        ≡ onRow (now (table .entry)) (callOf (now (m .entry)) host realm room (now (notice .entry)) wag)
+        (record { user = bytesOf (now (m .entry)) user; ask = asks (now (m .entry)) asked }) (lookup (now (table .entry)) (bytesOf (now (m .entry)) user))) ⌝ }
 {
     let found = table::lookup(table, text(m, user));
     let RowFound::At(i) = found else {
-        return refuse(m, host, realm, Kind::Experimental, 5001, proxies, room);
+        return refused(Kind::Experimental, 5001);
     };
     let a = 4608 * i;
     let e = a + 4608;
     if !soundness::row_sound(&table[a..e]) {
-        return refuse(m, host, realm, Kind::Plain, 5012, proxies, room);
+        return refused(Kind::Plain, 5012);
     }
-    settle(
-        table,
-        i,
-        m,
-        host,
-        realm,
-        wag,
-        user,
-        asked,
-        proxies,
-        room,
-        notice,
-    )
+    settle(table, i, m, wag, user, asked, notice)
+}
+
+// What is decided on a message as it was read: it was refused, or it is a request.
+fn on_reading(table: &mut [u8], m: &[u8], wag: bool, told: Told, notice: &mut [u8]) -> Decided
+    requires { ⌜ (256 ≤ length (now notice)) × (tableNumber (now table) ≡ 0)
+        × (says (now m) told ≡ read (now m)) × (every (isInside (now m)) (spans told) ≡ true) ⌝ }
+    ensures { λ r. ⌜ Named (now (m .entry)) r × ((host realm room : List ℕ) → answeredBy r (now (m .entry)) host realm room (now (table .exit)) (now (notice .exit))
+        ≡ onReading (now (table .entry)) (callOf (now (m .entry)) host realm room (now (notice .entry)) wag) (read (now (m .entry)))) ⌝ }
+{
+    match told {
+        Told::Refused(code) => {
+            return refused(Kind::Plain, code);
+        }
+        Told::Request(user, asked) => {
+            return on_request(table, m, wag, user, asked, notice);
+        }
+    }
 }
 
 // One request: read, decided on and answered. Nothing is asked of what is lent; a bad table, name, room or message gets its number.
@@ -314,23 +300,18 @@ pub fn handle(
     let heard = message::read(message);
     let told = heard.told;
     let proxies = heard.proxies;
-    match told {
-        Told::Refused(code) => {
-            return refuse(message, host, realm, Kind::Plain, code, proxies, answer);
-        }
-        Told::Request(user, asked) => {
-            return on_request(
-                table,
-                message,
-                host,
-                realm,
-                wag,
-                user,
-                asked,
-                proxies,
-                answer,
-                notice,
-            );
-        }
+    let decided = on_reading(table, message, wag, told, notice);
+    let kind = decided.kind;
+    let code = decided.code;
+    let user = decided.user;
+    let written = answers::answer(message, host, realm, kind, code, user, proxies, answer);
+    let place = decided.place;
+    let cut = decided.cut;
+    Outcome {
+        code: code,
+        kind: kind,
+        length: written,
+        place: place,
+        cut: cut,
     }
 }

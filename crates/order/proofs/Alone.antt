@@ -7,7 +7,7 @@ use Prim.Native.Nat.{ℕ}
 use Rattle.octets.specs.Choice.{pick}
 use Rattle.octets.specs.Lists.{keep}
 use Rattle.octets.proofs.Lists.{by-test}
-use Rattle.decision.specs.Calls.{Call, Reply}
+use Rattle.rules.specs.Calls.{Call, Reply}
 use Rattle.order.specs.Demand3.{Subject, nobody, subscriber, sameSubject, subject, isOf, callsOf, repliesOf, Record, absent, bytes, isBy, callsBy, repliesBy}
 use Rattle.order.proofs.Finding.{subject-eq, subject-refl, finds, ownerOf, finds-owner}
 

@@ -13,8 +13,8 @@ use Rattle.message.specs.Codes.{Code, plain, userUnknown, numberOf}
 use Rattle.message.specs.ReadingAMessage.{read, headerCode, walkCode, listCode, readingCode, command, avps}
 use Rattle.table.specs.TheTable.{Found, row, nothing, isFound, rowAt, readRow}
 use Rattle.table.specs.Soundness.{sound}
-use Rattle.deciding.specs.Deciding.{Verdict, decide}
-use Rattle.decision.specs.Calls.{Call, callNumber, silent, refusal, settled, onRow, onReading, handle}
+use Rattle.rules.specs.Deciding.{Verdict, decide}
+use Rattle.rules.specs.Calls.{Call, callNumber, silent, refusal, settled, onRow, onReading, handle}
 use Rattle.order.specs.Demand2.{Check, check, firstFailing, noneFails, readingChecks, decidingChecks, requestIn, found, rowFound, rowBefore, said, checks}
 use Rattle.order.proofs.Read.{other, header-code, walk-code, list-code}
 

@@ -13,8 +13,8 @@ use Rattle.message.specs.Codes.{Code, plain, numberOf, kindOf}
 use Rattle.message.specs.ReadingAMessage.{Ask}
 use Rattle.table.specs.TheTable.{Access, Subscriber, isFound, rowAt, withRow, readRow, rowBytes}
 use Rattle.table.proofs.Sound.{says-good}
-use Rattle.deciding.specs.Deciding.{Verdict, refuse}
-use Rattle.decision.specs.Calls.{Call, Left, callNumber, silent, reply, refusal, settled, resultOf, noticeRoom, handle}
+use Rattle.rules.specs.Deciding.{Verdict, refuse}
+use Rattle.rules.specs.Calls.{Call, Left, callNumber, silent, reply, refusal, settled, resultOf, noticeRoom, handle}
 use Rattle.order.specs.Demand2.{Check, firstFailing, noneFails, requestIn, found, said, checks, succeeds, exceeds, onAsked, cutFor, placeTaken, afterwards, CodeOf, Unchanged}
 use Rattle.order.specs.Demand2.{FirstFailingCheck, SuccessExactly, RefusedChangesNothing, UnansweredLeaves, RefusedLeaves, CutExactly, OneToCut, SuccessReply, SuccessFindsRow}
 use Rattle.order.proofs.Read.{other, call-other}

@@ -13,7 +13,7 @@ use Rattle.octets.proofs.Choice.{first-passes, others-pass}
 use Rattle.octets.proofs.Lists.{by-test}
 use Rattle.message.specs.ReadingAMessage.{read, readingCode, listCode, command, avps, userName, valueOf, requestOf}
 use Rattle.table.specs.TheTable.{cutInRows, rowLength, tableNumber}
-use Rattle.decision.specs.Calls.{Call, Reply, run}
+use Rattle.rules.specs.Calls.{Call, Reply, run}
 use Rattle.order.specs.Demand3.{Subject, nobody, subscriber, sameSubject, subject, sentBy, isOf, callsOf, recordOf, ownNumber, Counting, nameRead, sender, isBy, callsBy, repliesBy}
 use Rattle.order.specs.Demand3.{SubjectCounts, SenderCounts, NoSender, RepliesAloneBy, RecordAloneBy, SameTableBy, SameRepliesBy}
 use Rattle.order.proofs.Finding.{subject-eq, subject-refl}

@@ -14,7 +14,7 @@ use Rattle.message.specs.ReadingAMessage.{Ask, tunnel, policy, termination}
 use Rattle.table.specs.TheTable.{Access, Subscriber, line}
 use Rattle.table.specs.Soundness.{onEntry}
 use Rattle.table.proofs.Good.{Good}
-use Rattle.deciding.specs.Deciding.{atLimit, atPlace, entryAt, entryNamed, firstOn, placeOf}
+use Rattle.rules.specs.Deciding.{atLimit, atPlace, entryAt, entryNamed, firstOn, placeOf}
 use Rattle.deciding.proofs.Stay.{entry-found, limit-is, limit-some}
 use Rattle.order.specs.Demand2.{check, noneFails, decidingChecks, exceeds, onAsked, firstAlone}
 use Rattle.order.proofs.Decided.{cutBy}

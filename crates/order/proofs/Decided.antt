@@ -10,7 +10,7 @@ use Rattle.message.specs.Codes.{plain, numberOf}
 use Rattle.message.specs.ReadingAMessage.{Ask, tunnel, policy, termination}
 use Rattle.table.specs.TheTable.{Access, Subscriber, barred, mayRoam}
 use Rattle.table.specs.Soundness.{onEntry}
-use Rattle.deciding.specs.Deciding.{Verdict, decide, type0, type1, terminate, admit, openOn, refuse, grant, heldAlready, entryNamed, entryAt, withSession, none, atLimit, atPlace, firstOn}
+use Rattle.rules.specs.Deciding.{Verdict, decide, type0, type1, terminate, admit, openOn, refuse, grant, heldAlready, entryNamed, entryAt, withSession, none, atLimit, atPlace, firstOn}
 use Rattle.order.specs.Demand2.{Check, check, firstFailing, noneFails, decidingChecks, exceeds, onAsked, spared, placeTaken, afterwards}
 
 -- the accesses that are cut, as they are decided

@@ -19,8 +19,8 @@ use Rattle.table.proofs.Sound.{row-is}
 use Rattle.changes.specs.Changes.{freed, opened, routed}
 use Rattle.changes.proofs.Rows.{row-size}
 use Rattle.changes.proofs.Steps.{row-name}
-use Rattle.deciding.specs.Deciding.{Verdict, decide, type0, type1, terminate, admit, openOn, refuse, grant, heldAlready}
-use Rattle.decision.specs.Calls.{Call, Reply, Left, callNumber, silent, reply, refusal, settled, onRow, onReading, handle}
+use Rattle.rules.specs.Deciding.{Verdict, decide, type0, type1, terminate, admit, openOn, refuse, grant, heldAlready}
+use Rattle.rules.specs.Calls.{Call, Reply, Left, callNumber, silent, reply, refusal, settled, onRow, onReading, handle}
 use Rattle.order.specs.Demand3.{Subject, nobody, subscriber, subject, sentBy, ownNumber}
 use Rattle.order.proofs.Finding.{finds, finds-front}
 use Rattle.order.proofs.Tables.{cut-at, cut-with, length-cut, length-rowAt, length-with, with-same}

@@ -12,7 +12,7 @@ use Rattle.octets.proofs.Lists.{by-test}
 use Rattle.message.specs.ReadingAMessage.{Reading, refused, request, read}
 use Rattle.table.specs.TheTable.{Found, row, nothing, later, firstRow, lookup, rows, cutInRows, rowLength, tableNumber, isRowOf}
 use Rattle.table.proofs.Rows.{whole-rows}
-use Rattle.decision.specs.Calls.{Call, Reply, Left, silent, refusal, onReading, handle, ranFirst, run}
+use Rattle.rules.specs.Calls.{Call, Reply, Left, silent, refusal, onReading, handle, ranFirst, run}
 use Rattle.order.specs.Demand3.{Subject, nobody, subscriber, sameSubject, subject, sentBy, isOf, callsOf, repliesOf, Record, absent, bytes, recordAt, recordOf, ownNumber}
 use Rattle.order.specs.Demand3.{OneReplyEach, EachInTurn, LastTable, RepliesAlone, RecordAlone, LookupStays, SameTable, SameReplies, NobodysReply, NobodyChangesNothing, NobodysReplies}
 use Rattle.order.proofs.Finding.{finds, subject-eq}

@@ -16,7 +16,7 @@ use Rattle.table.specs.TheTable.{Access, Subscriber, Found, row, nothing, later
 use Rattle.table.specs.Soundness.{onEntry, sessions}
 use Rattle.changes.specs.Changes.{freed, leave, opened, newAccess, routed}
 use Rattle.changes.proofs.Stays.{sids-hold, sids-snoc}
-use Rattle.decision.specs.Calls.{Call, handle, run, ranFirst, callNumber}
+use Rattle.rules.specs.Calls.{Call, handle, run, ranFirst, callNumber}
 use Rattle.order.specs.Demand2.{requestIn, found, rowBefore, said, succeeds, exceeds, onAsked, firstAlone, cutFor, afterwards, spared}
 use Rattle.order.specs.Demand3.{subscriber, isOf, subject, ownNumber}
 use Rattle.order.specs.OpenedFirst.{newSession, openings, Some, end, leaves, keeps, lineOf, OpenedInOrder, CutOpenedFirst}
@@ -79,7 +79,7 @@ held-same k route s = sids-hold k route (s .accesses)
 pub one-change : (q : Ask) (s : Subscriber) → Some (sessions ((afterwards q s) .accesses)) (sessions (s .accesses) ++ newSession q)
 unfolding afterwards newSession
 one-change (tunnel session host label visited) s =
-    rw (last-in (Rattle.deciding.specs.Deciding.entryNamed label s) session host (spared (tunnel session host label visited) s))
+    rw (last-in (Rattle.rules.specs.Deciding.entryNamed label s) session host (spared (tunnel session host label visited) s))
     (behind (session ∷ []) (spared-some (tunnel session host label visited) s))
 one-change (policy session route) s = rw (append-nil (sessions (s .accesses)), held-same _ route s) (all (sessions (s .accesses)))
 one-change (termination session label) s = rw (append-nil (sessions (s .accesses))) (left-out _ s)

@@ -15,7 +15,7 @@ use Rattle.octets.proofs.Lists.{and-left, and-right, both, by-test, every-map, 
 use Rattle.message.specs.CallsThatGetNoAnswer.{messageNumber}
 use Rattle.message.specs.ReadingAMessage.{Name, Avp, Walk, Field, Ask, headerCode, avpLength, avpCode, behind, walkOne, walkUpTo, walk, body, avps, walkCode, having, firstValue, valueOf, testedAs, fieldCode, forBoth, for265, for275, fields, listCode, readingCode, command, typeOf, askOf, requestOf, request, read}
 use Rattle.table.specs.TheTable.{tableNumber}
-use Rattle.decision.specs.Calls.{Call, callNumber}
+use Rattle.rules.specs.Calls.{Call, callNumber}
 use Rattle.decision.proofs.Answered.{request-fits}
 use Rattle.deciding.specs.Plans.{fitting}
 

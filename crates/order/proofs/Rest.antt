@@ -16,8 +16,8 @@ use Rattle.table.proofs.Bytes.{length-row, read-row}
 use Rattle.table.proofs.Good.{Good}
 use Rattle.table.proofs.Rows.{whole-rows}
 use Rattle.table.proofs.Sound.{says-good, sound-row}
-use Rattle.deciding.specs.Deciding.{Verdict}
-use Rattle.decision.specs.Calls.{Call, Left, callNumber, silent, refusal, settled, handle, ranFirst, run}
+use Rattle.rules.specs.Deciding.{Verdict}
+use Rattle.rules.specs.Calls.{Call, Left, callNumber, silent, refusal, settled, handle, ranFirst, run}
 use Rattle.deciding.proofs.Stay.{stays}
 use Rattle.order.specs.Demand2.{requestIn, found, checks, noneFails, afterwards, Replaced, SuccessReplacesRow, OtherRowsStay, SoundStaysSound, SoundStaysInList}
 use Rattle.order.proofs.Finding.{same-row}

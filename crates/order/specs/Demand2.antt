@@ -11,8 +11,8 @@ use Rattle.message.specs.ReadingAMessage.{Ask, tunnel, policy, termination, Req
 use Rattle.table.specs.TheTable.{Access, Subscriber, Found, row, nothing, isFound, lookup, rowAt, withRow, readRow, rowBytes, barred, mayRoam}
 use Rattle.table.specs.Soundness.{sound, onEntry}
 use Rattle.changes.specs.Changes.{freed, lowestFree, opened, routed}
-use Rattle.deciding.specs.Deciding.{entryNamed, entryAt, withSession, none, atLimit, placeOf}
-use Rattle.decision.specs.Calls.{Call, Left, callNumber, silent, reply, refusal, handle, run}
+use Rattle.rules.specs.Deciding.{entryNamed, entryAt, withSession, none, atLimit, placeOf}
+use Rattle.rules.specs.Calls.{Call, Left, callNumber, silent, reply, refusal, handle, run}
 
 -- CHECKS IN ORDER
 

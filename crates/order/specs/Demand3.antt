@@ -11,7 +11,7 @@ use Rattle.octets.specs.Texts.{same}
 use Rattle.message.specs.CallsThatGetNoAnswer.{messageNumber}
 use Rattle.message.specs.ReadingAMessage.{Reading, refused, request, read, headerCode, walkCode, command, avps, startsWith, sessionId, userName, valueOf, fieldCode, fields}
 use Rattle.table.specs.TheTable.{Found, row, nothing, lookup, rowAt}
-use Rattle.decision.specs.Calls.{Call, Reply, handle, run, answerLeast, noticeLength}
+use Rattle.rules.specs.Calls.{Call, Reply, handle, run, answerLeast, noticeLength}
 
 -- WHOSE A CALL IS
 

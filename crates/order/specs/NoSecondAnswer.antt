@@ -5,7 +5,7 @@ use mathlib.Core.List.{List}
 use Prim.Native.Nat.{ℕ}
 use Rattle.table.specs.TheTable.{Entry}
 use Rattle.setup.specs.SetUp.{SetUp, clear, enter, add}
-use Rattle.decision.specs.Calls.{Call, Left, handle}
+use Rattle.rules.specs.Calls.{Call, Left, handle}
 
 abbrev pub OneClearing : Type 0
 OneClearing = (t : List ℕ) (a b : SetUp) → a ≡ clear t → b ≡ clear t → a ≡ b

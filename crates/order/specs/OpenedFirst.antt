@@ -9,7 +9,7 @@ use Rattle.octets.specs.Choice.{pick}
 use Rattle.message.specs.ReadingAMessage.{Ask, tunnel, policy, termination}
 use Rattle.table.specs.TheTable.{Access, row, lookup, rowAt, readRow}
 use Rattle.table.specs.Soundness.{sound, sessions}
-use Rattle.decision.specs.Calls.{Call, Reply, handle, run}
+use Rattle.rules.specs.Calls.{Call, Reply, handle, run}
 use Rattle.order.specs.Demand2.{requestIn, said, onAsked, cutFor}
 use Rattle.order.specs.Demand3.{subscriber, subject, isOf}
 

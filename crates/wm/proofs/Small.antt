@@ -22,11 +22,11 @@ use Rattle.table.specs.Soundness.{sound}
 use Rattle.table.proofs.Good.{Good, goodAccess, places-eight, standing}
 use Rattle.table.proofs.Sound.{says-good}
 use Rattle.changes.specs.Changes.{lowestFree, vacant}
-use Rattle.deciding.specs.Deciding.{Verdict, admit, atLimit, atPlace, decide, entryNamed, grant, heldAlready, openOn, refuse, terminate, type0, type1}
-use Rattle.decision.specs.Calls.{Call, Left, callNumber, handle, onReading, onRow, refusal, reply, resultOf, settled, silent}
-use Rattle.decision.specs.Outcomes.{Ready, callOf}
+use Rattle.rules.specs.Deciding.{Verdict, admit, atLimit, atPlace, decide, entryNamed, grant, heldAlready, openOn, refuse, terminate, type0, type1}
+use Rattle.rules.specs.Calls.{Call, Left, callNumber, handle, onReading, onRow, refusal, reply, resultOf, settled, silent}
+use Rattle.decision.specs.Outcomes.{callOf}
 use Rattle.wm.specs.InC.{In32}
-use Rattle.decision.proofs.Numbers.{handled, is-ready, unanswered}
+use Rattle.decision.proofs.Numbers.{Ready, handled, is-ready, unanswered}
 
 -- texts that a notice has room for
 unfoldable short : Access → Bool

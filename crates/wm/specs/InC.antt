@@ -1,7 +1,7 @@
 -- What the C interface returns, in the paper's numbers.
 use mathlib.Core.List.{List}
 use Prim.Native.Nat.{ℕ, _<_}
-use Rattle.decision.specs.Calls.{Left, Result}
+use Rattle.rules.specs.Calls.{Left, Result}
 use Rattle.wm.specs.declared.WmOutcome.{WmOutcome}
 
 -- A result whose numbers fit 32 bits; every result of a call does (proofs/Small).

@@ -7,7 +7,7 @@ ghost use Prim.Native.Nat.{ℕ, _<_};
 ghost use Rattle.message.specs.Codes.{kindOf};
 ghost use Rattle.message.specs.Kinds.{codeFrom};
 ghost use Rattle.setup.specs.SetUp.{left, clear, enter, add};
-ghost use Rattle.decision.specs.Calls.{handle};
+ghost use Rattle.rules.specs.Calls.{handle};
 ghost use Rattle.decision.specs.Outcomes.{callOf, cutHost, cutMade, cutSession, resultSaid};
 ghost use Rattle.wm.specs.InC.{leavesInC, saidInC, In32};
 

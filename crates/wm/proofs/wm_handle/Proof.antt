@@ -2,7 +2,7 @@
 use mathlib.Core.Path.{ap, subst, sym}
 use Rattle.decision.specs.Outcomes.{leaves}
 use Rattle.wm.specs.InC.{leavesInC, In32}
-use Rattle.decision.specs.Calls.{Left}
+use Rattle.rules.specs.Calls.{Left}
 use Rattle.wm.proofs.Small.{small}
 use borrow.Author.Needs.{needs}
 use Rattle.wm.proofs.wm_handle.Statement.{statement}

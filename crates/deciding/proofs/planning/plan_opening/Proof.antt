@@ -1,7 +1,7 @@
 -- Below the limit there is room; at the limit there is an access to cut.
 use Rattle.table.specs.Soundness.{onEntry}
 use Rattle.table.specs.TheTable.{readRow}
-use Rattle.deciding.specs.Deciding.{firstOn, entryAt}
+use Rattle.rules.specs.Deciding.{firstOn, entryAt}
 use Rattle.changes.proofs.Rows.{row-size}
 use Rattle.deciding.proofs.Found.{line-sound}
 use Rattle.deciding.proofs.Verdicts.{opens, cuts, one-to-cut, fit-open, fit-cut}

@@ -5,7 +5,7 @@ use mathlib.Core.Bool.{true, false}
 use lib.Dec.{eqb}
 use borrow.Author.Tests.{eq-eqb, ne-eqb}
 use Rattle.table.specs.TheTable.{readRow}
-use Rattle.deciding.specs.Deciding.{none, withSession, placeOf}
+use Rattle.rules.specs.Deciding.{none, withSession, placeOf}
 use Rattle.deciding.specs.Plans.{planned}
 use Rattle.deciding.proofs.Found.{none-with}
 use Rattle.deciding.proofs.Verdicts.{no-access, gateway-no, gateway-yes, fit-place}

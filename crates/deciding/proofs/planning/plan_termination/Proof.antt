@@ -4,7 +4,7 @@ use lib.Dec.{eqb}
 use borrow.Author.Tests.{eq-eqb, ne-eqb}
 use Rattle.table.specs.TheTable.{readRow}
 use Rattle.table.specs.Soundness.{onEntry}
-use Rattle.deciding.specs.Deciding.{none, withSession, placeOf, entryNamed}
+use Rattle.rules.specs.Deciding.{none, withSession, placeOf, entryNamed}
 use Rattle.deciding.specs.Plans.{planned}
 use Rattle.deciding.proofs.Found.{none-ended}
 use Rattle.deciding.proofs.Verdicts.{not-used, is-ended, fit-ended}

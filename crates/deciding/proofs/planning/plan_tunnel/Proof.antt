@@ -4,7 +4,7 @@ use mathlib.Core.Bool.{false, not, _&&_}
 use lib.Dec.{eqb}
 use borrow.Author.Tests.{eq-eqb, ne-eqb}
 use Rattle.table.specs.TheTable.{readRow, mayRoam}
-use Rattle.deciding.specs.Deciding.{none, withSession, entryNamed, entryAt}
+use Rattle.rules.specs.Deciding.{none, withSession, entryNamed, entryAt}
 use Rattle.deciding.specs.Plans.{planned}
 use Rattle.deciding.proofs.Found.{none-with}
 use Rattle.deciding.proofs.Verdicts.{not-subscribed, is-barred, no-roaming, is-held, is-admitted}
@@ -114,7 +114,7 @@ returns-5 c =
     let there : none (withSession session (s .accesses)) ≡ eqb (c .before .before .place-of .result) 0 =
     none-with (a .row .now) session (start .pre) ∙ ap (λ (k : ℕ). eqb k 0) (sym (c .before .before .place-of .ensures .0)) in (
       λ host route. c .plan-opening .ensures .0 session host route
-          ∙ ap (λ (n : ℕ). Rattle.deciding.specs.Deciding.admit n session host s) named
+          ∙ ap (λ (n : ℕ). Rattle.rules.specs.Deciding.admit n session host s) named
           ∙ sym (is-admitted session host label (a .visited) s entered unbarred home (there ∙ eq-eqb _ 0 (c .before .if4 .left))),
       c .plan-opening .ensures .1,
     )

@@ -2,7 +2,7 @@
 use mathlib.Core.Bool.{true, false}
 use Rattle.table.specs.TheTable.{readRow}
 use Rattle.table.specs.Soundness.{sameLabel}
-use Rattle.deciding.specs.Deciding.{entryFrom, entryNamed, entryAt, noEntry}
+use Rattle.rules.specs.Deciding.{entryFrom, entryNamed, entryAt, noEntry}
 use Rattle.deciding.proofs.Entries.{name-over, name-hit, name-on}
 use mathlib.Core.Path.{_≡_, refl, sym, _∙_}
 use Prim.Native.Nat.{_+_, _-_, _≤_}

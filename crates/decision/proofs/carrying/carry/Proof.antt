@@ -13,8 +13,8 @@ use Rattle.octets.proofs.Lists.{and-left, and-right, within-low, within-high}
 use Rattle.message.specs.Codes.{numberOf}
 use Rattle.table.specs.TheTable.{orderLine, readRow, rowAt}
 use Rattle.deciding.specs.declared.Plan.the-variants.{Open, Route, Free}
-use Rattle.deciding.specs.Deciding.{refuse, grant, openOn}
-use Rattle.decision.specs.Calls.{noticeRoom}
+use Rattle.rules.specs.Deciding.{refuse, grant, openOn}
+use Rattle.rules.specs.Calls.{noticeRoom}
 use Rattle.deciding.specs.Plans.{planned, fitPlan}
 use borrow.Author.Needs.{needs}
 use Rattle.decision.proofs.carrying.carry.Statement.{statement}

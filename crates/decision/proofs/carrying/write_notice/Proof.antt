@@ -2,7 +2,7 @@
 use Rattle.decision.specs.declared.Cut.the-variants.{Lengths}
 use Rattle.octets.specs.Texts.{part, filled}
 use Rattle.table.specs.TheTable.{block, readAccess, rowAt}
-use Rattle.decision.specs.Calls.{noticeRoom}
+use Rattle.rules.specs.Calls.{noticeRoom}
 use Rattle.decision.proofs.Rooms.{at-most, at-place-is, texts-are, session-long, host-long, notice-is, part-in, byte-in}
 use mathlib.Core.Path.{_≡_, sym, ap, _∙_}
 use mathlib.Core.List.{[], _∷_, _++_}

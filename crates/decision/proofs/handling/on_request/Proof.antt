@@ -12,8 +12,9 @@ use Rattle.table.specs.TheTable.{lookup, row, nothing, rowAt}
 use Rattle.table.specs.Soundness.{sound}
 use Rattle.table.specs.Answers.{found}
 use Rattle.table.proofs.Rows.{lent-test}
-use Rattle.decision.specs.Calls.{onRow}
+use Rattle.rules.specs.Calls.{onRow}
 use Rattle.decision.specs.Outcomes.{callOf}
+use Rattle.decision.proofs.Answered.{nobody-named}
 use borrow.Author.Needs.{needs}
 use Rattle.decision.proofs.handling.on_request.Statement.{statement}
 use Rattle.decision.proofs.handling.on_request.Tie as tie
@@ -30,47 +31,42 @@ enum-known-found c = search needs
 enum-told : tie.Need-enum-told
 enum-told c = search needs
 
-refuse-requires : tie.Need-refuse-requires
-refuse-requires c κs = search needs
+refused-requires : tie.Need-refused-requires
+refused-requires c κs = search needs
 
 same-length : tie.Need-same-length
 same-length c = search needs
 
-same-length-2 : tie.Need-same-length-2
-same-length-2 c = search needs
-
 returns : tie.Need-returns
-unfolding onRow codeFrom
+unfolding onRow codeFrom callOf
 returns c =
-    let start = c .before .before .before .before .before .before .before .before .before .before .before .before .before .before .before in
+    let start = c .before .before .before .before .before .before .before .before .before in
     let a = start .args in
     let t = a .table .now in
     let m = a .m .now in
-    let name : c .before .before .before .before .before .before .before .text .result .now ≡ bytesOf m (a .user) = c .before .before .before .before .before .before .before .text .ensures in
-    let is : lookup t (bytesOf m (a .user)) ≡ nothing = ap (lookup t) (sym name) ∙ sym (c .before .before .before .before .before .before .lookup .ensures .0) ∙ ap found (c .before .before .before .before .enum-told .given .1) in
-    rw is (c .before .before .refuse .ensures t (a .notice .now) (a .wag))
+    let name : c .before .before .before .before .text .result .now ≡ bytesOf m (a .user) = c .before .before .before .before .text .ensures in
+    let is : lookup t (bytesOf m (a .user)) ≡ nothing = ap (lookup t) (sym name) ∙ sym (c .before .before .before .lookup .ensures .0) ∙ ap found (c .before .enum-told .given .1) in (
+      nobody-named m _ (λ e. omega (arith, c .refused .ensures .0, e)),
+      λ host realm room. rw is (c .refused .ensures .1 m host realm room t (a .notice .now) (a .wag)),
+    )
 
 mul-a : tie.Need-mul-a
 mul-a c =
-    let start = c .before .before .before .before .before .before .before .before .before .before .before .before in
+    let start = c .before .before .before .before .before .before .before .before .before in
     let a = start .args in
     let t = a .table .now in
     let m = a .m .now in
     let i = c .before .found .given .0 .0 in
-    let name : c .before .before .before .before .text .result .now ≡ bytesOf m (a .user) = c .before .before .before .before .text .ensures in
-    let is : lookup t (bytesOf m (a .user)) ≡ row i = ap (lookup t) (sym name) ∙ sym (c .before .before .before .lookup .ensures .0) ∙ ap found (c .before .found .given .1) in
     let end : 4608 * i + 4608 ≤ length t = rw (c .before .found .given .1) at (c .before .before .before .lookup .ensures .1) in
     omega (arith, end)
 
 add-e : tie.Need-add-e
 add-e c =
-    let start = c .before .before .before .before .before .before .before .before .before .before .before .before in
+    let start = c .before .before .before .before .before .before .before .before .before in
     let a = start .args in
     let t = a .table .now in
     let m = a .m .now in
     let i = c .before .found .given .0 .0 in
-    let name : c .before .before .before .before .text .result .now ≡ bytesOf m (a .user) = c .before .before .before .before .text .ensures in
-    let is : lookup t (bytesOf m (a .user)) ≡ row i = ap (lookup t) (sym name) ∙ sym (c .before .before .before .lookup .ensures .0) ∙ ap found (c .before .found .given .1) in
     let end : 4608 * i + 4608 ≤ length t = rw (c .before .found .given .1) at (c .before .before .before .lookup .ensures .1) in
     omega (arith, end)
 
@@ -82,21 +78,48 @@ part-row-sound-start c = search needs
 
 part-row-sound-end : tie.Need-part-row-sound-end
 part-row-sound-end c =
-    let start = c .before .before .before .before .before .before .before .before .before .before .before .before .before in
+    let start = c .before .before .before .before .before .before .before .before .before .before in
     let a = start .args in
     let t = a .table .now in
     let m = a .m .now in
     let i = c .before .before .found .given .0 .0 in
-    let name : c .before .before .before .before .before .text .result .now ≡ bytesOf m (a .user) = c .before .before .before .before .before .text .ensures in
-    let is : lookup t (bytesOf m (a .user)) ≡ row i = ap (lookup t) (sym name) ∙ sym (c .before .before .before .before .lookup .ensures .0) ∙ ap found (c .before .before .found .given .1) in
     let end : 4608 * i + 4608 ≤ length t = rw (c .before .before .found .given .1) at (c .before .before .before .before .lookup .ensures .1) in
     omega (arith, end)
 
 row-sound-requires : tie.Need-row-sound-requires
 row-sound-requires c κs = search needs
 
-refuse-requires-2 : tie.Need-refuse-requires-2
-refuse-requires-2 c κs = search needs
+refused-requires-2 : tie.Need-refused-requires-2
+refused-requires-2 c κs = search needs
+
+same-length-2 : tie.Need-same-length-2
+same-length-2 c = search needs
+
+returns-2 : tie.Need-returns-2
+unfolding onRow codeFrom callOf pick
+returns-2 c =
+    let start = c .before .before .before .before .before .before .before .before .before .before .before .before .before .before in
+    let a = start .args in
+    let t = a .table .now in
+    let m = a .m .now in
+    let i = c .before .before .before .before .before .before .found .given .0 .0 in
+    let name : c .before .before .before .before .before .before .before .before .before .text .result .now ≡ bytesOf m (a .user) = c .before .before .before .before .before .before .before .before .before .text .ensures in
+    let is : lookup t (bytesOf m (a .user)) ≡ row i = ap (lookup t) (sym name) ∙ sym (c .before .before .before .before .before .before .before .before .lookup .ensures .0) ∙ ap found (c .before .before .before .before .before .before .found .given .1) in
+    let unsound : sound (rowAt t i) ≡ false = lent-test sound t (4608 * i) i (c .before .before .row-sound .result) false refl (c .before .before .row-sound .ensures) (not-true _ (c .before .if1 .taken)) in (
+      nobody-named m _ (λ e. omega (arith, c .refused2 .ensures .0, e)),
+      λ host realm room. rw (is, unsound) (c .refused2 .ensures .1 m host realm room t (a .notice .now) (a .wag)),
+    )
+
+settle-requires : tie.Need-settle-requires
+settle-requires c κs =
+    let start = c .before .before .before .before .before .before .before .before .before .before .before .before .before .before .before in
+    let a = start .args in
+    let t = a .table .now in
+    let m = a .m .now in
+    let i = c .before .before .before .before .before .before .before .found .given .0 .0 in
+    let end : 4608 * i + 4608 ≤ length t = rw (c .before .before .before .before .before .before .before .found .given .1) at (c .before .before .before .before .before .before .before .before .before .lookup .ensures .1) in
+    let sounds : sound (rowAt t i) ≡ true = lent-test sound t (4608 * i) i (c .before .before .before .row-sound .result) true refl (c .before .before .before .row-sound .ensures) (not-false _ (c .before .before .if1 .left)) in
+    (start .pre .0, end, sounds, start .pre .2, start .pre .3, start .pre .4)
 
 same-length-3 : tie.Need-same-length-3
 same-length-3 c = search needs
@@ -104,55 +127,18 @@ same-length-3 c = search needs
 same-length-4 : tie.Need-same-length-4
 same-length-4 c = search needs
 
-returns-2 : tie.Need-returns-2
-unfolding onRow codeFrom pick
-returns-2 c =
+returns-3 : tie.Need-returns-3
+unfolding onRow callOf pick
+returns-3 c =
     let start = c .before .before .before .before .before .before .before .before .before .before .before .before .before .before .before .before .before .before .before .before in
     let a = start .args in
     let t = a .table .now in
     let m = a .m .now in
-    let i = c .before .before .before .before .before .before .before .before .before .found .given .0 .0 in
-    let name : c .before .before .before .before .before .before .before .before .before .before .before .before .text .result .now ≡ bytesOf m (a .user) = c .before .before .before .before .before .before .before .before .before .before .before .before .text .ensures in
-    let is : lookup t (bytesOf m (a .user)) ≡ row i = ap (lookup t) (sym name) ∙ sym (c .before .before .before .before .before .before .before .before .before .before .before .lookup .ensures .0) ∙ ap found (c .before .before .before .before .before .before .before .before .before .found .given .1) in
-    let end : 4608 * i + 4608 ≤ length t = rw (c .before .before .before .before .before .before .before .before .before .found .given .1) at (c .before .before .before .before .before .before .before .before .before .before .before .lookup .ensures .1) in
-    let unsound : sound (rowAt t i) ≡ false = lent-test sound t (4608 * i) i (c .before .before .before .before .before .row-sound .result) false refl (c .before .before .before .before .before .row-sound .ensures) (not-true _ (c .before .before .before .before .if1 .taken)) in
-    rw (is, unsound) (c .before .before .refuse2 .ensures t (a .notice .now) (a .wag))
-
-settle-requires : tie.Need-settle-requires
-settle-requires c κs =
-    let start = c .before .before .before .before .before .before .before .before .before .before .before .before .before .before .before .before .before .before .before in
-    let a = start .args in
-    let t = a .table .now in
-    let m = a .m .now in
-    let i = c .before .before .before .before .before .before .before .before .found .given .0 .0 in
-    let name : c .before .before .before .before .before .before .before .before .before .before .before .text .result .now ≡ bytesOf m (a .user) = c .before .before .before .before .before .before .before .before .before .before .before .text .ensures in
-    let is : lookup t (bytesOf m (a .user)) ≡ row i = ap (lookup t) (sym name) ∙ sym (c .before .before .before .before .before .before .before .before .before .before .lookup .ensures .0) ∙ ap found (c .before .before .before .before .before .before .before .before .found .given .1) in
-    let end : 4608 * i + 4608 ≤ length t = rw (c .before .before .before .before .before .before .before .before .found .given .1) at (c .before .before .before .before .before .before .before .before .before .before .lookup .ensures .1) in
-    let sounds : sound (rowAt t i) ≡ true = lent-test sound t (4608 * i) i (c .before .before .before .before .row-sound .result) true refl (c .before .before .before .before .row-sound .ensures) (not-false _ (c .before .before .before .if1 .left)) in
-    (start .pre .0, start .pre .1, end, sounds, start .pre .3, start .pre .4, start .pre .5, start .pre .6)
-
-same-length-5 : tie.Need-same-length-5
-same-length-5 c = search needs
-
-same-length-6 : tie.Need-same-length-6
-same-length-6 c = search needs
-
-same-length-7 : tie.Need-same-length-7
-same-length-7 c = search needs
-
-returns-3 : tie.Need-returns-3
-unfolding onRow callOf pick
-returns-3 c =
-    let start = c .before .before .before .before .before .before .before .before .before .before .before .before .before .before .before .before .before .before .before .before .before .before .before .before .before .before in
-    let a = start .args in
-    let t = a .table .now in
-    let m = a .m .now in
-    let i = c .before .before .before .before .before .before .before .before .before .before .before .before .before .before .before .found .given .0 .0 in
-    let name : c .before .before .before .before .before .before .before .before .before .before .before .before .before .before .before .before .before .before .text .result .now ≡ bytesOf m (a .user) = c .before .before .before .before .before .before .before .before .before .before .before .before .before .before .before .before .before .before .text .ensures in
-    let is : lookup t (bytesOf m (a .user)) ≡ row i = ap (lookup t) (sym name) ∙ sym (c .before .before .before .before .before .before .before .before .before .before .before .before .before .before .before .before .before .lookup .ensures .0) ∙ ap found (c .before .before .before .before .before .before .before .before .before .before .before .before .before .before .before .found .given .1) in
-    let end : 4608 * i + 4608 ≤ length t = rw (c .before .before .before .before .before .before .before .before .before .before .before .before .before .before .before .found .given .1) at (c .before .before .before .before .before .before .before .before .before .before .before .before .before .before .before .before .before .lookup .ensures .1) in
-    let sounds : sound (rowAt t i) ≡ true = lent-test sound t (4608 * i) i (c .before .before .before .before .before .before .before .before .before .before .before .row-sound .result) true refl (c .before .before .before .before .before .before .before .before .before .before .before .row-sound .ensures) (not-false _ (c .before .before .before .before .before .before .before .before .before .before .if1 .left)) in
-    rw (is, sounds) (c .before .before .before .before .before .before .settle .ensures)
+    let i = c .before .before .before .before .before .before .before .before .before .before .before .before .found .given .0 .0 in
+    let name : c .before .before .before .before .before .before .before .before .before .before .before .before .before .before .before .text .result .now ≡ bytesOf m (a .user) = c .before .before .before .before .before .before .before .before .before .before .before .before .before .before .before .text .ensures in
+    let is : lookup t (bytesOf m (a .user)) ≡ row i = ap (lookup t) (sym name) ∙ sym (c .before .before .before .before .before .before .before .before .before .before .before .before .before .before .lookup .ensures .0) ∙ ap found (c .before .before .before .before .before .before .before .before .before .before .before .before .found .given .1) in
+    let sounds : sound (rowAt t i) ≡ true = lent-test sound t (4608 * i) i (c .before .before .before .before .before .before .before .before .row-sound .result) true refl (c .before .before .before .before .before .before .before .before .row-sound .ensures) (not-false _ (c .before .before .before .before .before .before .before .if1 .left)) in
+    (c .before .before .before .before .settle .ensures .0, λ host realm room. rw (is, sounds) (c .before .before .before .before .settle .ensures .1 host realm room))
 
 pub on-request-spec : {M : Type 1} → statement M
 on-request-spec =
@@ -162,9 +148,8 @@ on-request-spec =
     lookup-requires
     enum-known-found
     enum-told
-    refuse-requires
+    refused-requires
     same-length
-    same-length-2
     returns
     mul-a
     add-e
@@ -172,12 +157,10 @@ on-request-spec =
     part-row-sound-start
     part-row-sound-end
     row-sound-requires
-    refuse-requires-2
-    same-length-3
-    same-length-4
+    refused-requires-2
+    same-length-2
     returns-2
     settle-requires
-    same-length-5
-    same-length-6
-    same-length-7
+    same-length-3
+    same-length-4
     returns-3)

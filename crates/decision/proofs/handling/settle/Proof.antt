@@ -1,8 +1,8 @@
--- What was planned is what is decided; what was carried out and answered is what it leaves.
+-- What was planned is what is decided; what was carried out is what it leaves.
 use Rattle.message.specs.Kinds.{codeFrom}
-use Rattle.deciding.specs.Deciding.{Verdict, decide}
+use Rattle.rules.specs.Deciding.{Verdict, decide}
 use Rattle.deciding.specs.Plans.{planned, fitPlan}
-use Rattle.decision.specs.Calls.{noticeRoom}
+use Rattle.rules.specs.Calls.{noticeRoom}
 use Rattle.decision.specs.Outcomes.{sessionText, hostText, routeText, doneFor, tableAfter}
 use mathlib.Core.Path.{_≡_, refl, sym, ap, _∙_}
 use mathlib.Core.Bool.{true}
@@ -20,28 +20,32 @@ use Rattle.decision.proofs.handling.settle.Tie as tie
 
 returns : tie.Need-returns
 returns c =
-    let start = c .before .before .before .before .before .before .before .before .before .before .before .before .before .before .before .before .before .before .before .before .before .before .before .before .before .before .before .before in
+    let start = c .before .before .before .before .before .before .before .before .before .before .before .before .before .before .before .before .before .before .before .before .before in
     let a = start .args in
     let m = a .m .now in
-    let session = c .before .before .before .before .before .before .before .before .before .before .before .before .before .before .before .before .before .text .ensures ∙ c .before .before .before .before .before .before .before .before .before .before .before .before .before .before .before .before .before .before .session-span .ensures m .0 in
-    let gateway = c .before .before .before .before .before .before .before .before .before .before .before .before .before .before .before .text2 .ensures ∙ c .before .before .before .before .before .before .before .before .before .before .before .before .before .before .before .before .host-span .ensures m .0 in
-    let route = c .before .before .before .before .before .before .before .before .before .before .before .before .before .text3 .ensures ∙ c .before .before .before .before .before .before .before .before .before .before .before .before .before .before .route-span .ensures m .0 in
+    let session = c .before .before .before .before .before .before .before .before .before .before .before .before .before .text .ensures ∙ c .before .before .before .before .before .before .before .before .before .before .before .before .before .before .session-span .ensures m .0 in
+    let gateway = c .before .before .before .before .before .before .before .before .before .before .before .text2 .ensures ∙ c .before .before .before .before .before .before .before .before .before .before .before .before .host-span .ensures m .0 in
+    let route = c .before .before .before .before .before .before .before .before .before .text3 .ensures ∙ c .before .before .before .before .before .before .before .before .before .before .route-span .ensures m .0 in
     let row = lent-row (a .table .now) (4608 * a .i) (a .i) refl in
-    let plan = c .before .before .before .before .before .before .before .before .before .before .before .before .before .before .before .before .before .before .before .plan-for .result in
+    let plan = c .before .before .before .before .before .before .before .before .before .before .before .before .before .before .before .plan-for .result in
     let s = readRow (rowAt (a .table .now) (a .i)) in
     let v = decide (asks m (a .asked)) (a .wag) s in
-    let carried = c .before .before .before .before .before .before .before .before .before .before .carry .ensures in
-    let answered = c .before .before .answer .ensures in
-    let by : planned (sessionText m (a .asked)) (hostText m (a .asked)) (routeText m (a .asked)) plan s ≡ v = rw row at (c .before .before .before .before .before .before .before .before .before .before .before .before .before .before .before .before .before .before .before .plan-for .ensures .0) in
-    let is : planned (c .before .before .before .before .before .before .before .before .before .before .before .before .before .before .before .before .before .text .result .now) (c .before .before .before .before .before .before .before .before .before .before .before .before .before .before .before .text2 .result .now) (c .before .before .before .before .before .before .before .before .before .before .before .before .before .text3 .result .now) plan s ≡ v =
+    let carried = c .before .before .before .before .before .before .carry .ensures in
+    let by : planned (sessionText m (a .asked)) (hostText m (a .asked)) (routeText m (a .asked)) plan s ≡ v = rw row at (c .before .before .before .before .before .before .before .before .before .before .before .before .before .before .before .plan-for .ensures .0) in
+    let is : planned (c .before .before .before .before .before .before .before .before .before .before .before .before .before .text .result .now) (c .before .before .before .before .before .before .before .before .before .before .before .text2 .result .now) (c .before .before .before .before .before .before .before .before .before .text3 .result .now) plan s ≡ v =
     (λ j. planned (session j) (gateway j) (route j) plan s) ∙ by in
-    let kind = c .before .before .before .before .before .kind-of .ensures in
-    let code = c .before .before .before .before .code-of .ensures in
-    let coded : v .code ≡ codeFrom (c .before .before .before .before .before .kind-of .result) (c .before .before .before .before .code-of .result) =
-    ap (λ (x : Verdict). x .code) (sym by) ∙ plan-code (sessionText m (a .asked)) (hostText m (a .asked)) (routeText m (a .asked)) plan s ∙ (λ j. codeFrom (sym kind j) (sym code j)) in
-    settled-is (a .table .now) (a .i) m (a .host .now) (a .realm .now) (a .room .now) (a .notice .now) (a .wag) v (c .before .before .before .before .before .kind-of .result) (c .before .before .before .before .code-of .result) (c .before .before .before .before .before .before .before .before .before .before .carry .result) _ _ _ _
-    coded (carried .0 ∙ ap (tableAfter (a .table .now) (a .i)) is) (carried .1 ∙ ap (λ (x : Verdict). noticeRoom (x .cut) (a .notice .now)) is) (carried .2 ∙ ap doneFor is)
-    (answered .room-is) (λ j. record { code = c .before .before .before .before .code-of .result; kind = c .before .before .before .before .before .kind-of .result; length = answered .length-is j; place = c .before .before .before .before .before .before .before .before .before .before .carry .result .place; cut = c .before .before .before .before .before .before .before .before .before .before .carry .result .cut })
+    let kind = c .before .kind-of .ensures in
+    let code = c .code-of .ensures in
+    let coded : v .code ≡ codeFrom (c .before .kind-of .result) (c .code-of .result) =
+    ap (λ (x : Verdict). x .code) (sym by) ∙ plan-code (sessionText m (a .asked)) (hostText m (a .asked)) (routeText m (a .asked)) plan s ∙ (λ j. codeFrom (sym kind j) (sym code j)) in (
+      record {
+        holds = λ e. user-holds m (a .user) (start .pre .4) (asks m (a .asked)) (start .pre .5);
+        short = λ e. user-short m (a .user) (start .pre .4) (asks m (a .asked)) (start .pre .5);
+      },
+      λ host realm room.
+          settled-is (a .table .now) (a .i) m host realm room (a .notice .now) (a .wag) v (c .before .kind-of .result) (c .code-of .result) (a .user) (c .before .before .before .before .before .before .carry .result) _ _
+          coded (carried .0 ∙ ap (tableAfter (a .table .now) (a .i)) is) (carried .1 ∙ ap (λ (x : Verdict). noticeRoom (x .cut) (a .notice .now)) is) (carried .2 ∙ ap doneFor is),
+    )
 
 mul-a : tie.Need-mul-a
 mul-a c = search needs
@@ -60,51 +64,51 @@ part-plan-for-end c = search needs
 
 plan-for-requires : tie.Need-plan-for-requires
 plan-for-requires c κs =
-    let start = c .before .before .before .before .before .before .before .before in
+    let start = c .before .before .before .before .before in
     let a = start .args in
-    (ap sound (lent-row (a .table .now) (4608 * a .i) (a .i) refl) ∙ start .pre .3, start .pre .4)
+    (ap sound (lent-row (a .table .now) (4608 * a .i) (a .i) refl) ∙ start .pre .2, start .pre .3)
 
 session-span-requires : tie.Need-session-span-requires
 session-span-requires c κs = search needs
 
 text-requires : tie.Need-text-requires
 text-requires c κs =
-    let start = c .before .before .before .before .before .before .before .before .before .before in
-    c .session-span .ensures (start .args .m .now) .1 (start .pre .4)
+    let start = c .before .before .before .before .before .before .before in
+    c .session-span .ensures (start .args .m .now) .1 (start .pre .3)
 
 host-span-requires : tie.Need-host-span-requires
 host-span-requires c κs = search needs
 
 text-requires-2 : tie.Need-text-requires-2
 text-requires-2 c κs =
-    let start = c .before .before .before .before .before .before .before .before .before .before .before .before in
-    c .host-span .ensures (start .args .m .now) .1 (start .pre .4)
+    let start = c .before .before .before .before .before .before .before .before .before in
+    c .host-span .ensures (start .args .m .now) .1 (start .pre .3)
 
 route-span-requires : tie.Need-route-span-requires
 route-span-requires c κs = search needs
 
 text-requires-3 : tie.Need-text-requires-3
 text-requires-3 c κs =
-    let start = c .before .before .before .before .before .before .before .before .before .before .before .before .before .before in
-    c .route-span .ensures (start .args .m .now) .1 (start .pre .4)
+    let start = c .before .before .before .before .before .before .before .before .before .before .before in
+    c .route-span .ensures (start .args .m .now) .1 (start .pre .3)
 
 carry-requires : tie.Need-carry-requires
 carry-requires c κs =
-    let start = c .before .before .before .before .before .before .before .before .before .before .before .before .before .before .before .before .before in
+    let start = c .before .before .before .before .before .before .before .before .before .before .before .before .before .before in
     let a = start .args in
     let m = a .m .now in
     let session = c .before .before .before .before .before .before .text .ensures ∙ c .before .before .before .before .before .before .before .session-span .ensures m .0 in
     let gateway = c .before .before .before .before .text2 .ensures ∙ c .before .before .before .before .before .host-span .ensures m .0 in
     let route = c .before .before .text3 .ensures ∙ c .before .before .before .route-span .ensures m .0 in
     let row = lent-row (a .table .now) (4608 * a .i) (a .i) refl in
-    let fit = c .before .before .before .before .before .before .before .before .plan-for .ensures .1 (request-fits m _ (start .pre .7)) in
+    let fit = c .before .before .before .before .before .before .before .before .plan-for .ensures .1 (request-fits m _ (start .pre .5)) in
     let fits : fitPlan (c .before .before .text3 .result .now) (c .before .before .before .before .before .before .before .before .plan-for .result) (rowAt (a .table .now) (a .i)) ≡ true = rw (← route, row) at fit in (
+      start .pre .0,
       start .pre .1,
       start .pre .2,
-      start .pre .3,
       fits,
-      omega (arith, ap length session, session-short m _ (a .asked) (start .pre .7)),
-      omega (arith, ap length gateway, host-short m _ (a .asked) (start .pre .7)),
+      omega (arith, ap length session, session-short m _ (a .asked) (start .pre .5)),
+      omega (arith, ap length gateway, host-short m _ (a .asked) (start .pre .5)),
     )
 
 kind-of-requires : tie.Need-kind-of-requires
@@ -113,31 +117,11 @@ kind-of-requires c κs = search needs
 code-of-requires : tie.Need-code-of-requires
 code-of-requires c κs = search needs
 
-answer-requires : tie.Need-answer-requires
-answer-requires c κs =
-    let start = c .before .before .before .before .before .before .before .before .before .before .before .before .before .before .before .before .before .before .before .before .before .before .before .before .before in
-    let a = start .args in
-    let m = a .m .now in
-    let ready = start .pre .0 in
-    record {
-      least = ready .least;
-      most = ready .most;
-      host-fits = ready .host-fits;
-      realm-fits = ready .realm-fits;
-      room-fits = ready .room-fits;
-      named = λ x y. user-holds m (a .user) (start .pre .5) (asks m (a .asked)) (start .pre .7);
-      short = λ x y. user-short m (a .user) (start .pre .5) (asks m (a .asked)) (start .pre .7);
-      to-copy = start .pre .6;
-    }
-
 same-length : tie.Need-same-length
 same-length c = search needs
 
 same-length-2 : tie.Need-same-length-2
 same-length-2 c = search needs
-
-same-length-3 : tie.Need-same-length-3
-same-length-3 c = search needs
 
 pub settle-spec : {M : Type 1} → statement M
 settle-spec =
@@ -158,8 +142,6 @@ settle-spec =
     carry-requires
     kind-of-requires
     code-of-requires
-    answer-requires
     same-length
     same-length-2
-    same-length-3
     returns)

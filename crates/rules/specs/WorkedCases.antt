@@ -6,10 +6,11 @@ use lib.Dec.{eqb}
 use lib.ListN.{take, drop}
 use Rattle.setup.specs.SetUp.{add, clear, enter}
 use Rattle.message.specs.WorkedCases.{board, capitalBoard, case10, case9, endAt, gate, gateway, name, openAt, openVisited, ownHost, ownRealm, routeBy, session, yard}
+use Rattle.octets.specs.Lists.{counted}
 use Rattle.octets.specs.Texts.{filled, same, zeros}
 use Rattle.table.specs.TheTable.{orderLine}
 use Rattle.table.specs.WorkedCases.{case8}
-use Rattle.decision.specs.Calls.{Left, handle}
+use Rattle.rules.specs.Calls.{Left, handle}
 
 -- THE TABLE OF THE CASES, made by the set-up operations: one row, the subscriber with "board" (limit 2, no flags) and
 -- "yard" (limit 1, barred).
@@ -19,10 +20,14 @@ withLabel t label flags limit = (add t name (record { label = label; flags = fla
 unfoldable pub start : List ℕ
 start = withLabel (withLabel ((enter ((clear (zeros 4608)) .table) name) .table) board 0 2) yard 1 1
 
--- A call: the server's own names, an answer room and a notice room of zeros, and yes from the WAG.
+-- A call: the server's own names, an answer room of zeros, a notice room in which something stands (each byte once), and
+-- yes from the WAG.
+unfoldable pub noticeBefore : List ℕ
+noticeBefore = counted 0 256
+
 unfoldable pub ask : List ℕ → List ℕ → Left
 ask t message =
-    handle t (record { message = message; host = ownHost; realm = ownRealm; answer = zeros 5120; notice = zeros 256; wag = true })
+    handle t (record { message = message; host = ownHost; realm = ownRealm; answer = zeros 5120; notice = noticeBefore; wag = true })
 
 -- WHAT IS EXPECTED
 
@@ -30,7 +35,7 @@ ask t message =
 unfoldable pub noCut : Left → Bool
 noCut l =
     eqb (l .reply .result .cut) 0 && (eqb (l .reply .result .cutSession) 0 && (eqb (l .reply .result .cutHost) 0
-    && same (l .reply .notice) (zeros 256)))
+    && same (l .reply .notice) noticeBefore))
 
 -- The cut of the access of that letter: its texts' lengths, and the notice.
 unfoldable pub cutOf : ℕ → Left → Bool
@@ -104,4 +109,6 @@ others =
     -- a policy for a Session-Id that stands, and for one that does not
     ∷ granted (ask (e .table) (routeBy (session 99) board)) 0 noCut (1 ∷ 2 ∷ [])
     ∷ denied (ask (e .table) (routeBy (session 100) board)) (e .table) 5012 1
+    -- a table without a subscriber: USER_UNKNOWN
+    ∷ denied (ask (zeros 4608) (openAt (session 97) board)) (zeros 4608) 5001 2
     ∷ []

@@ -12,7 +12,7 @@ use Rattle.message.specs.ReadingAMessage.{Request, Reading, refused, request, r
 use Rattle.message.specs.WritingTheAnswer.{answer, answerRoom}
 use Rattle.table.specs.TheTable.{Access, rowBytes, readRow, tableNumber, rowAt, withRow, Found, row, nothing, lookup}
 use Rattle.table.specs.Soundness.{sound}
-use Rattle.deciding.specs.Deciding.{Verdict, decide}
+use Rattle.rules.specs.Deciding.{Verdict, decide}
 
 -- A CALL AND ITS REPLY
 

@@ -1,0 +1,3 @@
+pub mod Deciding
+pub mod Calls
+pub mod WorkedCases
