@@ -86,16 +86,16 @@ over-zeros d at s q k n e h l r =
 
 -- the head of an AVP and its value behind it, over zeros where its padding stands
 pub avp-put : (d : List ℕ) (at code : ℕ) (v : List ℕ) → at + length v + 12 ≤ length d
-    → put (put (put d (at + 4 + up4 (length v)) (zeros 4)) at (headBytes code (8 + length v))) (at + 8) v ≡ put d at (avpBytes code v)
+    → put (put (put d (at + 8 + up4 (length v) - 4) (zeros 4)) at (headBytes code (8 + length v))) (at + 8) v ≡ put d at (avpBytes code v)
 unfolding avpBytes headBytes in32 in24
 avp-put d at code v h =
     let a : List ℕ = headBytes code (8 + length v) in
     let l : length (a ++ v) ≡ 8 + length v = length-append a v in
     let n : ℕ = up4 (length v) - length v in
-    let e : List ℕ = put d (at + 4 + up4 (length v)) (zeros 4) in
-    let le : length e ≡ length d = length-put d (at + 4 + up4 (length v)) (zeros 4) (rw (length-zeros 4) (omega (arith, up4-most (length v)))) in
+    let e : List ℕ = put d (at + 8 + up4 (length v) - 4) (zeros 4) in
+    let le : length e ≡ length d = length-put d (at + 8 + up4 (length v) - 4) (zeros 4) (rw (length-zeros 4) (omega (arith, up4-most (length v)))) in
     put-then e at a v (at + 8) refl (omega (arith, le))
-    ∙ over-zeros d at (a ++ v) (at + 4 + up4 (length v)) 4 n (omega (arith, l, up4-least (length v))) (omega (arith, up4-most (length v))) (omega arith)
+    ∙ over-zeros d at (a ++ v) (at + 8 + up4 (length v) - 4) 4 n (omega (arith, l, up4-least (length v))) (omega (arith, up4-most (length v))) (omega arith)
     (omega (arith, up4-most (length v)))
     ∙ ap (put d at) (append-assoc a v (zeros n))
 

@@ -37,12 +37,12 @@ fn put_avp(room: &mut [u8], at: usize, code: u32, value: &[u8]) -> usize
     ensures { λ r. ⌜ Written (now (room .entry)) (now (room .exit)) at r (avpBytes code (now (value .entry))) ⌝ }
 {
     let n = value.len();
-    let whole = (n + 3) / 4 * 4;
+    let next = at + 8 + (n + 3) / 4 * 4;
     let padding = [0u8; 4];
-    octets::put_bytes(room, at + 4 + whole, &padding);
+    octets::put_bytes(room, next - 4, &padding);
     put_head(room, at, code, 8 + n);
     copying::put_text(room, at + 8, value);
-    at + 8 + whole
+    next
 }
 
 // An AVP of ours with a number, and the place behind it.

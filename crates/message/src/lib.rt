@@ -124,12 +124,11 @@ fn vendor_slot(id: u32, code: u32) -> usize
     }
 }
 
-// The AVP at a place, by the four tests.
-pub fn head_at(m: &[u8], at: usize) -> Head
-    requires { ⌜ at ≤ length (now m) ⌝ }
+// The AVP at a place, with so many bytes left from there on, by the four tests.
+pub fn head_at(m: &[u8], at: usize, left: usize) -> Head
+    requires { ⌜ at + left ≡ length (now m) ⌝ }
     ensures { λ r. ⌜ r ≡ headAt (now (m .entry)) at ⌝ }
 {
-    let left = m.len() - at;
     if left < 8 {
         return Head::Bad(5014);
     }
@@ -176,18 +175,20 @@ fn gather(m: &[u8], index: &mut [usize]) -> u32
     ensures { λ r. ⌜ (r ≡ walkCode (now (m .entry))) × Gathered (now (m .entry)) (now (index .exit)) ⌝ }
 {
     let mut at: usize = 20;
+    let mut left: usize = m.len() - 20;
     'walk: loop {
         let named = loop {
-            if m.len() <= at {
+            if left == 0 {
                 break 'walk 0;
             }
-            let h = head_at(m, at);
+            let h = head_at(m, at, left);
             match h {
                 Head::Bad(code) => break 'walk code,
                 Head::One(a) => {
                     if a.slot < 14 {
                         break a;
                     }
+                    left -= a.next - at;
                     at = a.next;
                 }
             }
@@ -200,6 +201,7 @@ fn gather(m: &[u8], index: &mut [usize]) -> u32
         } else {
             index[slot] = 1;
         }
+        left -= named.next - at;
         at = named.next;
     }
 }
@@ -496,55 +498,24 @@ fn proxies_seen(m: &[u8], index: &[usize]) -> bool
     index[9] != 0
 }
 
-// A 265 whose header passed, and a 275: the walk, then both lists. The walk has two callers, so that the compiler keeps it apart,
-// with all registers to itself.
-fn read_265(m: &[u8]) -> Heard
-    requires { ⌜ (20 ≤ length (now m)) × (headerCode (now m) ≡ 0) × (command (now m) ≡ 265) ⌝ }
+// Both lists, of a message whose header and walk passed.
+fn lists(m: &[u8], index: &[usize]) -> Heard
+    requires { ⌜ (20 ≤ length (now m)) × (headerCode (now m) ≡ 0) × (walkCode (now m) ≡ 0) × Gathered (now m) (now index) ⌝ }
     ensures { λ r. ⌜ HeardOf (now (m .entry)) r ⌝ }
 {
-    let mut index = [0usize; 28];
-    let w = gather(m, &mut index);
-    if w != 0 {
-        return Heard {
-            told: Told::Refused(w),
-            proxies: false,
-        };
-    }
-    let proxies = proxies_seen(m, &index);
-    let b = first_five(m, &index);
+    let proxies = proxies_seen(m, index);
+    let b = first_five(m, index);
     match b {
         Both::Failed(n) => Heard {
             told: Told::Refused(n),
             proxies,
         },
         Both::Held(session, host) => {
-            let told = list_265(m, &index, session, host);
-            Heard { told, proxies }
-        }
-    }
-}
-
-fn read_275(m: &[u8]) -> Heard
-    requires { ⌜ (20 ≤ length (now m)) × (headerCode (now m) ≡ 0) × (command (now m) ≡ 275) ⌝ }
-    ensures { λ r. ⌜ HeardOf (now (m .entry)) r ⌝ }
-{
-    let mut index = [0usize; 28];
-    let w = gather(m, &mut index);
-    if w != 0 {
-        return Heard {
-            told: Told::Refused(w),
-            proxies: false,
-        };
-    }
-    let proxies = proxies_seen(m, &index);
-    let b = first_five(m, &index);
-    match b {
-        Both::Failed(n) => Heard {
-            told: Told::Refused(n),
-            proxies,
-        },
-        Both::Held(session, _) => {
-            let told = list_275(m, &index, session);
+            if octets::read24(m, 5) == 265 {
+                let told = list_265(m, index, session, host);
+                return Heard { told, proxies };
+            }
+            let told = list_275(m, index, session);
             Heard { told, proxies }
         }
     }
@@ -563,8 +534,13 @@ pub fn read(m: &[u8]) -> Heard
             proxies: false,
         };
     }
-    if octets::read24(m, 5) == 265 {
-        return read_265(m);
+    let mut index = [0usize; 28];
+    let w = gather(m, &mut index);
+    if w != 0 {
+        return Heard {
+            told: Told::Refused(w),
+            proxies: false,
+        };
     }
-    read_275(m)
+    lists(m, &index)
 }

@@ -95,7 +95,8 @@ fn step_at(m: &[u8], at: usize) -> Step
     if m.len() <= at {
         return Step::End;
     }
-    let h = message::head_at(m, at);
+    let left = m.len() - at;
+    let h = message::head_at(m, at, left);
     match h {
         Head::Bad(_) => Step::Bad(fault_at(m, at)),
         Head::One(a) => Step::One(seen_at(m, at, a.next)),

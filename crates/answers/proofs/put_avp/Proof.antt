@@ -7,17 +7,31 @@ use Rattle.answers.proofs.Writing.{length-avp, avp-put}
 use Rattle.answers.proofs.put_avp.Statement.{statement}
 use Rattle.answers.proofs.put_avp.Tie as tie
 
-add-whole : tie.Need-add-whole
-add-whole c = search needs
+returns : tie.Need-returns
+unfolding up4 zeros
+returns c =
+    let a = c .before .before .before .before .before .before .before .before .before .before .before .before .before .before .before .args in
+    let v = a .value .now in
+    record {
+      place = rw (length-avp (a .code) v) (omega arith);
+      bytes-put = rw (c .before .before .put-text .ensures, c .before .before .before .before .before .before .put-head .ensures, c .before .before .before .before .before .before .before .before .before .before .put-bytes .ensures)
+          (avp-put (a .room .now) (a .at) (a .code) v (omega arith));
+    }
 
-mul-whole : tie.Need-mul-whole
-mul-whole c = search needs
+add-next : tie.Need-add-next
+add-next c = search needs
 
-add-put-bytes : tie.Need-add-put-bytes
-add-put-bytes c = search needs
+add-next-2 : tie.Need-add-next-2
+add-next-2 c = search needs
 
-add-put-bytes-2 : tie.Need-add-put-bytes-2
-add-put-bytes-2 c = search needs
+mul-next : tie.Need-mul-next
+mul-next c = search needs
+
+add-next-3 : tie.Need-add-next-3
+add-next-3 c = search needs
+
+sub-put-bytes : tie.Need-sub-put-bytes
+sub-put-bytes c = search needs
 
 slice-aggregate-put-bytes : tie.Need-slice-aggregate-put-bytes
 slice-aggregate-put-bytes c = search needs
@@ -37,41 +51,23 @@ add-put-text c = search needs
 put-text-requires : tie.Need-put-text-requires
 put-text-requires c κs = search needs
 
-add-result : tie.Need-add-result
-add-result c = search needs
-
-add-result-2 : tie.Need-add-result-2
-add-result-2 c = search needs
-
 same-length : tie.Need-same-length
 same-length c = search needs
-
-returns : tie.Need-returns
-unfolding up4 zeros
-returns c =
-    let a = c .before .before .before .before .before .before .before .before .before .before .before .before .before .before .before .args in
-    let v = a .value .now in
-    record {
-      place = rw (length-avp (a .code) v) (omega arith);
-      bytes-put = rw (c .before .before .put-text .ensures, c .before .before .before .before .before .before .put-head .ensures, c .before .before .before .before .before .before .before .before .before .before .put-bytes .ensures)
-          (avp-put (a .room .now) (a .at) (a .code) v (omega arith));
-    }
 
 pub put-avp-spec : {M : Type 1} → statement M
 put-avp-spec =
     tie.close
     (tie.spec
-    add-whole
-    mul-whole
-    add-put-bytes
-    add-put-bytes-2
+    add-next
+    add-next-2
+    mul-next
+    add-next-3
+    sub-put-bytes
     slice-aggregate-put-bytes
     put-bytes-requires
     add-put-head
     put-head-requires
     add-put-text
     put-text-requires
-    add-result
-    add-result-2
     same-length
     returns)

@@ -7,9 +7,6 @@ use Rattle.message.proofs.Heads.{at-few, at-bits, at-length-v, at-past-
 use Rattle.message.proofs.head_at.Statement.{statement}
 use Rattle.message.proofs.head_at.Tie as tie
 
-sub-left : tie.Need-sub-left
-sub-left c = search needs
-
 returns : tie.Need-returns
 returns c =
     let a = c .before .before .args in
@@ -110,7 +107,6 @@ pub head-at-spec : {M : Type 1} → statement M
 head-at-spec =
     tie.close
     (tie.spec
-    sub-left
     returns
     add-flags
     shared-slice-read-flags

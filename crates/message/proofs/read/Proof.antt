@@ -1,7 +1,8 @@
--- The header, then the command's own list.
-use mathlib.Core.Path.{sym, _∙_}
+-- The header, the walk, then both lists.
+use mathlib.Core.Path.{refl, sym, _∙_}
 use borrow.Author.Needs.{needs}
-use Rattle.message.proofs.Listing.{heard-header, other-command}
+use Rattle.octets.specs.Texts.{zeros}
+use Rattle.message.proofs.Listing.{heard-header, heard-walk}
 use Rattle.message.proofs.read.Statement.{statement}
 use Rattle.message.proofs.read.Tie as tie
 
@@ -11,20 +12,27 @@ header-code-requires c κs = search needs
 returns : tie.Need-returns
 returns c = heard-header (c .before .before .before .args .m .now) (c .before .header-code .result) (sym (c .before .header-code .ensures)) (c .if1 .taken)
 
-read24-requires : tie.Need-read24-requires
-read24-requires c κs = search needs
+slice-aggregate-gather : tie.Need-slice-aggregate-gather
+slice-aggregate-gather c = search needs
 
-read-265-requires : tie.Need-read-265-requires
-read-265-requires c κs =
-    (c .before .before .before .before .before .pre, sym (c .before .before .before .header-code .ensures) ∙ c .before .before .if1 .left, sym (c .before .read24 .ensures .0) ∙ c .if2 .taken)
+gather-requires : tie.Need-gather-requires
+unfolding zeros
+gather-requires c κs = (c .before .before .before .before .pre, refl)
 
 returns-2 : tie.Need-returns-2
-returns-2 c = search needs
+returns-2 c =
+    let h = c .before .before .before .before in
+    let g = c .before .before .gather in
+    heard-walk (h .before .before .before .args .m .now) (g .result) (sym (h .before .header-code .ensures) ∙ h .if1 .left) (sym (g .ensures .0)) (c .if2 .taken)
 
-read-275-requires : tie.Need-read-275-requires
-read-275-requires c κs =
-    let h = sym (c .before .before .before .header-code .ensures) ∙ c .before .before .if1 .left in
-    (c .before .before .before .before .before .pre, h, other-command (c .before .before .before .before .before .args .m .now) h (λ q. c .if2 .left (c .before .read24 .ensures .0 ∙ q)))
+slice-aggregate-lists : tie.Need-slice-aggregate-lists
+slice-aggregate-lists c = search needs
+
+lists-requires : tie.Need-lists-requires
+lists-requires c κs =
+    let h = c .before .before .before .before .before in
+    let g = c .before .before .before .gather .ensures in
+    (h .before .before .before .pre, sym (h .before .header-code .ensures) ∙ h .if1 .left, sym (g .0) ∙ c .before .if2 .left, g .1)
 
 returns-3 : tie.Need-returns-3
 returns-3 c = search needs
@@ -35,8 +43,9 @@ read-spec =
     (tie.spec
     header-code-requires
     returns
-    read24-requires
-    read-265-requires
+    slice-aggregate-gather
+    gather-requires
     returns-2
-    read-275-requires
+    slice-aggregate-lists
+    lists-requires
     returns-3)

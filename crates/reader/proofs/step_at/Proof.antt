@@ -14,6 +14,9 @@ returns c =
     let a = c .before .before .args in
     sym (step-end (a .m .now) (a .at) (omega arith))
 
+sub-left : tie.Need-sub-left
+sub-left c = search needs
+
 head-at-requires : tie.Need-head-at-requires
 head-at-requires c κs = search needs
 
@@ -50,6 +53,7 @@ step-at-spec =
     tie.close
     (tie.spec
     returns
+    sub-left
     head-at-requires
     enum-told
     fault-at-requires
