@@ -53,7 +53,7 @@ pub fn asked(out: &mut [u8; 4096], at: usize, m: &[u8]) -> usize {
     if m.len() < 20 {
         return say(out, at, b"no request");
     }
-    let heard = message::read(m);
+    let heard = reading::read(m);
     let told = heard.told;
     match told {
         Told::Refused(_) => say(out, at, b"no whole request"),

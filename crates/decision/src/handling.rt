@@ -297,7 +297,7 @@ pub fn handle(
             cut: Cut::NoCut,
         };
     }
-    let heard = message::read(message);
+    let heard = reading::read(message);
     let told = heard.told;
     let proxies = heard.proxies;
     let decided = on_reading(table, message, wag, told, notice);

@@ -74,7 +74,7 @@ fn refusal(out: &mut [u8; 4096], m: &[u8]) -> usize {
     if m.len() < 20 {
         return 0;
     }
-    let heard = message::read(m);
+    let heard = reading::read(m);
     let told = heard.told;
     match told {
         Told::Request(_, _) => 0,

@@ -8,12 +8,12 @@ use mathlib.Core.Bool.{false}
 use mathlib.Core.Logic.{⊎-elim}
 use types.Run.{OneOf}
 use denote.Enum.Declared.{tagOf}
 use Rattle.message.specs.declared.Got.{Got}
 use Rattle.message.specs.declared.Got.the-variants.{Found, Absent, Code}
 use Rattle.message.proofs.Got.{the-type}
 use Rattle.message.specs.Spans.{isFound}
-use Rattle.message.proofs.is_found.Statement.{statement}
-use Rattle.message.proofs.is_found.Tie as tie
+use Rattle.reading.proofs.is_found.Statement.{statement}
+use Rattle.reading.proofs.is_found.Tie as tie
 
 not-found : (g : Got) → OneOf (1 ∷ 2 ∷ []) (tagOf the-type g) → false ≡ isFound g
 unfolding isFound

@@ -7,12 +7,12 @@ use borrow.Author.Needs.{needs}
 use mathlib.Core.Bool.{true}
 use Rattle.octets.specs.Choice.{require, firstOf}
 use borrow.Author.Tests.{not-true, not-false}
 use Rattle.message.specs.ReadingAMessage.{Avp, avps, fieldCode, startsWith, forBoth, textField, numberField, sessionId, authApplicationId, originHost, originRealm, destinationRealm}
 use Rattle.message.specs.Positions.{names, nameAt}
 use Rattle.message.specs.Spans.{bytesField, bothCode}
 use Rattle.message.proofs.Listing.{first-go, first-stop, go-on, stop, both-failed, both-held}
-use Rattle.message.proofs.first_five.Statement.{statement}
-use Rattle.message.proofs.first_five.Tie as tie
+use Rattle.reading.proofs.first_five.Statement.{statement}
+use Rattle.reading.proofs.first_five.Tie as tie
 
 abbrev behind4 : List Avp → List ℕ
 behind4 xs = fieldCode xs (textField destinationRealm true) ∷ []

@@ -5,14 +5,14 @@ use lib.ListN.{drop}
 use borrow.Author.Needs.{needs}
 use lib.Seq.{getD-drop}
 use lib.Dec.{eqb}
 use Rattle.message.specs.ReadingAMessage.{sameName, sessionId}
 use Rattle.octets.specs.Numbers.{net32}
 use Rattle.octets.proofs.Lists.{by-test}
 use borrow.Author.Tests.{eqb-true, eqb-false, eq-eqb, ne-eqb}
 use Rattle.message.proofs.Heads.{name-v, name-base, net32-drop}
 use Rattle.message.proofs.Listing.{starts-few, starts-one}
-use Rattle.message.proofs.starts.Statement.{statement}
-use Rattle.message.proofs.starts.Tie as tie
+use Rattle.reading.proofs.starts.Statement.{statement}
+use Rattle.reading.proofs.starts.Tie as tie
 
 eqb-sym : (a b : ℕ) → eqb a b ≡ eqb b a
 eqb-sym a b =

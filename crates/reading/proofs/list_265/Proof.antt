@@ -9,12 +9,12 @@ use Rattle.octets.specs.Choice.{pick, firstOf}
 use Rattle.octets.specs.Numbers.{net32}
 use Rattle.octets.proofs.Lists.{within-high}
 use Rattle.octets.proofs.Texts.{length-part}
 use Rattle.message.specs.ReadingAMessage.{Avp, avps, fieldCode, for265, textField, numberField, authRequestType, destinationHost, userName, sessionRequestType, visitedNetwork, typeOf, requestOf}
 use Rattle.message.specs.Positions.{names, nameAt}
 use Rattle.message.specs.Spans.{bytesField, Holds, restCode}
 use Rattle.message.proofs.Listing.{go-on, stop, may-stop, may-go, found-there, number-in, listed-refused, lastTwo, of-type-0, of-type-1}
-use Rattle.message.proofs.list_265.Statement.{statement}
-use Rattle.message.proofs.list_265.Tie as tie
+use Rattle.reading.proofs.list_265.Statement.{statement}
+use Rattle.reading.proofs.list_265.Tie as tie
 
 abbrev behind4 : List Avp → List ℕ
 behind4 xs = fieldCode xs (textField visitedNetwork false) ∷ lastTwo xs

@@ -1,12 +1,12 @@
 -- The five fields of both requests, then those of the command: each way out is a law of Listing.
 use mathlib.Core.Path.{_≡_, sym, ap, _∙_}
 use borrow.Author.Needs.{needs}
 use Rattle.message.specs.ReadingAMessage.{command, avps, readingCode, requestOf}
 use Rattle.message.specs.Spans.{failedWith}
 use Rattle.message.specs.declared.Told.the-variants.{Refused}
 use Rattle.message.proofs.Listing.{heard-lists, listed-refused, lists-failed, lists-rest, other-command}
-use Rattle.message.proofs.lists.Statement.{statement}
-use Rattle.message.proofs.lists.Tie as tie
+use Rattle.reading.proofs.lists.Statement.{statement}
+use Rattle.reading.proofs.lists.Tie as tie
 
 proxies-seen-requires : tie.Need-proxies-seen-requires
 proxies-seen-requires c κs =

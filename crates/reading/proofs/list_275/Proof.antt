@@ -5,12 +5,12 @@ use Prim.Native.Nat.{ℕ}
 use borrow.Author.Needs.{needs}
 use mathlib.Core.Bool.{true}
 use Rattle.octets.specs.Choice.{pick, firstOf}
 use Rattle.message.specs.ReadingAMessage.{Avp, avps, fieldCode, for275, textField, labelField, numberField, terminationCause, destinationHost, userName, wlanApnId, requestOf}
 use Rattle.message.specs.Positions.{names, nameAt}
 use Rattle.message.specs.Spans.{bytesField, restCode}
 use Rattle.message.proofs.Listing.{go-on, stop, listed-refused, told-termination}
-use Rattle.message.proofs.list_275.Statement.{statement}
-use Rattle.message.proofs.list_275.Tie as tie
+use Rattle.reading.proofs.list_275.Statement.{statement}
+use Rattle.reading.proofs.list_275.Tie as tie
 
 abbrev behind3 : List Avp → List ℕ
 behind3 xs = fieldCode xs (labelField wlanApnId true) ∷ []

@@ -1,8 +1,8 @@
 -- The slot of Proxy-Info: `proxies-are`.
 use native.Mathlib.Omega.{arith}
 use Rattle.message.proofs.Listing.{proxies-are}
-use Rattle.message.proofs.proxies_seen.Statement.{statement}
-use Rattle.message.proofs.proxies_seen.Tie as tie
+use Rattle.reading.proofs.proxies_seen.Statement.{statement}
+use Rattle.reading.proofs.proxies_seen.Tie as tie
 
 shared-slice-read-result : tie.Need-shared-slice-read-result
 shared-slice-read-result c = omega (arith, c .before .pre .2 .size)

@@ -2,9 +2,9 @@
 use mathlib.Core.Path.{refl, sym, _∙_}
 use borrow.Author.Needs.{needs}
 use Rattle.octets.specs.Texts.{zeros}
 use Rattle.message.proofs.Listing.{heard-header, heard-walk}
-use Rattle.message.proofs.read.Statement.{statement}
-use Rattle.message.proofs.read.Tie as tie
+use Rattle.reading.proofs.read.Statement.{statement}
+use Rattle.reading.proofs.read.Tie as tie
 
 header-code-requires : tie.Need-header-code-requires
 header-code-requires c κs = search needs

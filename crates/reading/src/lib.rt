@@ -1,0 +1,226 @@
+// Both lists in order, and a message as a whole: the request with its fields, or the code of the first test that fails.
+use message::Asked;
+use message::Both;
+use message::Got;
+use message::Heard;
+use message::Span;
+use message::Told;
+ghost use mathlib.Core.Path.{_≡_};
+ghost use Prim.Native.Nat.{_≤_};
+ghost use lib.ListN.{length};
+ghost use Rattle.message.specs.ReadingAMessage.{avps, headerCode, originHost, requestOf, sessionId, startsWith, userName, walkCode};
+ghost use Rattle.message.specs.Positions.{Gathered};
+ghost use Rattle.message.specs.Spans.{BothRead, HeardOf, Holds, Listed, hasProxies, isFound, policyCode, policyOf, restCode, tunnelCode, tunnelOf};
+
+// Whether the first AVP is Session-Id, in a message whose walk passed.
+fn starts(m: &[u8]) -> bool
+    requires { ⌜ (20 ≤ length (now m)) × (walkCode (now m) ≡ 0) ⌝ }
+    ensures { λ r. ⌜ r ≡ startsWith sessionId (avps (now (m .entry))) ⌝ }
+{
+    if m.len() < 28 {
+        return false;
+    }
+    if 128 <= m[24] {
+        return false;
+    }
+    octets::read32(m, 20) == 263
+}
+
+fn first_five(m: &[u8], index: &[usize]) -> Both
+    requires { ⌜ (20 ≤ length (now m)) × (walkCode (now m) ≡ 0) × Gathered (now m) (now index) ⌝ }
+    ensures { λ r. ⌜ BothRead (now (m .entry)) r ⌝ }
+{
+    if !starts(m) {
+        return Both::Failed(5005);
+    }
+    let g1 = message::text_field(m, index, 0, 1, 128);
+    let Got::Found(session) = g1 else {
+        return Both::Failed(message::refusal(g1));
+    };
+    let g2 = message::number_field(m, index, 1, 1, 1);
+    let Got::Found(_) = g2 else {
+        return Both::Failed(message::refusal(g2));
+    };
+    let g3 = message::text_field(m, index, 2, 1, 128);
+    let Got::Found(host) = g3 else {
+        return Both::Failed(message::refusal(g3));
+    };
+    let g4 = message::text_field(m, index, 3, 1, 128);
+    let Got::Found(_) = g4 else {
+        return Both::Failed(message::refusal(g4));
+    };
+    let g5 = message::text_field(m, index, 4, 1, 128);
+    let Got::Found(_) = g5 else {
+        return Both::Failed(message::refusal(g5));
+    };
+    Both::Held(session, host)
+}
+
+// The end of a 265 of type 0: the W-APN, and a policy that is tested and not used.
+fn tunnel_end(
+    m: &[u8],
+    index: &[usize],
+    user: Span,
+    session: Span,
+    host: Span,
+    visited: bool,
+) -> Told
+    requires { ⌜ (Gathered (now m) (now index)) × (Holds (now m) userName user) × (Holds (now m) sessionId session) × (Holds (now m) originHost host) ⌝ }
+    ensures { λ r. ⌜ Listed (now (m .entry)) (tunnelCode (avps (now (m .entry)))) (tunnelOf visited (avps (now (m .entry)))) r ⌝ }
+{
+    let g1 = message::text_field(m, index, 12, 1, 100);
+    let Got::Found(label) = g1 else {
+        return Told::Refused(message::refusal(g1));
+    };
+    let g2 = message::text_field(m, index, 13, 1, 128);
+    if let Got::Code(n) = g2 {
+        return Told::Refused(n);
+    }
+    Told::Request(
+        user,
+        Asked::Tunnel {
+            session,
+            host,
+            label,
+            visited,
+        },
+    )
+}
+
+// The end of a 265 of type 1: a W-APN that is tested and not used, and the policy.
+fn policy_end(m: &[u8], index: &[usize], user: Span, session: Span) -> Told
+    requires { ⌜ (Gathered (now m) (now index)) × (Holds (now m) userName user) × (Holds (now m) sessionId session) ⌝ }
+    ensures { λ r. ⌜ Listed (now (m .entry)) (policyCode (avps (now (m .entry)))) (policyOf (avps (now (m .entry)))) r ⌝ }
+{
+    let g1 = message::text_field(m, index, 12, 1, 100);
+    if let Got::Code(n) = g1 {
+        return Told::Refused(n);
+    }
+    let g2 = message::text_field(m, index, 13, 1, 128);
+    let Got::Found(route) = g2 else {
+        return Told::Refused(message::refusal(g2));
+    };
+    Told::Request(user, Asked::Policy { session, route })
+}
+
+// Whether a field that may be absent is there.
+fn is_found(g: Got) -> bool
+    ensures { λ r. ⌜ r ≡ isFound g ⌝ }
+{
+    match g {
+        Got::Found(_) => true,
+        _ => false,
+    }
+}
+
+// The fields of a 265.
+fn list_265(m: &[u8], index: &[usize], session: Span, host: Span) -> Told
+    requires { ⌜ (Gathered (now m) (now index)) × (Holds (now m) sessionId session) × (Holds (now m) originHost host) ⌝ }
+    ensures { λ r. ⌜ Listed (now (m .entry)) (restCode 265 (avps (now (m .entry)))) (requestOf 265 (avps (now (m .entry)))) r ⌝ }
+{
+    let g1 = message::number_field(m, index, 5, 2, 2);
+    let Got::Found(_) = g1 else {
+        return Told::Refused(message::refusal(g1));
+    };
+    let g2 = message::text_field(m, index, 6, 1, 128);
+    let Got::Found(_) = g2 else {
+        return Told::Refused(message::refusal(g2));
+    };
+    let g3 = message::text_field(m, index, 7, 1, 128);
+    let Got::Found(user) = g3 else {
+        return Told::Refused(message::refusal(g3));
+    };
+    let g4 = message::number_field(m, index, 11, 0, 1);
+    let Got::Found(kind) = g4 else {
+        return Told::Refused(message::refusal(g4));
+    };
+    let g5 = message::text_field(m, index, 10, 1, 128);
+    if let Got::Code(n) = g5 {
+        return Told::Refused(n);
+    }
+    let a = kind.at;
+    let e = a + kind.len;
+    if message::value32(&m[a..e]) == 0 {
+        return tunnel_end(m, index, user, session, host, is_found(g5));
+    }
+    policy_end(m, index, user, session)
+}
+
+// The fields of a 275.
+fn list_275(m: &[u8], index: &[usize], session: Span) -> Told
+    requires { ⌜ (Gathered (now m) (now index)) × (Holds (now m) sessionId session) ⌝ }
+    ensures { λ r. ⌜ Listed (now (m .entry)) (restCode 275 (avps (now (m .entry)))) (requestOf 275 (avps (now (m .entry)))) r ⌝ }
+{
+    let g1 = message::number_field(m, index, 8, 1, 8);
+    let Got::Found(_) = g1 else {
+        return Told::Refused(message::refusal(g1));
+    };
+    let g2 = message::text_field(m, index, 6, 1, 128);
+    let Got::Found(_) = g2 else {
+        return Told::Refused(message::refusal(g2));
+    };
+    let g3 = message::text_field(m, index, 7, 1, 128);
+    let Got::Found(user) = g3 else {
+        return Told::Refused(message::refusal(g3));
+    };
+    let g4 = message::text_field(m, index, 12, 1, 100);
+    let Got::Found(label) = g4 else {
+        return Told::Refused(message::refusal(g4));
+    };
+    Told::Request(user, Asked::Termination { session, label })
+}
+
+// Whether the answer has a Proxy-Info to copy.
+fn proxies_seen(m: &[u8], index: &[usize]) -> bool
+    requires { ⌜ (headerCode (now m) ≡ 0) × (walkCode (now m) ≡ 0) × Gathered (now m) (now index) ⌝ }
+    ensures { λ r. ⌜ r ≡ hasProxies (now (m .entry)) ⌝ }
+{
+    index[9] != 0
+}
+
+// Both lists, of a message whose header and walk passed.
+fn lists(m: &[u8], index: &[usize]) -> Heard
+    requires { ⌜ (20 ≤ length (now m)) × (headerCode (now m) ≡ 0) × (walkCode (now m) ≡ 0) × Gathered (now m) (now index) ⌝ }
+    ensures { λ r. ⌜ HeardOf (now (m .entry)) r ⌝ }
+{
+    let proxies = proxies_seen(m, index);
+    let b = first_five(m, index);
+    match b {
+        Both::Failed(n) => Heard {
+            told: Told::Refused(n),
+            proxies,
+        },
+        Both::Held(session, host) => {
+            if octets::read24(m, 5) == 265 {
+                let told = list_265(m, index, session, host);
+                return Heard { told, proxies };
+            }
+            let told = list_275(m, index, session);
+            Heard { told, proxies }
+        }
+    }
+}
+
+// Header tests, the walk, the lists: the request with its fields, or the code of the first test that fails;
+// and whether the answer has a Proxy-Info to copy.
+pub fn read(m: &[u8]) -> Heard
+    requires { ⌜ 20 ≤ length (now m) ⌝ }
+    ensures { λ r. ⌜ HeardOf (now (m .entry)) r ⌝ }
+{
+    let h = message::header_code(m);
+    if h != 0 {
+        return Heard {
+            told: Told::Refused(h),
+            proxies: false,
+        };
+    }
+    let mut index = [0usize; 28];
+    let w = message::gather(m, &mut index);
+    if w != 0 {
+        return Heard {
+            told: Told::Refused(w),
+            proxies: false,
+        };
+    }
+    lists(m, &index)
+}
