@@ -24,12 +24,13 @@ use Rattle.table.specs.TheTable.{Access, Subscriber}
 use Rattle.deciding.specs.declared.Plan.{Plan}
 use Rattle.deciding.specs.declared.Plan.the-variants.{NotSubscribed, Barred, RoamingNotAllowed, UnableToComply, UnusedByUser, Open, Route, Free}
 use Rattle.message.specs.WritingTheAnswer.{answer, answerRoom}
-use Rattle.decision.specs.declared.Done.{Done}
+use Rattle.carrying.specs.declared.Done.{Done}
 use Rattle.decision.specs.declared.Decided.{Decided}
 use Rattle.rules.specs.Deciding.{Verdict, refuse, grant, openOn}
 use Rattle.deciding.specs.Plans.{planned, fitting}
 use Rattle.rules.specs.Calls.{resultOf, noticeRoom, reply, settled}
-use Rattle.decision.specs.Outcomes.{Named, answeredBy, cutMade, cutSession, cutHost, resultSaid, planKind, planCode, sessionText, hostText, leaves, callOf, cutFor, doneFor, tableAfter}
+use Rattle.carrying.specs.Carrying.{cutFor, doneFor, tableAfter}
+use Rattle.decision.specs.Outcomes.{Named, answeredBy, cutMade, cutSession, cutHost, resultSaid, planKind, planCode, sessionText, hostText, leaves, callOf}
 
 -- CODES
 

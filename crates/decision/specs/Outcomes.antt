@@ -1,10 +1,10 @@
 -- What the code's structs and enums say in the paper's numbers.
 use mathlib.Core.Path.{_≡_}
 use mathlib.Core.Bool.{Bool}
-use mathlib.Core.List.{List, [], _∷_}
+use mathlib.Core.List.{List, []}
 use Prim.Native.Nat.{ℕ, _≤_}
 use lib.ListN.{length}
-use Rattle.message.specs.Codes.{Code, kindOf, numberOf}
+use Rattle.message.specs.Codes.{Code, kindOf}
 use Rattle.message.specs.Kinds.{codeFrom}
 use Rattle.message.specs.ReadingAMessage.{userName}
 use Rattle.message.specs.Spans.{Holds, bytesOf}
@@ -15,16 +15,11 @@ use Rattle.message.specs.declared.Asked.{Asked}
 use Rattle.message.specs.declared.Asked.the-variants.{Tunnel, Policy, Termination}
 use Rattle.deciding.specs.declared.Plan.{Plan}
 use Rattle.deciding.specs.declared.Plan.the-variants.{NotSubscribed, Barred, RoamingNotAllowed, UnableToComply, UnusedByUser, Open, Route, Free}
-use Rattle.decision.specs.declared.Cut.{Cut}
-use Rattle.decision.specs.declared.Cut.the-variants.{NoCut, Lengths}
+use Rattle.carrying.specs.declared.Cut.{Cut}
+use Rattle.carrying.specs.declared.Cut.the-variants.{NoCut, Lengths}
 use Rattle.decision.specs.declared.Outcome.{Outcome}
-use Rattle.decision.specs.declared.Done.{Done}
 use Rattle.decision.specs.declared.Decided.{Decided}
 use Rattle.rules.specs.Calls.{Call, Result, Left}
-use Rattle.table.specs.TheTable.{Access, rowBytes, withRow}
-use Rattle.rules.specs.Deciding.{Verdict}
-use lib.Dec.{eqb}
-use Rattle.octets.specs.Choice.{pick}
 
 -- A cut: 1 with the lengths of its texts, or 0 and no lengths.
 unfoldable pub cutMade : Cut → ℕ
@@ -110,16 +105,3 @@ planCode UnusedByUser = 5042
 planCode (Open n k) = 2001
 planCode (Route k) = 2001
 planCode (Free k) = 2001
-
--- What each case of the enum of a cut stands for: none, or the lengths of the cut access's Session-Id and gateway host.
-unfoldable pub cutFor : List Access → Cut
-cutFor [] = NoCut
-cutFor (a ∷ others) = Lengths (length (a .session)) (length (a .host))
-
--- What carrying out a plan gives back: the place of a new access, else 0, and the cut.
-unfoldable pub doneFor : Verdict → Done
-doneFor v = record { place = v .place; cut = cutFor (v .cut) }
-
--- The table that a verdict on row i leaves.
-unfoldable pub tableAfter : List ℕ → ℕ → Verdict → List ℕ
-tableAfter t i v = pick (eqb (numberOf (v .code)) 2001) (withRow t i (rowBytes (v .after))) t

@@ -1,8 +1,7 @@
 // A whole call.
-use super::Cut;
 use super::Decided;
 use super::Outcome;
-use super::carrying;
+use carrying::Cut;
 use deciding::Plan;
 use message::Asked;
 use message::Kind;

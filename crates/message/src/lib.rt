@@ -6,9 +6,9 @@ ghost use lib.ListN.{length};
 ghost use Rattle.octets.specs.Texts.{zeros};
 ghost use Rattle.octets.specs.Numbers.{net32};
 ghost use Rattle.message.specs.CallsThatGetNoAnswer.{messageNumber};
-ghost use Rattle.message.specs.ReadingAMessage.{base, vendor, command, headerCode, avps, walkCode, sessionId, originHost, userName, startsWith, numberField, requestOf};
+ghost use Rattle.message.specs.ReadingAMessage.{base, vendor, command, headerCode, walkCode, numberField};
 ghost use Rattle.message.specs.Positions.{slotOf, nameAt, headOf, headAt, Gathered};
-ghost use Rattle.message.specs.Spans.{bytesField, codeOf, isFound, Holds, Reads, BothRead, restCode, tunnelCode, tunnelOf, policyCode, policyOf, Listed, hasProxies, HeardOf};
+ghost use Rattle.message.specs.Spans.{bytesField, codeOf, Reads};
 
 // Which kind of code a call is answered with.
 pub enum Kind {

@@ -1,19 +1,18 @@
 -- What was read: no failing test gives 2001, and a request brings texts that fit a row.
-use mathlib.Core.Path.{_≡_, refl, sym, _∙_}
-use mathlib.Core.Bool.{Bool, true, false, _||_, not}
-use mathlib.Core.List.{List, [], _∷_, _++_, map}
-use Prim.Native.Nat.{ℕ, zero, suc, _≤_}
-use native.Mathlib.Omega.{arith}
+use mathlib.Core.Path.{_≡_, refl, _∙_}
+use mathlib.Core.Bool.{Bool, true, false, not}
+use mathlib.Core.List.{List, [], _∷_}
+use Prim.Native.Nat.{ℕ, zero, suc}
 use borrow.Author.Tests.{eq-eqb}
 use lib.Dec.{eqb}
 use lib.ListN.{length, drop}
-use Rattle.octets.specs.Choice.{pick, require, firstOf, within}
+use Rattle.octets.specs.Choice.{pick, require, firstOf}
 use Rattle.octets.specs.Lists.{every}
 use Rattle.octets.specs.Numbers.{up4}
-use Rattle.octets.proofs.Choice.{by-pick, first-passes, others-pass, passed}
-use Rattle.octets.proofs.Lists.{and-left, and-right, both, by-test, every-map, every-of, within-high}
+use Rattle.octets.proofs.Choice.{by-pick}
+use Rattle.octets.proofs.Lists.{and-left, and-right, both, by-test, every-map, every-of}
 use Rattle.message.specs.CallsThatGetNoAnswer.{messageNumber}
-use Rattle.message.specs.ReadingAMessage.{Name, Avp, Walk, Field, Ask, headerCode, avpLength, avpCode, behind, walkOne, walkUpTo, walk, body, avps, walkCode, having, firstValue, valueOf, testedAs, fieldCode, forBoth, for265, for275, fields, listCode, readingCode, command, typeOf, askOf, requestOf, request, read}
+use Rattle.message.specs.ReadingAMessage.{Avp, Walk, Field, headerCode, avpLength, avpCode, behind, walkOne, walkUpTo, walk, body, avps, walkCode, having, testedAs, fieldCode, fields, listCode, readingCode, command, requestOf, request, read}
 use Rattle.table.specs.TheTable.{tableNumber}
 use Rattle.rules.specs.Calls.{Call, callNumber}
 use Rattle.decision.proofs.Answered.{request-fits}

@@ -1,5 +1,5 @@
 -- One step of the walk over a message's AVPs, in numbers and places of the message, and what it means in the walk's own terms.
-use mathlib.Core.List.{List, [], _∷_}
+use mathlib.Core.List.{List, []}
 use Prim.Native.Nat.{ℕ, _+_, _-_, _%_}
 use lib.Dec.{eqb, leb}
 use lib.ListN.{length, getD, drop}

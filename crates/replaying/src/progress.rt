@@ -1,13 +1,13 @@
 // A script from record to record.
-use crate::playing::play_add;
-use crate::playing::play_clear;
-use crate::playing::play_enter;
-use crate::playing::play_handle;
 use crate::records::Told;
 use crate::records::announced;
 use crate::records::is_patched;
 use crate::records::only_number;
 use judging::Verdict;
+use playing::play_add;
+use playing::play_clear;
+use playing::play_enter;
+use playing::play_handle;
 ghost use Prim.Native.Nat.{_≤_};
 ghost use lib.ListN.{length};
 

@@ -1,5 +1,5 @@
 -- The script's format, as far as the functions promise it: digests, the bytes of a room, where two texts part, the end of a text.
-use mathlib.Core.Bool.{Bool, true, false, _&&_}
+use mathlib.Core.Bool.{Bool, true, _&&_}
 use mathlib.Core.List.{List, [], _∷_}
 use Prim.Native.Nat.{ℕ, suc, _+_, _*_, _%_}
 use lib.Dec.{eqb}

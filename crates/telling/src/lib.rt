@@ -1,5 +1,5 @@
 // What a call did, in words: the code and its name, the place, who was cut; and the order line that it left.
-use decision::Cut;
+use carrying::Cut;
 use decision::Outcome;
 use message::Kind;
 use words::number;

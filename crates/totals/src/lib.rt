@@ -1,5 +1,5 @@
 // What a file of messages came to, counted and said.
-use decision::Cut;
+use carrying::Cut;
 use decision::Outcome;
 use message::Kind;
 use words::number;

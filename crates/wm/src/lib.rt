@@ -1,5 +1,5 @@
 // The server for C: the four operations under their C names (include/wm.h).
-use decision::Cut;
+use carrying::Cut;
 use decision::Outcome;
 use message::Kind;
 ghost use mathlib.Core.Path.{_≡_};

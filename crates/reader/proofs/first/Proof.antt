@@ -26,7 +26,6 @@ use denote.Builtin.{u8}
 use denote.Ref.{RefT, NamedLft}
 use denote.Signature.{plain, namedLft}
 use denote.Slice.{sliceVal, ShrSlice, slice-vals, shr-slice-tells, shr-slice-lawful, shr-slice-copy}
-use denote.Steps.{nothing}
 use denote.Struct.Rest.{own-shut}
 use denote.Triple.Entry.{onEntry}
 use denote.Triple.Spec.{Meets, tripleOf}

@@ -1,7 +1,6 @@
 -- Refused in reading, or a request.
-use mathlib.Core.Path.{_≡_, sym, ap, _∙_}
+use mathlib.Core.Path.{_≡_, sym, _∙_}
 use mathlib.Core.Bool.{true, _&&_}
-use native.Mathlib.Omega.{arith}
 use Rattle.octets.specs.Lists.{every}
 use Rattle.octets.proofs.Lists.{and-left, and-right}
 use Rattle.message.specs.Kinds.{codeFrom}

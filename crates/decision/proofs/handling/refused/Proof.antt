@@ -2,9 +2,8 @@
 use mathlib.Core.Path.{refl}
 use mathlib.Core.List.{[]}
 use Rattle.rules.specs.Calls.{refusal, noticeRoom}
-use Rattle.decision.specs.Outcomes.{cutFor}
+use Rattle.carrying.specs.Carrying.{cutFor}
 use Rattle.decision.proofs.Answered.{answered-is}
-use borrow.Author.Needs.{needs}
 use Rattle.decision.proofs.handling.refused.Statement.{statement}
 use Rattle.decision.proofs.handling.refused.Tie as tie
 

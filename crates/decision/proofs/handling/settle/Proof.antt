@@ -3,7 +3,8 @@ use Rattle.message.specs.Kinds.{codeFrom}
 use Rattle.rules.specs.Deciding.{Verdict, decide}
 use Rattle.deciding.specs.Plans.{planned, fitPlan}
 use Rattle.rules.specs.Calls.{noticeRoom}
-use Rattle.decision.specs.Outcomes.{sessionText, hostText, routeText, doneFor, tableAfter}
+use Rattle.carrying.specs.Carrying.{doneFor, tableAfter}
+use Rattle.decision.specs.Outcomes.{sessionText, hostText, routeText}
 use mathlib.Core.Path.{_≡_, refl, sym, ap, _∙_}
 use mathlib.Core.Bool.{true}
 use Prim.Native.Nat.{_-_, _*_}

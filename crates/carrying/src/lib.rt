@@ -1,6 +1,4 @@
 // Carrying out a plan on row i of the table: the cut notice, the row, and what the call gives back.
-use super::Cut;
-use super::Done;
 use deciding::Plan;
 ghost use mathlib.Core.Path.{_≡_};
 ghost use mathlib.Core.Bool.{true};
@@ -13,7 +11,19 @@ ghost use Rattle.changes.specs.Changes.{freed, lowestFree, opened};
 ghost use Rattle.rules.specs.Deciding.{atPlace};
 ghost use Rattle.rules.specs.Calls.{noticeRoom};
 ghost use Rattle.deciding.specs.Plans.{planned, fitPlan};
-ghost use Rattle.decision.specs.Outcomes.{cutFor, doneFor, tableAfter};
+ghost use Rattle.carrying.specs.Carrying.{cutFor, doneFor, tableAfter};
+
+// Whether a cut was made, with the lengths of the cut access's Session-Id and gateway host.
+pub enum Cut {
+    NoCut,
+    Lengths(usize, usize),
+}
+
+// What carrying out a plan gives back: the place of a new access, else 0, and the cut.
+pub struct Done {
+    pub place: usize,
+    pub cut: Cut,
+}
 
 // The notice of the access at place k. In a sound row the two texts stand side by side in rooms of 128 bytes, filled up with zeros,
 // as they do in the notice.

@@ -1,8 +1,8 @@
 -- The notice is written from the row as it was; then the row is what the cut and the opening leave.
 use Prim.Native.Nat.{_-_}
 use borrow.Author.Needs.{needs}
-use Rattle.decision.proofs.carrying.open_with_cut.Statement.{statement}
-use Rattle.decision.proofs.carrying.open_with_cut.Tie as tie
+use Rattle.carrying.proofs.open_with_cut.Statement.{statement}
+use Rattle.carrying.proofs.open_with_cut.Tie as tie
 
 write-notice-requires : tie.Need-write-notice-requires
 write-notice-requires c κs = search needs

@@ -1,5 +1,5 @@
 -- Case by case of the plan: what it means is what the change leaves.
-use Rattle.decision.specs.declared.Cut.the-variants.{NoCut}
+use Rattle.carrying.specs.declared.Cut.the-variants.{NoCut}
 use mathlib.Core.Path.{_≡_, refl}
 use mathlib.Core.Bool.{true, false, _&&_}
 use Prim.Native.Nat.{_-_, _<_, _≤_}
@@ -17,9 +17,9 @@ use Rattle.rules.specs.Deciding.{refuse, grant, openOn}
 use Rattle.rules.specs.Calls.{noticeRoom}
 use Rattle.deciding.specs.Plans.{planned, fitPlan}
 use borrow.Author.Needs.{needs}
-use Rattle.decision.proofs.carrying.carry.Statement.{statement}
-use Rattle.decision.proofs.carrying.carry.Tie as tie
-use Rattle.decision.specs.Outcomes.{cutFor, doneFor, tableAfter}
+use Rattle.carrying.proofs.carry.Statement.{statement}
+use Rattle.carrying.proofs.carry.Tie as tie
+use Rattle.carrying.specs.Carrying.{cutFor, doneFor, tableAfter}
 
 enum-known-plan : tie.Need-enum-known-plan
 enum-known-plan c = search needs

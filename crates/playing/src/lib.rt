@@ -1,5 +1,5 @@
 // A call that a record asks for, made on the proved server. `r` is the record's body, `table` the table as long as it is now.
-use decision::Cut;
+use carrying::Cut;
 use judging::Got;
 use judging::Verdict;
 use judging::judged;

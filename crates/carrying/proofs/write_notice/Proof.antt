@@ -1,18 +1,18 @@
 -- In a sound row the two texts stand side by side, zero filled, as in the notice.
-use Rattle.decision.specs.declared.Cut.the-variants.{Lengths}
+use Rattle.carrying.specs.declared.Cut.the-variants.{Lengths}
 use Rattle.octets.specs.Texts.{part, filled}
 use Rattle.table.specs.TheTable.{block, readAccess, rowAt}
 use Rattle.rules.specs.Calls.{noticeRoom}
-use Rattle.decision.proofs.Rooms.{at-most, at-place-is, texts-are, session-long, host-long, notice-is, part-in, byte-in}
+use Rattle.carrying.proofs.Rooms.{at-most, at-place-is, texts-are, session-long, host-long, notice-is, part-in, byte-in}
 use mathlib.Core.Path.{_≡_, sym, ap, _∙_}
 use mathlib.Core.List.{[], _∷_, _++_}
 use Prim.Native.Nat.{_+_, _-_, _*_, _≤_}
 use native.Mathlib.Omega.{arith}
 use lib.ListN.{length}
 use borrow.Author.Needs.{needs}
-use Rattle.decision.proofs.carrying.write_notice.Statement.{statement}
-use Rattle.decision.proofs.carrying.write_notice.Tie as tie
-use Rattle.decision.specs.Outcomes.{cutFor}
+use Rattle.carrying.proofs.write_notice.Statement.{statement}
+use Rattle.carrying.proofs.write_notice.Tie as tie
+use Rattle.carrying.specs.Carrying.{cutFor}
 
 mul-at : tie.Need-mul-at
 mul-at c = search needs
