@@ -336,11 +336,40 @@ static int check(void) {
 
 /* ---- measuring ---- */
 
+/* What is wrong with an outcome and with the head of its answer, 0 if nothing is: without a branch, so that it costs the same
+ * whatever was called, and is taken off with the loop around the calls. */
+static inline uint32_t wrong(const struct line *line, const struct wm_outcome *o, const uint8_t *answer, const struct request *r) {
+    const struct wm_outcome *e = &line->expected;
+    uint32_t answered = -(uint32_t)(e->kind != 0), placed = -(uint32_t)(e->place != 0), head;
+    uint64_t identifiers, asked;
+    memcpy(&head, answer, 4);
+    memcpy(&identifiers, answer + 12, 8);
+    memcpy(&asked, r->bytes + 12, 8);
+    identifiers ^= asked;
+    return (o->code ^ e->code) | (o->kind ^ e->kind) | (o->cut ^ e->cut) | (o->cut_session ^ e->cut_session) |
+           (o->cut_host ^ e->cut_host) | ((o->place ^ e->place) & placed) |
+           (((head ^ __builtin_bswap32(0x01000000 + o->length)) | (uint32_t)identifiers | (uint32_t)(identifiers >> 32)) & answered);
+}
+
 static uint32_t run(const struct line *line, handle_function *handle, struct lent *l, uint32_t calls) {
-    uint32_t sum = 0;
-    for (uint32_t n = 0, i = 0; n < calls; n++, i = i + 1 < line->messages ? i + 1 : 0)
-        sum += call(handle, l, line, i).length;
-    return sum;
+    uint32_t bad = 0;
+    for (uint32_t n = 0, i = 0; n < calls; n++, i = i + 1 < line->messages ? i + 1 : 0) {
+        struct wm_outcome o = call(handle, l, line, i);
+        bad |= wrong(line, &o, l->answer, &messages[i]);
+    }
+    return bad;
+}
+
+/* All that stands in what was lent, in one number. */
+static uint64_t digest(const struct lent *l, uint32_t of_rows) {
+    uint64_t h = 14695981039346656037u;
+    for (size_t i = 0; i < of_rows * WM_ROW; i++)
+        h = (h ^ l->table[i]) * 1099511628211u;
+    for (size_t i = 0; i < sizeof l->answer; i++)
+        h = (h ^ l->answer[i]) * 1099511628211u;
+    for (size_t i = 0; i < sizeof l->notice; i++)
+        h = (h ^ l->notice[i]) * 1099511628211u;
+    return h;
 }
 
 static double seconds(void) {
@@ -349,19 +378,38 @@ static double seconds(void) {
     return (double)t.tv_sec + (double)t.tv_nsec / 1e9;
 }
 
-/* The shortest of many short runs for each, the libraries in turn; the loop around the call taken off. */
-static void time_line(const struct line *line) {
+/* The shortest of many short runs for each, the libraries in turn; the loop around the call taken off. Both must leave the same. */
+static bool time_line(const struct line *line) {
     double best[3] = {1e9, 1e9, 1e9};
     set_up(line);
-    for (uint32_t turn = 0; turn < 60; turn++)
+    for (uint32_t turn = 0; turn < 60; turn++) {
+        uint32_t bad[3];
         for (size_t k = 0; k < 3; k++) {
             double from = seconds();
-            run(line, libraries[k].handle, &lent[k % 2], 50 * MESSAGES);
+            bad[k] = run(line, libraries[k].handle, &lent[k % 2], 50 * MESSAGES);
             double took = (seconds() - from) / (50 * MESSAGES);
             best[k] = took < best[k] ? took : best[k];
         }
+        if (bad[0] || bad[1] || !same_lent(line->rows)) {
+            printf("%s: not as expected while it was measured\n", line->name);
+            return false;
+        }
+    }
     double proved = best[0] - best[2], plain = best[1] - best[2];
     printf("%s\t%.0f\t%.0f\t%.2f\n", line->name, proved * 1e9, plain * 1e9, proved / plain);
+    return true;
+}
+
+/* The calls of one library that are counted. Of the empty one nothing is expected. */
+static int count_line(const struct line *line, const char *library, uint32_t calls) {
+    for (size_t k = 0; k < 3; k++)
+        if (!strcmp(library, libraries[k].name)) {
+            set_up(line);
+            uint32_t bad = run(line, libraries[k].handle, &lent[0], calls);
+            printf("%016lx\n", (unsigned long)digest(&lent[0], line->rows));
+            return k < 2 && bad;
+        }
+    return 2;
 }
 
 int main(int count, char **words) {
@@ -376,15 +424,13 @@ int main(int count, char **words) {
     else if (!strcmp(what, "answers") && count == 4)
         return mix((uint32_t)strtoul(words[3], 0, 10), 1, words[2]);
     else if (!strcmp(what, "time"))
-        for (size_t i = 0; i < LINES; i++)
-            time_line(&lines[i]);
-    else if (!strcmp(what, "count") && count == 5) {
-        const struct line *line = &lines[strtoul(words[2], 0, 10) % LINES];
-        set_up(line);
-        for (size_t k = 0; k < 3; k++)
-            if (!strcmp(words[3], libraries[k].name))
-                printf("%u\n", run(line, libraries[k].handle, &lent[0], (uint32_t)strtoul(words[4], 0, 10)));
-    } else {
+        for (size_t i = 0; i < LINES; i++) {
+            if (!time_line(&lines[i]))
+                return 1;
+        }
+    else if (!strcmp(what, "count") && count == 5)
+        return count_line(&lines[strtoul(words[2], 0, 10) % LINES], words[3], (uint32_t)strtoul(words[4], 0, 10));
+    else {
         printf("driver: lines, check, mix CALLS SEED, answers FILE CALLS, count LINE LIBRARY N, or time\n");
         return 2;
     }

@@ -1,4 +1,4 @@
-// Reading a request over the caller's bytes: nothing is copied, a text is a part of the message.
+// Reading a request over the caller's bytes, up to its fields: nothing is copied, a text is a part of the message.
 ghost use mathlib.Core.Path.{_≡_};
 ghost use mathlib.Core.Bool.{Bool, true};
 ghost use Prim.Native.Nat.{_+_, _*_, _≤_, _<_};
@@ -294,7 +294,7 @@ pub fn refusal(g: Got) -> u32
     }
 }
 
-// THE LISTS
+// WHAT THE LISTS GIVE
 
 // The first five fields, of both requests: Session-Id and Origin-Host, or the code of the first that fails.
 pub enum Both {
@@ -326,7 +326,7 @@ pub enum Told {
     Request(Span, Asked),
 }
 
-// A whole message.
+// A whole message: what it says, and whether the answer has a Proxy-Info to copy.
 pub struct Heard {
     pub told: Told,
     pub proxies: bool,
