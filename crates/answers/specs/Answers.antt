@@ -2,7 +2,7 @@
 use mathlib.Core.Path.{_≡_}
 use mathlib.Core.Bool.{Bool}
 use mathlib.Core.List.{List, [], _∷_, _++_}
-use Prim.Native.Nat.{ℕ, _+_, _-_, _≤_}
+use Prim.Native.Nat.{ℕ, _+_, _-_, _≤_, _<_}
 use lib.ListN.{length}
 use Rattle.octets.specs.Texts.{part, put}
 use Rattle.octets.specs.Numbers.{in24, in32}
@@ -34,7 +34,7 @@ pub record SessionOf (m : List ℕ) (n : ℕ) : Type 0 where
   pub some : (n ≡ 0 → ⊥) → sessionAvp m ≡ avpBytes 263 (part m 28 (n - 8))
 
 -- What an answer is made from: a message that is no call without an answer, names of at most 128 bytes, a room that is
--- large enough, the User-Name where the answer repeats it, and whether there is a Proxy-Info to copy.
+-- large enough, the User-Name where the answer repeats it, whether there is a Proxy-Info to copy, and a code that two bytes hold.
 pub record Answerable (m host realm : List ℕ) (code : ℕ) (user : Span) (proxies : Bool) (room : List ℕ) : Type 0 where
   pub least : 20 ≤ length m
   pub most : length m ≤ 4096
@@ -44,6 +44,7 @@ pub record Answerable (m host realm : List ℕ) (code : ℕ) (user : Span) (prox
   pub named : command m ≡ 265 → code ≡ 2001 → Holds m userName user
   pub short : command m ≡ 265 → code ≡ 2001 → user .len ≤ 128
   pub to-copy : proxies ≡ hasProxies m
+  pub small : code < 65536
 
 -- The answer: its length, and the room with it.
 pub record Answered (m host realm : List ℕ) (c : Code) (size : ℕ) (before after : List ℕ) : Type 0 where

@@ -45,9 +45,9 @@ fn put_avp(room: &mut [u8], at: usize, code: u32, value: &[u8]) -> usize
     next
 }
 
-// An AVP of ours with a number, and the place behind it.
+// An AVP of ours with a number, which two bytes hold, and the place behind it.
 fn put_number(room: &mut [u8], at: usize, code: u32, n: u32) -> usize
-    requires { ⌜ at + 12 ≤ length (now room) ⌝ }
+    requires { ⌜ (at + 12 ≤ length (now room)) × (n < 65536) ⌝ }
     ensures { λ r. ⌜ Written (now (room .entry)) (now (room .exit)) at r (avpBytes code (in32 n)) ⌝ }
 {
     let bytes = [
@@ -59,8 +59,8 @@ fn put_number(room: &mut [u8], at: usize, code: u32, n: u32) -> usize
         0,
         0,
         12,
-        (n / 16777216 % 256) as u8,
-        (n / 65536 % 256) as u8,
+        0,
+        0,
         (n / 256 % 256) as u8,
         (n % 256) as u8,
     ];
@@ -138,7 +138,7 @@ fn is_3xxx(code: u32) -> bool
 
 // Result-Code, or Experimental-Result with its vendor and its number.
 fn put_result(kind: Kind, code: u32, room: &mut [u8], at: usize) -> usize
-    requires { ⌜ at + 32 ≤ length (now room) ⌝ }
+    requires { ⌜ (at + 32 ≤ length (now room)) × (code < 65536) ⌝ }
     ensures { λ r. ⌜ Written (now (room .entry)) (now (room .exit)) at r (resultAvp (codeFrom kind code)) ⌝ }
 {
     match kind {
@@ -230,14 +230,14 @@ fn answer_flags(m: &[u8], code: u32) -> u8
     p
 }
 
-// The header of an answer of n bytes.
+// The header of an answer of n bytes, which two bytes hold.
 fn put_header(m: &[u8], code: u32, n: usize, room: &mut [u8])
-    requires { ⌜ (20 ≤ length (now m)) × (20 ≤ length (now room)) ⌝ }
+    requires { ⌜ (20 ≤ length (now m)) × (20 ≤ length (now room)) × (n < 65536) ⌝ }
     ensures { λ _. ⌜ now (room .exit) ≡ put (now (room .entry)) 0 (answerHead (now (m .entry)) (plain code) n) ⌝ }
 {
     let head = [
         1,
-        (n / 65536 % 256) as u8,
+        0,
         (n / 256 % 256) as u8,
         (n % 256) as u8,
         answer_flags(m, code),

@@ -2,7 +2,7 @@
 use mathlib.Core.Path.{_≡_, refl, sym, ap, _∙_}
 use mathlib.Core.Bool.{Bool, true}
 use mathlib.Core.List.{List, [], _∷_}
-use Prim.Native.Nat.{ℕ, _+_, _-_, _≤_}
+use Prim.Native.Nat.{ℕ, _+_, _-_, _≤_, _<_}
 use native.Mathlib.Omega.{arith}
 use borrow.Author.Tests.{leb-true}
 use lib.Dec.{eqb}
@@ -59,6 +59,17 @@ plan-code session host route (Open n k) s = by-test (eqb k 0) (λ e. rw e) (λ e
 plan-code session host route (Route k) s = refl
 plan-code session host route (Free k) s = refl
 
+pub plan-small : (p : Plan) → planCode p < 65536
+unfolding planCode
+plan-small NotSubscribed = omega arith
+plan-small Barred = omega arith
+plan-small RoamingNotAllowed = omega arith
+plan-small UnableToComply = omega arith
+plan-small UnusedByUser = omega arith
+plan-small (Open n k) = omega arith
+plan-small (Route k) = omega arith
+plan-small (Free k) = omega arith
+
 -- LENGTHS
 
 ask-fits : (m : List ℕ) (q : Request) (a : Ask) → read m ≡ request q → q .ask ≡ a → fitting a ≡ true
@@ -101,8 +112,8 @@ module _ (m : List ℕ) (u : Span) (inside : isInside m u ≡ true) (a : Ask) (e
 -- THE REPLY
 
 -- a code other than 2001 names nobody
-pub nobody-named : (m : List ℕ) (d : Decided) → (d .code ≡ 2001 → ⊥) → Named m d
-nobody-named m d h = record { holds = λ e. absurd (h e); short = λ e. absurd (h e) }
+pub nobody-named : (m : List ℕ) (d : Decided) → (d .code ≡ 2001 → ⊥) → d .code < 65536 → Named m d
+nobody-named m d h small = record { holds = λ e. absurd (h e); short = λ e. absurd (h e); small = small }
 
 -- the outcome, from what was written
 pub written-is : (d : Decided) (n : ℕ) (m host realm room t a u : List ℕ)

@@ -2,7 +2,7 @@
 use mathlib.Core.Path.{_≡_}
 use mathlib.Core.Bool.{Bool}
 use mathlib.Core.List.{List, []}
-use Prim.Native.Nat.{ℕ, _≤_}
+use Prim.Native.Nat.{ℕ, _≤_, _<_}
 use lib.ListN.{length}
 use Rattle.message.specs.Codes.{Code, kindOf}
 use Rattle.message.specs.Kinds.{codeFrom}
@@ -59,10 +59,11 @@ answeredBy d m host realm room table notice =
     let n : ℕ = length (answer m host realm c) in
     leaves (record { code = d .code; kind = d .kind; length = n; place = d .place; cut = d .cut }) table (answerRoom m host realm c room) notice
 
--- Where the code is 2001, the span is that of the User-Name, of at most 128 bytes.
+-- Where the code is 2001, the span is that of the User-Name, of at most 128 bytes. Every code is one that two bytes hold.
 pub record Named (m : List ℕ) (d : Decided) : Type 0 where
   pub holds : d .code ≡ 2001 → Holds m userName (d .user)
   pub short : d .code ≡ 2001 → d .user .len ≤ 128
+  pub small : d .code < 65536
 
 -- A call, from what is lent.
 unfoldable pub callOf : (message host realm answer notice : List ℕ) → (wag : Bool) → Call

@@ -1,12 +1,12 @@
 -- What a caller of `read` and of `answer` asks: the lengths that the message's number promises, the user of a request,
--- and that a message is never refused with 2001.
+-- and that a message is never refused with 2001, nor with a code that two bytes do not hold.
 use mathlib.Core.Path.{_≡_, refl, sym, ap, _∙_}
-use mathlib.Core.Bool.{Bool, true, false, not}
+use mathlib.Core.Bool.{Bool, true, false, not, _&&_}
 use mathlib.Core.List.{List, [], _∷_, map}
-use Prim.Native.Nat.{ℕ, zero, suc, _+_, _≤_}
+use Prim.Native.Nat.{ℕ, zero, suc, _+_, _≤_, _<_}
 use native.Mathlib.Omega.{arith}
-use borrow.Author.Tests.{leb-true, eqb-false, not-true}
-use lib.Dec.{eqb, leb}
+use borrow.Author.Tests.{leb-true, ltb-true, eqb-false, not-true}
+use lib.Dec.{eqb, leb, ltb}
 use lib.ListN.{length, drop}
 use Rattle.octets.specs.Choice.{pick, require, firstOf, within}
 use Rattle.octets.specs.Lists.{every}
@@ -61,9 +61,9 @@ module _ (m : List ℕ) (t : Told) (u : Span) (a : Asked) (r : says m t ≡ read
 
 -- REFUSALS
 
--- a code that is not 2001
+-- a code that is not 2001, and that two bytes hold
 other : ℕ → Bool
-other n = not (eqb n 2001)
+other n = not (eqb n 2001) && ltb n 65536
 
 first-other : (cs : List ℕ) → every other cs ≡ true → other (firstOf cs) ≡ true
 unfolding firstOf pick every other
@@ -122,12 +122,20 @@ reading-other m =
     first-other (headerCode m ∷ walkCode m ∷ listCode (command m) (avps m) ∷ [])
     (both (header-other m) (both (walk-other (suc (length (drop 20 m))) (drop 20 m)) (both (list-other (command m) (avps m)) refl)))
 
-pub never-2001 : (m : List ℕ) (n : ℕ) → read m ≡ refused n → n ≡ 2001 → ⊥
-unfolding read pick other
-never-2001 m n e z =
+refused-other : (m : List ℕ) (n : ℕ) → read m ≡ refused n → other n ≡ true
+unfolding read pick
+refused-other m n e =
     by-test (eqb (readingCode m) 0)
-    (λ t. let f = rw t at e in let q : _≡_ {A = ℕ} 0 1 = cc in omega arith)
+    (λ t. let f = rw t at e in let q : _≡_ {A = ℕ} 0 1 = cc in absurd (omega arith))
     (λ t.
     let f = rw t at e in
     let q : readingCode m ≡ n = cc in
-    eqb-false (readingCode m) 2001 (not-true (eqb (readingCode m) 2001) (reading-other m)) (q ∙ z))
+    ap other (sym q) ∙ reading-other m)
+
+pub never-2001 : (m : List ℕ) (n : ℕ) → read m ≡ refused n → n ≡ 2001 → ⊥
+unfolding other
+never-2001 m n e = eqb-false n 2001 (not-true (eqb n 2001) (and-left _ (ltb n 65536) (refused-other m n e)))
+
+pub refused-small : (m : List ℕ) (n : ℕ) → read m ≡ refused n → n < 65536
+unfolding other
+refused-small m n e = ltb-true n 65536 (and-right (not (eqb n 2001)) _ (refused-other m n e))

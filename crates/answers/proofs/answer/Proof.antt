@@ -7,7 +7,7 @@ use Rattle.octets.specs.Texts.{put}
 use Rattle.message.specs.Codes.{plain, numberOf}
 use Rattle.message.specs.WritingTheAnswer.{avpBytes, sessionAvp, authAvps, resultAvp, subscriptionAvp, proxyAvps, answerBody}
 use Rattle.message.specs.Kinds.{codeFrom}
-use Rattle.answers.proofs.Writing.{session-most, auth-most, result-most, avp-most, subscription-most, length-body, auth-from, subscription-from, head-from, user-short, answerable-fits, written-seven, answer-put}
+use Rattle.answers.proofs.Writing.{session-most, auth-most, result-most, avp-most, subscription-most, length-body, proxies-most, auth-from, subscription-from, head-from, user-short, answerable-fits, written-seven, answer-put}
 use Rattle.answers.proofs.answer.Statement.{statement}
 use Rattle.answers.proofs.answer.Tie as tie
 
@@ -63,7 +63,8 @@ put-auth-requires c κs =
 put-result-requires : tie.Need-put-result-requires
 put-result-requires c κs =
     let p = two (c .before .before .before) in
-    omega (arith, p .0, p .1, c .before .before .before .before .before .before .before .before .before .before .before .before .before .pre .room-fits)
+    let s = c .before .before .before .before .before .before .before .before .before .before .before .before .before .pre in
+    (omega (arith, p .0, p .1, s .room-fits), s .small)
 
 put-avp-requires : tie.Need-put-avp-requires
 put-avp-requires c κs =
@@ -91,7 +92,11 @@ put-header-requires : tie.Need-put-header-requires
 put-header-requires c κs =
     let p = six (c .before .before .before .before .before .before .before) in
     let s = c .before .before .before .before .before .before .before .before .before .before .before .before .before .before .before .before .before .before .before .before .before .before .before .before .before .before .before .before .before .before .before .before .before .pre in
-    (s .least, omega (arith, p .1, c .before .before .before .put-proxies .kept .1 .1 .0, s .room-fits))
+    let a = c .before .before .before .before .before .before .before .before .before .before .before .before .before .before .before .before .before .before .before .before .before .before .before .before .before .before .before .before .before .before .before .before .before .args in (
+      s .least,
+      omega (arith, p .1, c .before .before .before .put-proxies .kept .1 .1 .0, s .room-fits),
+      omega (arith, p .0, c .before .before .before .put-proxies .ensures .place, proxies-most (a .m .now) (s .least), s .most),
+    )
 
 same-length : tie.Need-same-length
 same-length c =

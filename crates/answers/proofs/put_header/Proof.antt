@@ -1,7 +1,7 @@
 -- Five bytes of ours and fifteen of the message, one behind the other.
-use mathlib.Core.Path.{refl, _∙_}
+use mathlib.Core.Path.{_≡_, refl, _∙_}
 use mathlib.Core.List.{List, [], _∷_, _++_}
-use Prim.Native.Nat.{ℕ}
+use Prim.Native.Nat.{ℕ, _/_, _%_}
 use native.Mathlib.Omega.{arith}
 use borrow.Author.Needs.{needs}
 use Rattle.octets.specs.Texts.{part}
@@ -16,11 +16,8 @@ use Rattle.answers.proofs.put_header.Tie as tie
 cast-t8 : tie.Need-cast-t8
 cast-t8 c = search needs
 
-cast-t11 : tie.Need-cast-t11
-cast-t11 c = search needs
-
-cast-t13 : tie.Need-cast-t13
-cast-t13 c = search needs
+cast-t10 : tie.Need-cast-t10
+cast-t10 c = search needs
 
 answer-flags-requires : tie.Need-answer-flags-requires
 answer-flags-requires c κs = search needs
@@ -51,9 +48,11 @@ unfolding answerHead in24
 returns c =
     let a = c .before .before .before .before .before .before .before .before .before .before .before .before .before .args in
     let m = a .m .now in
-    let five : List ℕ = 1 ∷ in24 (a .n) ++ (answerFlags m (plain (a .code)) ∷ []) in
+    let first : a .n / 65536 % 256 ≡ 0 = omega (arith, c .before .before .before .before .before .before .before .before .before .before .before .before .before .pre .2) in
+    let five : List ℕ = 1 ∷ 0 ∷ a .n / 256 % 256 ∷ a .n % 256 ∷ answerFlags m (plain (a .code)) ∷ [] in
     c .before .before .put-text .ensures
     ∙ rw (
+      first,
       c .before .before .before .before .before .before .before .put-bytes .ensures,
       c .before .before .before .before .before .before .before .before .before .before .answer-flags .ensures,
     )
@@ -65,8 +64,7 @@ put-header-spec =
     tie.close
     (tie.spec
     cast-t8
-    cast-t11
-    cast-t13
+    cast-t10
     answer-flags-requires
     slice-aggregate-put-bytes
     put-bytes-requires

@@ -1,5 +1,7 @@
--- The twelve bytes are those of the definition: four of the value, and no padding.
-use mathlib.Core.Path.{refl}
+-- The twelve bytes are those of the definition: four of the value, of which the first two are zero, and no padding.
+use mathlib.Core.Path.{_≡_, refl}
+use Prim.Native.Nat.{_/_, _%_}
+use native.Mathlib.Omega.{arith}
 use borrow.Author.Needs.{needs}
 use Rattle.octets.specs.Texts.{zeros}
 use Rattle.octets.specs.Numbers.{in24, in32, up4}
@@ -22,14 +24,8 @@ cast-t16 c = search needs
 cast-t19 : tie.Need-cast-t19
 cast-t19 c = search needs
 
-cast-t22 : tie.Need-cast-t22
-cast-t22 c = search needs
-
-cast-t25 : tie.Need-cast-t25
-cast-t25 c = search needs
-
-cast-t27 : tie.Need-cast-t27
-cast-t27 c = search needs
+cast-t21 : tie.Need-cast-t21
+cast-t21 c = search needs
 
 slice-aggregate-put-bytes : tie.Need-slice-aggregate-put-bytes
 slice-aggregate-put-bytes c = search needs
@@ -45,7 +41,12 @@ same-length c = search needs
 
 returns : tie.Need-returns
 unfolding avpBytes in24 in32 up4 zeros
-returns c = record { place = refl; bytes-put = c .before .before .put-bytes .ensures }
+returns c =
+    let start = c .before .before .before .before .before .before in
+    let n = start .args .n in
+    let first : n / 16777216 % 256 ≡ 0 = omega (arith, start .pre .1) in
+    let second : n / 65536 % 256 ≡ 0 = omega (arith, start .pre .1) in
+    record { place = refl; bytes-put = rw (first, second) (c .before .before .put-bytes .ensures) }
 
 pub put-number-spec : {M : Type 1} → statement M
 put-number-spec =
@@ -56,9 +57,7 @@ put-number-spec =
     cast-t14
     cast-t16
     cast-t19
-    cast-t22
-    cast-t25
-    cast-t27
+    cast-t21
     slice-aggregate-put-bytes
     put-bytes-requires
     add-result

@@ -36,13 +36,16 @@ put-number-requires-2 c κs = search needs
 put-number-requires-3 : tie.Need-put-number-requires-3
 put-number-requires-3 c κs =
     let p = c .before .before .before .put-number2 in
-    omega (
-      arith,
-      p .ensures .place,
-      length-number 266 10415,
-      p .kept .0,
-      c .before .before .before .before .before .before .before .put-head .kept .0,
-      c .before .before .before .before .before .before .before .before .before .before .before .before .pre,
+    let start = c .before .before .before .before .before .before .before .before .before .before .before .before in (
+      omega (
+        arith,
+        p .ensures .place,
+        length-number 266 10415,
+        p .kept .0,
+        c .before .before .before .before .before .before .before .put-head .kept .0,
+        start .pre .0,
+      ),
+      start .pre .1,
     )
 
 returns : tie.Need-returns
@@ -78,7 +81,7 @@ returns-3 c =
     (group-put (a .room .now) (h .last .0) (q .last .0) (a .at) (q .result) 297 32 (avpBytes 266 (in32 10415) ++ avpBytes 298 (in32 (a .code)))
     (h .ensures) (rw l) (rw l) (omega (
       arith,
-      c .before .before .before .before .before .before .before .before .before .before .before .before .before .before .before .pre,
+      c .before .before .before .before .before .before .before .before .before .before .before .before .before .before .before .pre .0,
     ))
     (written-then (h .last .0) (p .last .0) (q .last .0) (a .at + 8) (p .result) (q .result) (avpBytes 266 (in32 10415))
     (avpBytes 298 (in32 (a .code))) (p .ensures) (q .ensures)
@@ -86,7 +89,7 @@ returns-3 c =
       arith,
       length-number 266 10415,
       h .kept .0,
-      c .before .before .before .before .before .before .before .before .before .before .before .before .before .before .before .pre,
+      c .before .before .before .before .before .before .before .before .before .before .before .before .before .before .before .pre .0,
     ))))
 
 pub put-result-spec : {M : Type 1} → statement M

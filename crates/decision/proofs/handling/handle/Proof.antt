@@ -68,6 +68,7 @@ answer-requires c κs =
       room-fits = ready .room-fits;
       named = λ x y. named .holds y;
       short = λ x y. named .short y;
+      small = named .small;
       to-copy = c .before .before .before .before .before .before .before .before .before .read .ensures .proxies;
     }
 

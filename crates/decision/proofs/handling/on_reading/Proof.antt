@@ -1,12 +1,13 @@
 -- Refused in reading, or a request.
 use mathlib.Core.Path.{_≡_, sym, _∙_}
 use mathlib.Core.Bool.{true, _&&_}
+use native.Mathlib.Omega.{arith}
 use Rattle.octets.specs.Lists.{every}
 use Rattle.octets.proofs.Lists.{and-left, and-right}
 use Rattle.message.specs.Kinds.{codeFrom}
 use Rattle.message.specs.ReadingAMessage.{read, refused, request}
 use Rattle.message.specs.Spans.{asks, bytesOf, isInside, says, spans, spansIn}
-use Rattle.message.proofs.Callers.{never-2001}
+use Rattle.message.proofs.Callers.{never-2001, refused-small}
 use Rattle.rules.specs.Calls.{onReading}
 use Rattle.decision.specs.Outcomes.{callOf}
 use Rattle.decision.proofs.Answered.{nobody-named}
@@ -29,7 +30,7 @@ returns c =
     let m = a .m .now in
     let code = c .before .before .told .given .0 .0 in
     let is : read m ≡ refused code = sym (start .pre .2) ∙ rw (c .before .before .told .given .1) in (
-      nobody-named m _ (λ e. never-2001 m code is (sym (c .refused .ensures .0) ∙ e)),
+      nobody-named m _ (λ e. never-2001 m code is (sym (c .refused .ensures .0) ∙ e)) (omega (arith, c .refused .ensures .0, refused-small m code is)),
       λ host realm room. rw is (c .refused .ensures .1 m host realm room t (a .notice .now) (a .wag)),
     )
 

@@ -46,7 +46,7 @@ returns c =
     let m = a .m .now in
     let name : c .before .before .before .before .text .result .now ≡ bytesOf m (a .user) = c .before .before .before .before .text .ensures in
     let is : lookup t (bytesOf m (a .user)) ≡ nothing = ap (lookup t) (sym name) ∙ sym (c .before .before .before .lookup .ensures .0) ∙ ap found (c .before .enum-told .given .1) in (
-      nobody-named m _ (λ e. omega (arith, c .refused .ensures .0, e)),
+      nobody-named m _ (λ e. omega (arith, c .refused .ensures .0, e)) (omega (arith, c .refused .ensures .0)),
       λ host realm room. rw is (c .refused .ensures .1 m host realm room t (a .notice .now) (a .wag)),
     )
 
@@ -106,7 +106,7 @@ returns-2 c =
     let name : c .before .before .before .before .before .before .before .before .before .text .result .now ≡ bytesOf m (a .user) = c .before .before .before .before .before .before .before .before .before .text .ensures in
     let is : lookup t (bytesOf m (a .user)) ≡ row i = ap (lookup t) (sym name) ∙ sym (c .before .before .before .before .before .before .before .before .lookup .ensures .0) ∙ ap found (c .before .before .before .before .before .before .found .given .1) in
     let unsound : sound (rowAt t i) ≡ false = lent-test sound t (4608 * i) i (c .before .before .row-sound .result) false refl (c .before .before .row-sound .ensures) (not-true _ (c .before .if1 .taken)) in (
-      nobody-named m _ (λ e. omega (arith, c .refused2 .ensures .0, e)),
+      nobody-named m _ (λ e. omega (arith, c .refused2 .ensures .0, e)) (omega (arith, c .refused2 .ensures .0)),
       λ host realm room. rw (is, unsound) (c .refused2 .ensures .1 m host realm room t (a .notice .now) (a .wag)),
     )
 

@@ -14,7 +14,7 @@ use Rattle.message.specs.Spans.{asks}
 use Rattle.table.specs.TheTable.{rowAt, readRow}
 use Rattle.table.specs.Soundness.{sound}
 use Rattle.table.proofs.Rows.{lent-row}
-use Rattle.decision.proofs.Answered.{request-fits, user-holds, user-short, session-short, host-short, plan-code, settled-is}
+use Rattle.decision.proofs.Answered.{request-fits, user-holds, user-short, session-short, host-short, plan-code, plan-small, settled-is}
 use borrow.Author.Needs.{needs}
 use Rattle.decision.proofs.handling.settle.Statement.{statement}
 use Rattle.decision.proofs.handling.settle.Tie as tie
@@ -42,6 +42,7 @@ returns c =
       record {
         holds = λ e. user-holds m (a .user) (start .pre .4) (asks m (a .asked)) (start .pre .5);
         short = λ e. user-short m (a .user) (start .pre .4) (asks m (a .asked)) (start .pre .5);
+        small = omega (arith, code, plan-small plan);
       },
       λ host realm room.
           settled-is (a .table .now) (a .i) m host realm room (a .notice .now) (a .wag) v (c .before .kind-of .result) (c .code-of .result) (a .user) (c .before .before .before .before .before .before .carry .result) _ _
