@@ -384,7 +384,8 @@ static bool time_line(const struct line *line) {
     set_up(line);
     for (uint32_t turn = 0; turn < 60; turn++) {
         uint32_t bad[3];
-        for (size_t k = 0; k < 3; k++) {
+        for (size_t i = 0; i < 3; i++) {
+            size_t k = (i + 2) % 3; /* the empty one first: it sets rows back and leaves no access in them */
             double from = seconds();
             bad[k] = run(line, libraries[k].handle, &lent[k % 2], 50 * MESSAGES);
             double took = (seconds() - from) / (50 * MESSAGES);

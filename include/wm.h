@@ -1,8 +1,22 @@
-/* The Wm side of a tunnel access server (document 01): three set-up operations and one request at a time.
+/* The Wm side of a tunnel access server: three set-up operations and one request at a time. docs/RULES.md has the rules.
  *
- * Everything is lent by the caller: no function keeps a pointer, allocates, or waits. A length may be anything; what does not
- * fit document 01 is refused by its number and changes nothing. No two of the buffers of one call may overlap where one of
- * them is not const. Calls on different tables may run at once; calls on one table may not.
+ * Everything is lent by the caller: a pointer and a length. No function keeps a pointer, allocates, locks or waits, and none has
+ * state of its own. Any length and any contents are allowed: what does not fit the rules is refused by its number, and a refusal
+ * leaves everything lent as it was. A room's bytes behind what was written stay as they were.
+ *
+ * What the caller has to keep to; nothing is promised otherwise:
+ *
+ * - A pointer is valid for its length: that many bytes can be read, and written where it is not const.
+ * - No pointer is null, not even with length 0: any address of the program's own will do there, it is neither read nor written.
+ * - Any alignment will do.
+ * - Buffers of one call do not overlap where one of them is not const: table, answer and notice stand apart from each other
+ *   and from all the rest. Those that are const may overlap each other: host, realm, message, name, label.
+ * - While a call runs no other thread writes to anything that was lent to it, and none reads table, answer or notice.
+ *   So calls on one table come one after another, in any threads, with whatever lock the caller likes. Calls with tables and rooms of
+ *   their own may run at once, and may share host, realm and messages.
+ * - A bool is 0 or 1.
+ *
+ * The deepest call takes under 1,024 bytes of stack (docs/PERFORMANCE.md).
  */
 #ifndef WM_H
 #define WM_H
@@ -14,19 +28,52 @@
 #include <stdint.h>
 #endif
 
+#ifdef __cplusplus
+extern "C" {
+#endif
+
 #define WM_ROW 4608u          /* bytes of a row; a table is 1 to 1,024 rows */
 #define WM_ANSWER_LEAST 5120u /* the answer room's least length */
 #define WM_NOTICE_LEAST 256u  /* the notice room's least length */
 
+/* The flags of a label: either, both or none. */
+enum wm_flag { WM_BARRED = 1, WM_MAY_ROAM = 2 };
+
+/* Which kind of code an outcome has. */
+enum wm_kind { WM_NO_ANSWER = 0, WM_RESULT_CODE = 1, WM_EXPERIMENTAL_RESULT = 2 };
+
+/* The numbers of refusals that are no Diameter codes. A set-up operation gives 0, 1 or 9 to 17. A request gives 1 to 8, with the
+ * kind WM_NO_ANSWER, or a code that goes into its answer. The first that holds is given, in the order of these lines. */
+enum wm_number {
+    WM_DONE = 0,             /* set-up: it is done */
+    WM_TABLE_LENGTH = 1,     /* the table is not 1 to 1,024 rows of WM_ROW bytes */
+    WM_OWN_NAMES = 2,        /* the own host or realm has not 1 to 128 bytes */
+    WM_ANSWER_ROOM = 3,      /* the answer room is under WM_ANSWER_LEAST */
+    WM_NOTICE_ROOM = 4,      /* the notice room is under WM_NOTICE_LEAST */
+    WM_MESSAGE_LENGTH = 5,   /* the message is under 20 or over 4,096 bytes */
+    WM_VERSION = 6,          /* the message's version is not 1 */
+    WM_HEADER_LENGTH = 7,    /* the length in its header is not that given, or no multiple of 4 */
+    WM_NO_REQUEST = 8,       /* its R bit is clear */
+    WM_NAME_FORM = 9,        /* entering: the name is not 1 to 15 decimal digits */
+    WM_NAME_HELD = 10,       /* entering: a row has that name */
+    WM_NO_FREE_ROW = 11,     /* entering: no row is wholly zero */
+    WM_NO_SUBSCRIBER = 12,   /* adding: no row has that name */
+    WM_UNSOUND_ROW = 13,     /* adding: the row is damaged */
+    WM_LABEL_FORM = 14,      /* adding: the label has not 1 to 100 bytes, the limit is not 1 to 8, or the flags are over 3 */
+    WM_LABEL_HELD = 15,      /* adding: the subscriber has that label */
+    WM_FOUR_LABELS = 16,     /* adding: the subscriber has four labels */
+    WM_LIMITS_OVER_8 = 17    /* adding: the limits would sum to over 8 */
+};
+
 /* code: the number 1 to 8 of a call that gets no answer, or the Diameter code.
- * kind: 0 no answer, 1 Result-Code, 2 Experimental-Result. length: of the answer. place: taken by a new access, else 0.
+ * kind: one of enum wm_kind. length: of the answer. place: taken by a new access, 1 to 8, else 0.
  * cut: 1 if an access was cut, with the lengths of its Session-Id (bytes 0 on of the notice) and of its gateway host
  * (bytes 128 on); else all three are 0. */
 struct wm_outcome {
     uint32_t code, kind, length, place, cut, cut_session, cut_host;
 };
 
-/* Set-up: 0 on success, else the number. */
+/* Set-up: one of enum wm_number. flags: of enum wm_flag. */
 uint32_t wm_clear(uint8_t *table, size_t table_length);
 uint32_t wm_enter(uint8_t *table, size_t table_length, const uint8_t *name, size_t name_length);
 uint32_t wm_add(uint8_t *table, size_t table_length, const uint8_t *name, size_t name_length, const uint8_t *label,
@@ -36,5 +83,9 @@ uint32_t wm_add(uint8_t *table, size_t table_length, const uint8_t *name, size_t
 struct wm_outcome wm_handle(uint8_t *table, size_t table_length, const uint8_t *host, size_t host_length,
                             const uint8_t *realm, size_t realm_length, const uint8_t *message, size_t message_length,
                             bool wag, uint8_t *answer, size_t answer_length, uint8_t *notice, size_t notice_length);
+
+#ifdef __cplusplus
+}
+#endif
 
 #endif

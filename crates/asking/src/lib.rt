@@ -2,6 +2,7 @@
 use message::Asked;
 use message::Span;
 use message::Told;
+use reader::Step;
 use words::say;
 use words::text;
 
@@ -48,6 +49,27 @@ fn request(out: &mut [u8; 4096], at: usize, m: &[u8], asked: Asked) -> usize {
     }
 }
 
+// A message that is no whole request, with its Session-Id where its first AVP is one.
+fn no_request(out: &mut [u8; 4096], at: usize, m: &[u8]) -> usize {
+    let a = say(out, at, b"no whole request");
+    let step = reader::avp_at(m, 20);
+    let Step::One(first) = step else {
+        return a;
+    };
+    if 128 <= first.flags {
+        return a;
+    }
+    if first.code != 263 {
+        return a;
+    }
+    let session = Span {
+        at: first.value,
+        len: first.len,
+    };
+    let b = say(out, a, b", Session-Id ");
+    part(out, b, m, session)
+}
+
 // Who asks for what; a message that is no whole request is only said to be one.
 pub fn asked(out: &mut [u8; 4096], at: usize, m: &[u8]) -> usize {
     if m.len() < 20 {
@@ -56,7 +78,7 @@ pub fn asked(out: &mut [u8; 4096], at: usize, m: &[u8]) -> usize {
     let heard = reading::read(m);
     let told = heard.told;
     match told {
-        Told::Refused(_) => say(out, at, b"no whole request"),
+        Told::Refused(_) => no_request(out, at, m),
         Told::Request(user, what) => {
             let a = part(out, at, m, user);
             let b = say(out, a, b", ");

@@ -57,8 +57,8 @@ fn peer_name(out: &mut [u8; 4096], at: usize, code: u32) -> usize {
     }
 }
 
-// The others without V.
-fn base_name(out: &mut [u8; 4096], at: usize, code: u32) -> usize {
+// An AVP without V.
+pub fn base_name(out: &mut [u8; 4096], at: usize, code: u32) -> usize {
     match code {
         1 => say(out, at, b"User-Name"),
         25 => say(out, at, b"Class"),
@@ -78,8 +78,8 @@ fn base_name(out: &mut [u8; 4096], at: usize, code: u32) -> usize {
     }
 }
 
-// Those of 3GPP.
-fn our_name(out: &mut [u8; 4096], at: usize, code: u32) -> usize {
+// One of 3GPP.
+pub fn our_name(out: &mut [u8; 4096], at: usize, code: u32) -> usize {
     match code {
         100 => say(out, at, b"3GPP-WLAN-APN-Id"),
         311 => say(out, at, b"Session-Request-Type"),

@@ -117,9 +117,10 @@ fn send(
     if room.len() < n {
         return at;
     }
+    let why = telling::why(table, &room[0..n], true, answer, notice);
     let o = telling::ask(table, &room[0..n], true, answer, notice);
     let a = say(out, at, b": ");
-    let b = telling::outcome(out, a, o, notice);
+    let b = telling::outcome(out, a, o, why, notice);
     say(out, b, b"\n")
 }
 

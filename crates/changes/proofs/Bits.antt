@@ -77,7 +77,7 @@ pub lowest-free : (a : List Access) → 1 ≤ length (keep (vacant a) places) �
 unfolding lowestFree places usedBits counted
 lowest-free a h = first-vacant a 1 8 h ∙ ap (λ (z : ℕ). 1 + z) (sym (trailing-bits (map (isOn (line a)) places)))
 
--- of the 255 bytes with a clear bit, each leads to the lowest by the zeros that its complement ends in
+-- of each of the 255 bytes with a clear bit: the lowest clear bit is the lowest set bit of its complement, which the zeros at the end of that count
 unfoldable leads : (x : ℕ) → Bool
 leads x = eqb (1 + trailingZeros 8 (255 - x)) (lowestClear x) && within 1 8 (lowestClear x)
 
@@ -100,7 +100,7 @@ module _ (x : ℕ) (h : x < 255) where
 
 -- as many ones as accesses
 
--- of distinct numbers, `not this one` takes exactly that one
+-- among numbers that all differ, the test "not p" takes exactly p out, if p is one of them
 keep-just-one : (f : ℕ → Bool) (p : ℕ) (ks : List ℕ) → distinct eqb ks ≡ true → isOn ks p ≡ true → f p ≡ true
     → length (keep f ks) ≡ suc (length (keep (λ k. not (eqb p k) && f k) ks))
 unfolding keep distinct pick

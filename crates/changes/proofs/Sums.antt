@@ -37,7 +37,7 @@ sums-are s =
     let a : 0 + sumOf s ≡ sumOf s = omega arith in
     sums-plain 0 0 s ∙ rw (w, a)
 
--- a loss is counted as 255 less it
+-- the sums after a byte x became y. The gain is taken as y + 255 - x: it is never negative, and 255 more changes no remainder
 first-follows : (a b x y gain : ℕ) → b + x ≡ a + y → x < 256 → gain ≡ y + 255 - x → (a % 255 + gain) % 255 ≡ b % 255
 first-follows a b x y gain e lx eg = omega arith
 
@@ -60,7 +60,7 @@ sums-follow s i x y gain k h ex lx eg ek =
 pub gain-bound : (k gain : ℕ) → k ≤ 510 → gain ≤ 510 → k * gain ≤ 260100
 gain-bound k gain p q = mul-le-mul p q
 
--- bytes before the n-th
+-- a byte exchanged among the first n
 take-set : (b : List ℕ) (n i y : ℕ) → i < n → n ≤ length b → take n (set b i y) ≡ set (take n b) i y
 take-set b n i y h l =
     let size : length (take n b) ≡ n = length-take-le n b l in
@@ -90,7 +90,7 @@ module _ (b : List ℕ) (size : length b ≡ 512) (agree : b ≡ sealed (take 51
   stored-first : getD b 511 0 ≡ sumOf (take 510 b) % 255
   stored-first = ap (λ (t : List ℕ). getD t 511 0) whole ∙ getD-past 510 1 (take 510 b) _ body-long
 
-  -- the byte is there already
+  -- where y stands there already, nothing changes
   pub byte-stays : (y : ℕ) → getD b at 0 ≡ y → b ≡ sealed (set (take 510 b) at y)
   byte-stays y e = agree ∙ ap sealed (sym (set-self (take 510 b) at y (omega (arith, body-long)) (sym body-byte ∙ e)))
 
@@ -120,7 +120,7 @@ module _ (s : List ℕ) (h : length s ≡ 510) where
   pub sealed-long : (u : List ℕ) → u ≡ sealed s → length u ≡ 512
   sealed-long u e = ap length e ∙ length-sealed s ∙ omega arith
 
-  -- one byte more
+  -- one byte more exchanged in a block whose sums agree
   pub sealed-set : (u v : List ℕ) (i y : ℕ) → u ≡ sealed s → v ≡ sealed (set (take 510 u) i y) → v ≡ sealed (set s i y)
   sealed-set u v i y e f = f ∙ ap (λ (t : List ℕ). sealed (set t i y)) (ap (take 510) e ∙ body-of)
 

@@ -37,9 +37,9 @@ brokenForm r =
     ∷ require (every (sumsAgree r) (0 ∷ places)) 4
     ∷ [])
 
--- 5: the order line lists exactly the places in use, once each. 6: labels differ. 7: limits sum to at most 8. 8: no Session-Id
--- stands twice. 9: each access names an entry that exists. 10: no entry has more accesses than its limit. 11: byte 5 is 1 or
--- more exactly if byte 4 is 1.
+-- 5: the line is the places in use. 6: no two labels are the same. 7: the limits come to 8 or less. 8: no two accesses have one
+-- Session-Id. 9: the entry of each access is there. 10: no entry has more accesses than it may. 11: a policy is marked where it has
+-- bytes.
 unfoldable pub brokenContents : List ℕ → ℕ
 brokenContents r =
     firstOf

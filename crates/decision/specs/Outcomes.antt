@@ -48,7 +48,7 @@ resultSaid o =
       cutHost = cutHost (o .cut);
     }
 
--- All that a call leaves: its outcome, and the full contents of table, answer room and notice room.
+-- All that a call leaves: its outcome, and every byte of the table and of both rooms.
 unfoldable pub leaves : Outcome → (table answer notice : List ℕ) → Left
 leaves o table answer notice = record { reply = record { result = resultSaid o; answer = answer; notice = notice }; table = table }
 

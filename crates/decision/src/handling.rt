@@ -36,7 +36,7 @@ fn name_fits(s: &[u8]) -> bool
 }
 
 // The first of the numbers 1 to 8 that a call is refused with, 0 where none is.
-fn call_number(
+pub fn call_number(
     table: &[u8],
     host: &[u8],
     realm: &[u8],
@@ -143,7 +143,7 @@ fn route_span(asked: Asked) -> Span
 }
 
 // A text of the message, lent as a part of it.
-fn text<'a>(m: &'a [u8], s: Span) -> &'a [u8]
+pub fn text<'a>(m: &'a [u8], s: Span) -> &'a [u8]
     requires { ⌜ isInside (now m) s ≡ true ⌝ }
     ensures { λ r. ⌜ now r ≡ bytesOf (now (m .entry)) s ⌝ }
 {

@@ -2,7 +2,9 @@
 mod handling;
 
 use carrying::Cut;
+pub use handling::call_number;
 pub use handling::handle;
+pub use handling::text;
 use message::Kind;
 use message::Span;
 

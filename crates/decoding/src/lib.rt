@@ -69,7 +69,7 @@ pub fn header(out: &mut [u8; 4096], k: usize, from: usize, m: &[u8]) -> usize {
 
 // THE TESTS
 
-// The code with which a request would be refused before any table is looked at.
+// The code with which a request would be refused before any table is looked at, and why.
 fn refusal(out: &mut [u8; 4096], m: &[u8]) -> usize {
     if m.len() < 20 {
         return 0;
@@ -83,7 +83,8 @@ fn refusal(out: &mut [u8; 4096], m: &[u8]) -> usize {
             let b = number(out, a, code as u64);
             let c = say(out, b, b" ");
             let d = names::result(out, c, code);
-            say(out, d, b"\n")
+            let e = explaining::reason(out, d, reasons::reading_failed(m));
+            say(out, e, b"\n")
         }
     }
 }

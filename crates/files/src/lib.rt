@@ -1,16 +1,14 @@
-// Files whole, arguments as numbers, and the one line that a failure gets.
+// Lines, the words of the command line as numbers, files as they are opened, and the one line that a failure gets.
 use libc::STDERR_FILENO;
 use libc::STDOUT_FILENO;
 
-// The first n bytes of a line of words, to standard output.
-pub fn print(out: &[u8; 4096], n: usize) {
-    let line: &[u8] = out;
-    if n <= line.len() {
-        io::write_all(STDOUT_FILENO, &line[0..n]);
-    }
+// A program of Rattle has no exit status. So a failure is marked on descriptor 9, which the script that starts this program turns into one.
+// Where nobody opened that descriptor the mark is lost: no more than six files are open here at a time, so none of them has that number.
+pub fn mark() {
+    io::write_all(9, b"failed");
 }
 
-// The same to standard error.
+// The first n bytes of a line of words, to standard error.
 pub fn note(out: &[u8; 4096], n: usize) {
     let line: &[u8] = out;
     if n <= line.len() {
@@ -18,17 +16,12 @@ pub fn note(out: &[u8; 4096], n: usize) {
     }
 }
 
-// A word and what is said of it, to standard output.
-pub fn say_word(word: &[u8], what: &[u8]) {
-    io::write_all(STDOUT_FILENO, word);
-    io::write_all(STDOUT_FILENO, what);
-    io::write_all(STDOUT_FILENO, b"\n");
-}
-
-// A program of Rattle has no exit status. So a failure is marked on descriptor 9, which the script that starts this program turns into one.
-// Where nobody opened that descriptor the mark is lost: no more than eight files are open here at a time.
-pub fn mark() {
-    io::write_all(9, b"failed");
+// The start of the line that a failure gets: the word that is meant.
+fn meant(word: &[u8]) {
+    let mut out = [0u8; 4096];
+    let a = words::say(&mut out, 0, b"play: ");
+    let n = words::text(&mut out, a, word);
+    note(&out, n);
 }
 
 // One line to standard error: what is wrong.
@@ -41,8 +34,7 @@ pub fn refuse(what: &[u8]) {
 
 // The same with the word that is meant.
 pub fn refuse_word(word: &[u8], what: &[u8]) {
-    io::write_all(STDERR_FILENO, b"play: ");
-    io::write_all(STDERR_FILENO, word);
+    meant(word);
     io::write_all(STDERR_FILENO, what);
     io::write_all(STDERR_FILENO, b"\n");
     mark();
@@ -50,17 +42,85 @@ pub fn refuse_word(word: &[u8], what: &[u8]) {
 
 // The same with the system's own reason.
 pub fn refuse_file(path: &[u8]) {
-    io::write_all(STDERR_FILENO, b"play: ");
-    os::fail(path);
+    meant(path);
+    os::fail(b"");
     mark();
 }
+
+// STANDARD OUTPUT
+
+// Something that can not be written, in the place of the lowest descriptor that is closed.
+fn stand_in() {
+    let fd = os::open_read(b"/dev/null");
+    if 2 < fd {
+        libc::close(fd);
+    }
+}
+
+// Whether standard output can be written at all. The three descriptors are open from here on, so that no file gets the number of one of them,
+// and with it the lines that are meant for it.
+pub fn is_heard() -> bool {
+    stand_in();
+    stand_in();
+    stand_in();
+    let none = [0u8; 1];
+    let line: &[u8] = &none;
+    if libc::write(STDOUT_FILENO, &line[0..0]) < 0 {
+        refuse_file(b"standard output");
+        return false;
+    }
+    true
+}
+
+// Standard output failed. That is said once: what stands in its place from then on can not be written, which no other reason looks like.
+fn unheard() {
+    if os::errno() == libc::EBADF {
+        return;
+    }
+    refuse_file(b"standard output");
+    libc::close(STDOUT_FILENO);
+    stand_in();
+}
+
+// A text to standard output; whether it is written. Why not is said.
+pub fn put(text: &[u8]) -> bool {
+    if io::write_all(STDOUT_FILENO, text) {
+        return true;
+    }
+    unheard();
+    false
+}
+
+// The first n bytes of a line of words, likewise.
+pub fn print(out: &[u8; 4096], n: usize) -> bool {
+    let line: &[u8] = out;
+    if line.len() < n {
+        return false;
+    }
+    put(&line[0..n])
+}
+
+// A word and what is said of it, likewise.
+pub fn say_word(word: &[u8], what: &[u8]) -> bool {
+    let mut out = [0u8; 4096];
+    let n = words::text(&mut out, 0, word);
+    if !print(&out, n) {
+        return false;
+    }
+    let mut rest = [0u8; 4096];
+    let a = words::say(&mut rest, 0, what);
+    let b = words::say(&mut rest, a, b"\n");
+    print(&rest, b)
+}
+
+// WORDS
 
 pub enum Said {
     Number(usize),
     Nothing,
 }
 
-// The number that a text of decimal digits says, up to 9,999.
+// The number that a text of decimal digits says, up to 99,999,999.
 pub fn number(text: &[u8]) -> Said {
     if text.len() < 1 {
         return Said::Nothing;
@@ -75,7 +135,7 @@ pub fn number(text: &[u8]) -> Said {
         if 57 < x {
             return Said::Nothing;
         }
-        if 999 < n {
+        if 9999999 < n {
             return Said::Nothing;
         }
         n = 10 * n + (x - 48);
@@ -84,44 +144,48 @@ pub fn number(text: &[u8]) -> Said {
     Said::Number(n)
 }
 
-// Whether a file of that name was made, which is empty then. A name that is taken is left alone; why it was not made is said.
-pub fn is_made(path: &[u8]) -> bool {
-    let fd = os::create(path);
-    if fd < 0 {
-        refuse_file(path);
-        return false;
-    }
-    libc::close(fd);
-    true
-}
+// FILES
 
-// Whether a file can be written, or made. Nothing is changed; why it can not is said.
-pub fn is_open_to_writing(path: &[u8]) -> bool {
-    let fd = os::open_update(path);
-    if 0 <= fd {
-        libc::close(fd);
+// Whether what is open is a plain file; what else it is is said.
+pub fn is_plain(fd: i32, path: &[u8]) -> bool {
+    let s = status::of(fd);
+    if status::is_plain(s) {
         return true;
     }
-    if os::errno() != libc::ENOENT {
-        refuse_file(path);
+    if status::is_folder(s) {
+        refuse_word(path, b": a directory");
         return false;
     }
-    if is_made(path) {
-        os::unlink(path);
-        return true;
-    }
+    refuse_word(path, b": no plain file");
     false
 }
 
-// The table in a file, put at the start of `table`: its length, or 0 where there is none, which is then said.
-pub fn read_table(path: &[u8], table: &mut [u8]) -> usize {
-    let fd = os::open_read(path);
+// A file opened to be read. Where it may be, it is opened for writing too: a pipe by name is otherwise waited for until somebody writes to it.
+fn open(path: &[u8]) -> i32 {
+    let fd = os::open_update(path);
+    if 0 <= fd {
+        return fd;
+    }
+    os::open_read(path)
+}
+
+// A plain file opened to be read, or -1, which is then said.
+pub fn open_plain(path: &[u8]) -> i32 {
+    let fd = open(path);
     if fd < 0 {
         refuse_file(path);
-        return 0;
+        return -1;
     }
-    let n = io::read_full(fd, table);
+    if is_plain(fd, path) {
+        return fd;
+    }
     libc::close(fd);
+    -1
+}
+
+// The table in an open file, put at the start of `table`: its length, or 0 where there is none, which is then said.
+pub fn fill_table(fd: i32, path: &[u8], table: &mut [u8]) -> usize {
+    let n = io::read_full(fd, table);
     if table::table_number(&table[..n]) != 0 {
         refuse_word(
             path,
@@ -132,63 +196,13 @@ pub fn read_table(path: &[u8], table: &mut [u8]) -> usize {
     n
 }
 
-// All of `bytes` in a new file.
-fn is_written(path: &[u8], bytes: &[u8]) -> bool {
-    let fd = os::open_overwrite(path);
+// The same of the file at a path.
+pub fn read_table(path: &[u8], table: &mut [u8]) -> usize {
+    let fd = open_plain(path);
     if fd < 0 {
-        return false;
+        return 0;
     }
-    let whole = io::write_all(fd, bytes);
-    let kept = libc::fsync(fd);
+    let n = fill_table(fd, path, table);
     libc::close(fd);
-    if !whole {
-        return false;
-    }
-    kept == 0
-}
-
-// The file at `path` replaced by the one that is whole at `beside`.
-fn is_put(path: &[u8], beside: &[u8], bytes: &[u8]) -> bool {
-    if !is_written(beside, bytes) {
-        refuse_file(beside);
-        os::unlink(beside);
-        return false;
-    }
-    if os::rename(beside, path) < 0 {
-        refuse_file(path);
-        os::unlink(beside);
-        return false;
-    }
-    true
-}
-
-// Whether `other` is the name under which the file at `path` is written before it replaces it.
-pub fn is_beside(path: &[u8], other: &[u8]) -> bool {
-    let n = path.len();
-    if other.len() < 4 {
-        return false;
-    }
-    let k = other.len() - 4;
-    if k != n {
-        return false;
-    }
-    if !octets::same_bytes(&other[0..k], path) {
-        return false;
-    }
-    octets::same_bytes(&other[k..], b".new")
-}
-
-// The file at `path` made or replaced, but only once the new one is whole: it is written beside it, as `path` and .new. False where that
-// failed, which is then said.
-pub fn is_replaced(path: &[u8], bytes: &[u8]) -> bool {
-    let mut beside = [0u8; 4096];
-    let n = path.len();
-    if 4000 < n {
-        refuse_word(path, b": the name is too long");
-        return false;
-    }
-    let e = n + 4;
-    octets::put_bytes(&mut beside, 0, path);
-    octets::put_bytes(&mut beside, n, b".new");
-    is_put(path, &beside[0..e], bytes)
+    n
 }

@@ -11,8 +11,8 @@ use Rattle.octets.specs.Texts.{part, same, allZero}
 use Rattle.table.specs.TheTable.{sums, block, readRow}
 use Rattle.table.specs.Soundness.{accessForm, entriesForm, headForm, inUse, labels, limits, sameLabel}
 
--- A place in use, where the subscriber has n entries: its form; byte 5 is 1 or more exactly if byte 4 is 1; its entry
--- exists; its sums agree.
+-- A place in use, where the subscriber has n entries: its form; its policy is marked where it has bytes; its entry is one of the n;
+-- its sums agree.
 unfoldable pub accessSound : ℕ → List ℕ → Bool
 accessSound n b =
     accessForm b && (eqb (getD b 4 0) (pick (leb 1 (getD b 5 0)) 1 0)

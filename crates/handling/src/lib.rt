@@ -1,33 +1,10 @@
-// The command that puts a file of messages to the server. The file is followed to its end before anything is written, so that one that can
-// not be followed changes nothing; the table is replaced last, once every answer is written.
+// The command that puts a file of messages to the server. The table is held from the start. The file is followed to its end before anything
+// is written, so that one that can not be followed changes nothing; the table is replaced last, once every answer is written and said.
 mod following;
+mod sheets;
 
+use holding::Held;
 use serving::Desk;
-
-// Whether a file that is written is no part of the table, by name.
-fn is_apart(table: &[u8], path: &[u8]) -> bool {
-    if octets::same_bytes(path, table) {
-        return false;
-    }
-    !files::is_beside(table, path)
-}
-
-// Whether the words that name files are such that no file is written twice, or read and written.
-fn are_apart(table: &[u8], requests: &[u8], answers: &[u8], notices: &[u8]) -> bool {
-    if octets::same_bytes(answers, notices) {
-        return false;
-    }
-    if octets::same_bytes(answers, requests) {
-        return false;
-    }
-    if octets::same_bytes(notices, requests) {
-        return false;
-    }
-    if is_apart(table, answers) {
-        return is_apart(table, notices);
-    }
-    false
-}
 
 // The word behind the files: the gateway says yes to a policy unless it is there.
 fn is_wag() -> bool {
@@ -43,82 +20,101 @@ fn is_understood() -> bool {
     octets::same_bytes(&word[..n], b"no-wag")
 }
 
-// The messages served on the table, which is kept when all of it went well.
-fn serve(d: Desk, path: &[u8], table: &mut [u8], all: usize) {
-    let t = serving::serve_all(d, table, all);
+// The messages served on the table, which is replaced when all of it went well.
+fn serve(
+    d: Desk,
+    h: Held,
+    path: &[u8],
+    requests: &[u8],
+    answers: &[u8],
+    notices: &[u8],
+    table: &mut [u8],
+    all: usize,
+) {
+    let t = serving::serve_all(d, requests, answers, notices, table, all);
     if !t.whole {
-        files::refuse(
-            b"an answer could not be written, or a message not read again; the table is as it was",
-        );
         return;
     }
-    if files::is_replaced(path, table) {
-        totals::summary(t);
+    if !sheets::is_kept(d.answers, answers) {
+        return;
+    }
+    if !sheets::is_kept(d.notices, notices) {
+        return;
+    }
+    if !holding::is_written(path, h, table) {
+        return;
+    }
+    if totals::summary(t) {
+        holding::is_replaced(path);
     }
 }
 
-// The files for answers and notices, opened once the requests are known to be whole.
-fn open(requests: i32, path: &[u8], answers: &[u8], notices: &[u8], table: &mut [u8], all: usize) {
-    let a = os::open_overwrite(answers);
-    if a < 0 {
-        files::refuse_file(answers);
+// The requests, which can be followed, served from their start.
+fn serve_from(
+    fd: i32,
+    h: Held,
+    path: &[u8],
+    requests: &[u8],
+    answers: &[u8],
+    notices: &[u8],
+    table: &mut [u8],
+    all: usize,
+) {
+    if libc::lseek(fd, 0, libc::SEEK_SET) != 0 {
+        files::refuse_file(requests);
         return;
     }
-    let n = os::open_overwrite(notices);
-    if n < 0 {
-        files::refuse_file(notices);
+    let both = sheets::open(h, fd, answers, notices);
+    if !both.well {
         return;
     }
     let d = Desk {
-        requests,
-        answers: a,
-        notices: n,
+        requests: fd,
+        answers: both.answers,
+        notices: both.notices,
         wag: is_wag(),
     };
-    serve(d, path, table, all);
+    serve(d, h, path, requests, answers, notices, table, all);
 }
 
-// The requests followed to their end, then served from their start.
-fn on_requests(requests: &[u8], path: &[u8], answers: &[u8], notices: &[u8], table: &mut [u8]) {
-    let fd = os::open_read(requests);
+// The requests followed to their end.
+fn follow(h: Held, path: &[u8], requests: &[u8], answers: &[u8], notices: &[u8], table: &mut [u8]) {
+    let fd = files::open_plain(requests);
     if fd < 0 {
-        files::refuse_file(requests);
         return;
     }
     let all = following::count(fd, requests);
     if all < 1 {
         return;
     }
-    if !files::is_open_to_writing(answers) {
+    serve_from(fd, h, path, requests, answers, notices, table, all);
+}
+
+fn handle_held(
+    h: Held,
+    path: &[u8],
+    requests: &[u8],
+    answers: &[u8],
+    notices: &[u8],
+    room: &mut [u8],
+) {
+    let n = h.length;
+    if room.len() < n {
         return;
     }
-    if !files::is_open_to_writing(notices) {
-        return;
-    }
-    if libc::lseek(fd, 0, libc::SEEK_SET) != 0 {
-        files::refuse_word(requests, b": a file that can be read twice is asked for");
-        return;
-    }
-    open(fd, path, answers, notices, table, all);
+    follow(h, path, requests, answers, notices, &mut room[0..n]);
 }
 
 fn run(path: &[u8], requests: &[u8], answers: &[u8], notices: &[u8], room: &mut [u8]) {
-    if !are_apart(path, requests, answers, notices) {
-        files::refuse(b"ANSWERS and NOTICES have to be files of their own");
-        return;
-    }
     if !is_understood() {
         files::refuse(b"behind NOTICES there may stand no-wag, and nothing else");
         return;
     }
-    let n = files::read_table(path, room);
-    if n < 1 {
-        return;
+    let h = holding::hold(path, room);
+    if holding::is_held(h) {
+        handle_held(h, path, requests, answers, notices, room);
+        holding::leave(path, h);
     }
-    if room.len() < n {
-        return;
-    }
-    on_requests(requests, path, answers, notices, &mut room[0..n]);
 }
 
 pub fn handle(room: &mut [u8]) {

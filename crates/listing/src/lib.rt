@@ -72,19 +72,21 @@ fn outer(m: &[u8]) {
     }
 }
 
-// Header, AVPs, and the first test that fails.
-fn message(k: usize, from: usize, room: &[u8; 4096], n: usize) {
+// Header, AVPs, and the first test that fails; whether they could be said.
+fn is_told(k: usize, from: usize, room: &[u8; 4096], n: usize) -> bool {
     let mut out = [0u8; 4096];
     let all: &[u8] = room;
     if all.len() < n {
-        return;
+        return false;
     }
     let m = &all[0..n];
     let a = decoding::header(&mut out, k, from, m);
-    files::print(&out, a);
+    if !files::print(&out, a) {
+        return false;
+    }
     outer(m);
     let b = decoding::verdict(&mut out, m);
-    files::print(&out, b);
+    files::print(&out, b)
 }
 
 // A FILE
@@ -92,10 +94,13 @@ fn message(k: usize, from: usize, room: &[u8; 4096], n: usize) {
 fn step(fd: i32, path: &[u8], w: Way) -> Way {
     let mut room = [0u8; 4096];
     let v = streams::look(fd, path, w, &mut room);
-    if v.last > 0 {
-        message(v.messages, v.from, &room, v.last);
+    if v.last == 0 {
+        return v;
     }
-    v
+    if is_told(v.messages, v.from, &room, v.last) {
+        return v;
+    }
+    streams::over(v, false)
 }
 
 // A proved loop has to end, and nothing says that a file does, so the turns are counted down.
@@ -115,6 +120,10 @@ fn open(path: &[u8]) {
     let fd = os::open_read(path);
     if fd < 0 {
         files::refuse_file(path);
+        return;
+    }
+    if status::is_folder(status::of(fd)) {
+        files::refuse_word(path, b": a directory");
         return;
     }
     list(fd, path);

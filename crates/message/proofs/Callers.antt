@@ -1,28 +1,20 @@
--- What a caller of `read` and of `answer` asks: the lengths that the message's number promises, the user of a request,
--- and that a message is never refused with 2001, nor with a code that two bytes do not hold.
+-- What a caller of `read` and of `answer` asks: the lengths that the message's number promises, and that a message is never
+-- refused with 2001, nor with a code that two bytes do not hold.
 use mathlib.Core.Path.{_≡_, refl, sym, ap, _∙_}
 use mathlib.Core.Bool.{Bool, true, false, not, _&&_}
 use mathlib.Core.List.{List, [], _∷_, map}
-use Prim.Native.Nat.{ℕ, zero, suc, _+_, _≤_, _<_}
+use Prim.Native.Nat.{ℕ, zero, suc, _≤_, _<_}
 use native.Mathlib.Omega.{arith}
-use borrow.Author.Tests.{leb-true, ltb-true, eqb-false, not-true}
-use lib.Dec.{eqb, leb, ltb}
+use borrow.Author.Tests.{ltb-true, eqb-false, not-true}
+use lib.Dec.{eqb, ltb}
 use lib.ListN.{length, drop}
 use Rattle.octets.specs.Choice.{pick, require, firstOf, within}
 use Rattle.octets.specs.Lists.{every}
-use Rattle.octets.specs.Texts.{part}
 use Rattle.octets.specs.Numbers.{up4}
 use Rattle.octets.proofs.Lists.{by-test, and-left, and-right, both, within-low, within-high, every-map, every-of}
 use Rattle.octets.proofs.Choice.{first-passes, passed}
-use Rattle.octets.proofs.Texts.{length-part}
 use Rattle.message.specs.CallsThatGetNoAnswer.{messageNumber}
-use Rattle.message.specs.ReadingAMessage.{headerCode, Avp, Field, behind, walkOne, walkUpTo, walk, avpLength, avpCode, avps, walkCode, having, testedAs, fieldCode, startsWith, fields, listCode, readingCode, sessionId, userName, command, Request, requestOf, refused, request, read}
-use Rattle.message.specs.declared.Span.{Span}
-use Rattle.message.specs.declared.Asked.{Asked}
-use Rattle.message.specs.declared.Told.{Told}
-use Rattle.message.specs.declared.Told.the-variants.{Request as Requested}
-use Rattle.message.specs.Spans.{Holds, bytesOf, asks, says, spansIn, spans, isInside}
-use Rattle.message.proofs.Lengths.{passing, user-length}
+use Rattle.message.specs.ReadingAMessage.{headerCode, Avp, Field, behind, walkOne, walkUpTo, walk, avpLength, avpCode, avps, walkCode, having, testedAs, fieldCode, startsWith, fields, listCode, readingCode, sessionId, command, refused, read}
 
 -- THE MESSAGE
 
@@ -32,32 +24,6 @@ unfolding messageNumber
 message-length m e =
     let w : within 20 4096 (length m) ≡ true = passed (within 20 4096 (length m)) 5 (omega arith) (first-passes (require (within 20 4096 (length m)) 5) _ e) in
     (within-low 20 4096 (length m) w, within-high 20 4096 (length m) w)
-
--- THE USER
-
-module _ (m : List ℕ) (t : Told) (u : Span) (a : Asked) (r : says m t ≡ read m) (i : every (isInside m) (spans t) ≡ true) (e : t ≡ Requested u a) where
-  -- the reading is a request of these bytes
-  pub asked-is : read m ≡ request (record { user = bytesOf m u; ask = asks m a })
-  unfolding says
-  asked-is = sym r ∙ ap (says m) e
-
-  pub user-inside : u .at + u .len ≤ length m
-  unfolding spans every isInside
-  user-inside =
-      let f = rw e at i in
-      leb-true (u .at + u .len) (length m) (and-left (leb (u .at + u .len) (length m)) (every (isInside m) (spansIn a)) f)
-
-  pub user-holds : Holds m userName u
-  unfolding bytesOf requestOf
-  user-holds =
-      let p = passing m (record { user = bytesOf m u; ask = asks m a }) asked-is in
-      record { inside = user-inside; value = ap (λ (x : Request). x .user) (p .asked) }
-
-  pub user-most : u .len ≤ 128
-  unfolding bytesOf
-  user-most =
-      let w = user-length m (record { user = bytesOf m u; ask = asks m a }) asked-is in
-      omega (arith, within-high 1 128 (length (part m (u .at) (u .len))) w, length-part m (u .at) (u .len) user-inside)
 
 -- REFUSALS
 

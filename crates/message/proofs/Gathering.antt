@@ -286,7 +286,7 @@ module _ (m index : List ℕ) (at : ℕ) (a : Spot) (w : Walked m index at) (o :
         rw slot-is (slot-named ((avpOf (drop at m)) .name) (omega (arith, slot-is))) in
         ap (having (nameAt (a .slot))) ahead-avps ∙ having-is (nameAt (a .slot)) (avpOf (drop at m)) ((ahead m (a .next)) .avps) t
 
-    -- any number in the slot that says what the AVP adds, and its length further on
+    -- the slots after this AVP: v in its own slot, whatever number says what was seen with it, and its length n, 14 places further on
     module _ (n v : ℕ) where
       after : List ℕ
       after = set (set index (a .slot + 14) n) (a .slot) v

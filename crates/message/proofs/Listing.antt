@@ -54,7 +54,7 @@ above-zero (suc n) h = omega arith
 
 -- ONE FIELD OF A LIST
 
--- an answer that is not found gives a code, and one that is no code gives none
+-- a field that must be there: an answer other than Found gives a code. A field that need not: an answer other than Code gives none
 real-code : (m : List ℕ) (f : Field) (g : Got) → Reads m f g → OneOf (1 ∷ 2 ∷ []) (tagOf the-type g) → 1 ≤ codeOf true g
 unfolding codeOf require
 real-code m f (Found s) r o = ⊎-elim (λ (e : _≡_ {A = ℕ} 0 1). absurd (omega arith)) (λ (e : _≡_ {A = ℕ} 0 2). absurd (omega arith)) o
@@ -85,7 +85,7 @@ module _ (m : List ℕ) (f : Field) (cs : List ℕ) where
   pub may-go : (g : Got) → Reads m f g → f .required ≡ false → OneOf (0 ∷ 1 ∷ []) (tagOf the-type g) → firstOf (fieldCode (avps m) f ∷ cs) ≡ firstOf cs
   may-go g r q o = first-go (fieldCode (avps m) f) cs (r .code ∙ rw q (no-code g o))
 
--- an answer that is no code is found exactly if an AVP is there
+-- where the answer is no code, it is Found exactly if an AVP with that name is there
 pub found-there : (m : List ℕ) (f : Field) (g : Got) → Reads m f g → OneOf (0 ∷ 1 ∷ []) (tagOf the-type g) → isFound g ≡ present (f .name) (avps m)
 unfolding isFound
 found-there m f (Found s) r o = sym (r .there s refl)

@@ -95,7 +95,7 @@ module _ (m index : List ℕ) (k : ℕ) (h : k < 14) (g : Gathered m index) wher
           real = λ n w. let z : _≡_ {A = ℕ} 0 1 = cc in absurd (omega arith);
         }
 
-    -- a code that is none: nothing else is to be said
+    -- where the reader gives a code, that of the failing test, nothing is claimed of a value
     coded : (n : ℕ) → 1 ≤ n → fieldCode (avps m) (bytesField (nameAt k) b low high) ≡ n → Reads m (bytesField (nameAt k) b low high) (Code n)
     unfolding codeOf
     coded n r e =

@@ -43,7 +43,7 @@ subscriptionAvp m c =
     pick (eqb (command m) 265 && eqb (numberOf c) 2001)
     (avpBytes 443 (avpBytes 450 (in32 1) ++ avpBytes 444 (valueOf userName (avps m)))) []
 
--- Each Proxy-Info, byte for byte with its padding, in order, if the header tests and the whole walk passed.
+-- Every Proxy-Info of a message whose header and walk are without fault, as it came, padding too, one behind the other.
 unfoldable pub allBytes : List Avp → List ℕ
 allBytes [] = []
 allBytes (a ∷ xs) = a .bytes ++ allBytes xs

@@ -177,7 +177,7 @@ module _ {A : Type 0} where
   keep-and f g [] p = refl
   keep-and f g (x ∷ xs) p = rw (and-left (g x) (every g xs) p, keep-and f g xs (and-right (g x) (every g xs) p))
 
--- of distinct numbers, one test `not this one` takes one at most
+-- among numbers that all differ, the test "not p" takes at most one out
 pub keep-but-one : (f : ℕ → Bool) (p : ℕ) (ks : List ℕ) → distinct eqb ks ≡ true
     → length (keep f ks) ≤ suc (length (keep (λ k. not (eqb p k) && f k) ks))
 unfolding keep distinct pick

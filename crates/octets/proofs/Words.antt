@@ -25,7 +25,8 @@ pub fits32 : (s : List ℕ) (a : ℕ) → Bytes4 s a → low32 s a < 4294967296
 unfolding low32
 fits32 s a h = omega (arith, h .byte0, h .byte1, h .byte2, h .byte3)
 
--- one byte on, from byte m
+-- where byte i agrees, whether the rests are the same is the same question from i on and from i + 1 on. These two stand as k and m, which may be
+-- any other way to write them
 one-on : (s t : List ℕ) (i k m : ℕ) → i < length s → i < length t → getD s i 0 ≡ getD t i 0 → i ≡ k → i + 1 ≡ m
     → same (drop m s) (drop m t) ≡ same (drop k s) (drop k t)
 one-on s t i k m hs ht e p q =
@@ -86,7 +87,7 @@ low-eq s t a b h =
 
 -- ZERO BYTES, eight at once
 
--- one byte on, from byte m
+-- the rest from i on is zero exactly if its first byte is, and the rest behind it; m is any other way to write i + 1
 zero-one : (s : List ℕ) (i m : ℕ) → i < length s → i + 1 ≡ m → allZero (drop i s) ≡ eqb (getD s i 0) 0 && allZero (drop m s)
 zero-one s i m h e = zero-step s i h ∙ ap (λ (j : ℕ). eqb (getD s i 0) 0 && allZero (drop j s)) e
 

@@ -1,22 +1,21 @@
 -- How a call goes: it gets no answer, it is refused before a sound row is found, or it is decided on one.
-use mathlib.Core.Path.{_≡_, refl, _∙_}
+use mathlib.Core.Path.{_≡_, refl, ap, _∙_}
 use mathlib.Core.Bool.{true, false}
 use mathlib.Core.List.{List, _∷_, _++_}
 use Prim.Native.Nat.{ℕ}
-use native.Mathlib.Omega.{arith}
-use borrow.Author.Tests.{eqb-true, not-true}
+use borrow.Author.Tests.{eqb-true, eqb-false}
 use lib.Dec.{eqb}
-use Rattle.octets.specs.Choice.{pick, firstOf}
-use Rattle.octets.proofs.Choice.{first-passes, others-pass}
+use Rattle.octets.specs.Choice.{pick}
 use Rattle.octets.proofs.Lists.{by-test}
 use Rattle.message.specs.Codes.{Code, plain, userUnknown, numberOf}
-use Rattle.message.specs.ReadingAMessage.{read, headerCode, walkCode, listCode, readingCode, command, avps}
+use Rattle.message.specs.ReadingAMessage.{read, readingCode}
 use Rattle.table.specs.TheTable.{Found, row, nothing, isFound, rowAt, readRow}
 use Rattle.table.specs.Soundness.{sound}
 use Rattle.rules.specs.Deciding.{Verdict, decide}
 use Rattle.rules.specs.Calls.{Call, callNumber, silent, refusal, settled, onRow, onReading, handle}
-use Rattle.order.specs.Demand2.{Check, check, firstFailing, noneFails, readingChecks, decidingChecks, requestIn, found, rowFound, rowBefore, said, checks}
-use Rattle.order.proofs.Read.{other, header-code, walk-code, list-code}
+use Rattle.order.specs.ChecksInOrder.{Check, pass, noRow, unsoundRow, check, firstFailed, codeGiven, firstFailing, noneFails, readingChecks, decidingChecks}
+use Rattle.order.specs.Demand2.{requestIn, found, rowFound, rowBefore, said, checks}
+use Rattle.order.proofs.Read.{first-of, none-of, Gives, passes, fails, reading-gives}
 
 -- THE CHECKS OF READING
 
@@ -25,42 +24,32 @@ pub record Stops (code : Code) (cs : List Check) : Type 0 where
   pub none : noneFails cs ≡ false
   pub other-code : eqb (numberOf code) 2001 ≡ false
 
-not-2001 : (c : ℕ) → other c ≡ true → eqb c 2001 ≡ false
-unfolding other
-not-2001 c h = not-true (eqb c 2001) h
-
 module _ (m : List ℕ) (cs : List Check) where
+  stops-at : eqb (readingCode m) 0 ≡ false → Gives (readingCode m) (readingChecks m) → Stops (plain (readingCode m)) (readingChecks m ++ cs)
+  unfolding firstFailed codeGiven firstFailing noneFails numberOf
+  stops-at h (passes z p) = absurd (eqb-false (readingCode m) 0 h z)
+  stops-at h (fails what z o p) =
+      record {
+        first = ap codeGiven (first-of (readingChecks m) cs) ∙ rw p;
+        none = none-of (readingChecks m) cs ∙ rw p;
+        other-code = o;
+      }
+
+  all-pass : readingCode m ≡ 0 → Gives (readingCode m) (readingChecks m) → firstFailed (readingChecks m) ≡ pass
+  all-pass h (passes z p) = p
+  all-pass h (fails what z o p) = absurd (eqb-false (readingCode m) 0 z h)
+
   reading-stops : eqb (readingCode m) 0 ≡ false → Stops (plain (readingCode m)) (readingChecks m ++ cs)
-  unfolding readingCode readingChecks firstOf pick check firstFailing noneFails numberOf
-  reading-stops h =
-      by-test (eqb (headerCode m) 0)
-      (λ a. by-test (eqb (walkCode m) 0)
-      (λ b. by-test (eqb (listCode (command m) (avps m)) 0)
-      (λ d. let z : true ≡ false = rw (a, b, d) at h in let y : _≡_ {A = ℕ} 0 1 = cc in absurd (omega arith))
-      (λ d. rw (a, b, d) (record { first = refl; none = refl; other-code = not-2001 _ (list-code m) })))
-      (λ b. rw (a, b) (record { first = refl; none = refl; other-code = not-2001 _ (walk-code m) })))
-      (λ a. rw a (record { first = refl; none = refl; other-code = not-2001 _ (header-code m) }))
+  reading-stops h = stops-at h (reading-gives m)
 
   module _ (h : readingCode m ≡ 0) where
-    header-0 : headerCode m ≡ 0
-    unfolding readingCode
-    header-0 = first-passes _ _ h
-
-    walk-0 : walkCode m ≡ 0
-    unfolding readingCode
-    walk-0 = first-passes _ _ (others-pass _ _ h)
-
-    list-0 : listCode (command m) (avps m) ≡ 0
-    unfolding readingCode
-    list-0 = first-passes _ _ (others-pass _ _ (others-pass _ _ h))
-
     reading-first : firstFailing (readingChecks m ++ cs) ≡ firstFailing cs
-    unfolding readingChecks check firstFailing
-    reading-first = rw (header-0, walk-0, list-0)
+    unfolding firstFailed firstFailing
+    reading-first = ap codeGiven (first-of (readingChecks m) cs) ∙ rw (all-pass h (reading-gives m))
 
     reading-none : noneFails (readingChecks m ++ cs) ≡ noneFails cs
-    unfolding readingChecks check noneFails
-    reading-none = rw (header-0, walk-0, list-0)
+    unfolding noneFails
+    reading-none = none-of (readingChecks m) cs ∙ rw (all-pass h (reading-gives m))
 
 -- HOW A CALL GOES
 
@@ -86,7 +75,10 @@ module _ (t : List ℕ) (c : Call) where
     reached : (i : ℕ) → eqb (callNumber t c) 0 ≡ true → OnRow i → Went
 
   abbrev behind : List Check
-  behind = check (isFound (found t c)) userUnknown ∷ check (sound (rowBefore t c)) (plain 5012) ∷ decidingChecks ((requestIn c) .ask) (c .wag) (said t c)
+  behind =
+      check noRow (isFound (found t c)) userUnknown
+      ∷ check unsoundRow (sound (rowBefore t c)) (plain 5012)
+      ∷ decidingChecks ((requestIn c) .ask) (c .wag) (said t c)
 
   pub no-answer : eqb (callNumber t c) 0 ≡ false → handle t c ≡ silent t c (callNumber t c)
   unfolding handle pick
@@ -111,7 +103,7 @@ module _ (t : List ℕ) (c : Call) where
       none-is = reading-none (c .message) behind h
 
       unknown : found t c ≡ nothing → Went
-      unfolding onRow check isFound firstFailing noneFails numberOf
+      unfolding onRow check isFound firstFailed codeGiven firstFailing noneFails numberOf
       unknown e =
           stopped userUnknown answered (record { first = first-is ∙ rw e; none = none-is ∙ rw e; other-code = refl }) (on-row ∙ rw e)
 
@@ -121,12 +113,12 @@ module _ (t : List ℕ) (c : Call) where
         before-is = rw e
 
         unsound : sound (rowAt t i) ≡ false → Went
-        unfolding onRow check isFound firstFailing noneFails numberOf pick
+        unfolding onRow check isFound firstFailed codeGiven firstFailing noneFails numberOf pick
         unsound u =
             stopped (plain 5012) answered (record { first = first-is ∙ rw (e, before-is, u); none = none-is ∙ rw (e, before-is, u); other-code = refl }) (on-row ∙ rw (e, u))
 
         on-sound : sound (rowAt t i) ≡ true → Went
-        unfolding onRow check isFound firstFailing noneFails pick
+        unfolding onRow check isFound firstFailed codeGiven firstFailing noneFails pick
         on-sound u =
             reached i answered
             (record {

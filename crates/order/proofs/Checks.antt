@@ -15,7 +15,8 @@ use Rattle.table.specs.TheTable.{Access, Subscriber, isFound, rowAt, withRow, r
 use Rattle.table.proofs.Sound.{says-good}
 use Rattle.rules.specs.Deciding.{Verdict, refuse}
 use Rattle.rules.specs.Calls.{Call, Left, callNumber, silent, reply, refusal, settled, resultOf, noticeRoom, handle}
-use Rattle.order.specs.Demand2.{Check, firstFailing, noneFails, requestIn, found, said, checks, succeeds, exceeds, onAsked, cutFor, placeTaken, afterwards, CodeOf, Unchanged}
+use Rattle.order.specs.ChecksInOrder.{Check, firstFailing, noneFails}
+use Rattle.order.specs.Demand2.{requestIn, found, said, checks, succeeds, exceeds, onAsked, cutFor, placeTaken, afterwards, CodeOf, Unchanged}
 use Rattle.order.specs.Demand2.{FirstFailingCheck, SuccessExactly, RefusedChangesNothing, UnansweredLeaves, RefusedLeaves, CutExactly, OneToCut, SuccessReply, SuccessFindsRow}
 use Rattle.order.proofs.Read.{other, call-other}
 use Rattle.order.proofs.Decided.{Decided, refuses, grants, granting, cutBy, decided}

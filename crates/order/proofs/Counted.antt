@@ -14,11 +14,12 @@ use Rattle.octets.proofs.Lists.{by-test}
 use Rattle.message.specs.ReadingAMessage.{read, readingCode, listCode, command, avps, userName, valueOf, requestOf}
 use Rattle.table.specs.TheTable.{cutInRows, rowLength, tableNumber}
 use Rattle.rules.specs.Calls.{Call, Reply, run}
-use Rattle.order.specs.Demand3.{Subject, nobody, subscriber, sameSubject, subject, sentBy, isOf, callsOf, recordOf, ownNumber, Counting, nameRead, sender, isBy, callsBy, repliesBy}
-use Rattle.order.specs.Demand3.{SubjectCounts, SenderCounts, NoSender, RepliesAloneBy, RecordAloneBy, SameTableBy, SameRepliesBy}
+use Rattle.order.specs.Demand3.{Subject, nobody, subscriber, sameSubject, subject, sentBy, isOf, callsOf, recordOf, ownNumber, Counting, nameRead, sender, isBy, callsBy, repliesBy, brought, told, SameBrought, SameBroughtBy}
+use Rattle.order.specs.Demand3.{SubjectCounts, SenderCounts, NoSender, RepliesAloneBy, RecordAloneBy, SameTableBy, SameRepliesBy, SameRecordBy}
 use Rattle.order.proofs.Finding.{subject-eq, subject-refl}
 use Rattle.order.proofs.Handling.{act, says, lost, stable, silence}
-use Rattle.order.proofs.Lists.{bad-replies, ran, record-alone, same-table}
+use Rattle.order.proofs.Lists.{bad-replies, ran, record-alone}
+use Rattle.order.proofs.Rooms.{same-run, same-of, same-table, same-record}
 use Rattle.order.proofs.Alone as A
 
 -- a part of a part
@@ -65,6 +66,11 @@ module _ (owner : Call → Subject) (counts : Counting owner) (name : List ℕ) 
   unfolding callsOf callsBy isOf
   inside cs = keep-inside _ (isBy owner who) all cs
 
+  -- what the subscriber's calls bring, by what the counted ones do
+  pub same-inside : (cs ds : List Call) → SameBroughtBy owner who cs ds → SameBrought who cs ds
+  same-inside cs ds h =
+      ap (map brought) (sym (inside cs)) ∙ same-of who (callsBy owner who cs) (callsBy owner who ds) h ∙ ap (map brought) (inside ds)
+
   good-replies : (t : List ℕ) → tableNumber t ≡ 0 → (cs : List Call) → repliesBy owner who cs ((run t cs) .replies) ≡ (run t (callsBy owner who cs)) .replies
   good-replies t good cs =
       rw ((ran t good cs) .replies-are, (ran t good (callsBy owner who cs)) .replies-are)
@@ -84,11 +90,16 @@ record-alone-by owner counts t cs name =
 
 pub same-table-by : SameTableBy
 same-table-by owner counts t cs ds h =
-    same-table t cs ds (λ name. sym (inside owner counts name cs) ∙ ap (callsOf (subscriber name)) (h name) ∙ inside owner counts name ds)
+    same-table t cs ds (λ name. same-inside owner counts name cs ds (h name))
 
 pub same-replies-by : SameRepliesBy
 same-replies-by owner counts t cs ds name h =
-    replies-alone-by owner counts t cs name ∙ ap (λ (es : List Call). (run t es) .replies) h ∙ sym (replies-alone-by owner counts t ds name)
+    ap (map told) (replies-alone-by owner counts t cs name)
+    ∙ (same-run t (callsBy owner (subscriber name) cs) (callsBy owner (subscriber name) ds) h) .replies
+    ∙ ap (map told) (sym (replies-alone-by owner counts t ds name))
+
+pub same-record-by : SameRecordBy
+same-record-by owner counts t cs ds name h = same-record t cs ds name (same-inside owner counts name cs ds h)
 
 -- THE TWO COUNTINGS
 

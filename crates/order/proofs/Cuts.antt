@@ -16,7 +16,8 @@ use Rattle.table.specs.Soundness.{onEntry}
 use Rattle.table.proofs.Good.{Good}
 use Rattle.rules.specs.Deciding.{atLimit, atPlace, entryAt, entryNamed, firstOn, placeOf}
 use Rattle.deciding.proofs.Stay.{entry-found, limit-is, limit-some}
-use Rattle.order.specs.Demand2.{check, noneFails, decidingChecks, exceeds, onAsked, firstAlone}
+use Rattle.order.specs.ChecksInOrder.{check, noneFails, decidingChecks}
+use Rattle.order.specs.Demand2.{exceeds, onAsked, firstAlone}
 use Rattle.order.proofs.Decided.{cutBy}
 
 -- no access is at a place that differs from all
@@ -36,11 +37,11 @@ line-keep : (g : ℕ → Bool) (f : Access → Bool) (a : List Access) → every
 unfolding line
 line-keep g f a h = rw every-map (every-keep _ f a (rw every-map at h))
 
-keep-yes : (f : Access → Bool) (x : Access) (a : List Access) → f x ≡ true → keep f (x ∷ a) ≡ x ∷ keep f a
+pub keep-yes : {A : Type 0} (f : A → Bool) (x : A) (a : List A) → f x ≡ true → keep f (x ∷ a) ≡ x ∷ keep f a
 unfolding keep pick
 keep-yes f x a e = rw e
 
-keep-no : (f : Access → Bool) (x : Access) (a : List Access) → f x ≡ false → keep f (x ∷ a) ≡ keep f a
+pub keep-no : {A : Type 0} (f : A → Bool) (x : A) (a : List A) → f x ≡ false → keep f (x ∷ a) ≡ keep f a
 unfolding keep pick
 keep-no f x a e = rw e
 
@@ -98,7 +99,7 @@ module _ (n : ℕ) (s : Subscriber) (g : Good s) (ex : within 1 (length (s .entr
   first-cut = record { some = one-alone _ at-least-one; first = first-at _ (s .accesses) (g .accesses-good .places-once) at-least-one }
 
 -- an opening that succeeds names an entry
-entry-there : (session host label : List ℕ) (visited wag : Bool) (s : Subscriber)
+pub entry-there : (session host label : List ℕ) (visited wag : Bool) (s : Subscriber)
     → noneFails (decidingChecks (tunnel session host label visited) wag s) ≡ true → eqb (entryNamed label s) 0 ≡ false
 unfolding decidingChecks check noneFails
 entry-there session host label visited wag s h =

@@ -11,7 +11,8 @@ use Rattle.message.specs.ReadingAMessage.{Ask, tunnel, policy, termination}
 use Rattle.table.specs.TheTable.{Access, Subscriber, barred, mayRoam}
 use Rattle.table.specs.Soundness.{onEntry}
 use Rattle.rules.specs.Deciding.{Verdict, decide, type0, type1, terminate, admit, openOn, refuse, grant, heldAlready, entryNamed, entryAt, withSession, none, atLimit, atPlace, firstOn}
-use Rattle.order.specs.Demand2.{Check, check, firstFailing, noneFails, decidingChecks, exceeds, onAsked, spared, placeTaken, afterwards}
+use Rattle.order.specs.ChecksInOrder.{Check, check, firstFailed, codeGiven, firstFailing, noneFails, decidingChecks}
+use Rattle.order.specs.Demand2.{exceeds, onAsked, spared, placeTaken, afterwards}
 
 -- the accesses that are cut, as they are decided
 unfoldable pub cutBy : Ask → Subscriber → List Access
@@ -33,13 +34,13 @@ admitted : (session host label : List ℕ) (visited : Bool) (s : Subscriber)
 unfolding admit openOn granting cutBy placeTaken afterwards spared exceeds onAsked firstOn pick
 admitted session host label visited s = by-test (atLimit (entryNamed label s) s) (λ e. rw e) (λ e. rw e)
 
-admits : (session host label : List ℕ) (visited : Bool) (s : Subscriber) → (admit (entryNamed label s) session host s) .code ≡ plain 2001
+pub admits : (session host label : List ℕ) (visited : Bool) (s : Subscriber) → (admit (entryNamed label s) session host s) .code ≡ plain 2001
 unfolding granting
 admits session host label visited s = ap (λ (v : Verdict). v .code) (admitted session host label visited s)
 
 module _ (session host label : List ℕ) (visited : Bool) (wag : Bool) (s : Subscriber) where
   decided-type0 : Decided (decidingChecks (tunnel session host label visited) wag s) (granting (tunnel session host label visited) s) s (type0 session host label visited s)
-  unfolding type0 decidingChecks check refuse heldAlready pick firstFailing noneFails numberOf
+  unfolding type0 decidingChecks check refuse heldAlready pick firstFailed codeGiven firstFailing noneFails numberOf
   decided-type0 =
       by-test (eqb (entryNamed label s) 0)
       (λ a. rw a (refuses refl refl refl refl))
@@ -53,7 +54,7 @@ module _ (session host label : List ℕ) (visited : Bool) (wag : Bool) (s : Subs
 
 module _ (session route : List ℕ) (s : Subscriber) where
   decided-type1 : (wag : Bool) → Decided (decidingChecks (policy session route) wag s) (granting (policy session route) s) s (type1 session route wag s)
-  unfolding type1 decidingChecks granting placeTaken cutBy afterwards check refuse grant pick firstFailing noneFails numberOf
+  unfolding type1 decidingChecks granting placeTaken cutBy afterwards check refuse grant pick firstFailed codeGiven firstFailing noneFails numberOf
   decided-type1 true =
       by-test (none (withSession session (s .accesses)))
       (λ a. rw a (refuses refl refl refl refl))
@@ -65,7 +66,7 @@ module _ (session route : List ℕ) (s : Subscriber) where
 
 module _ (session label : List ℕ) (wag : Bool) (s : Subscriber) where
   decided-end : Decided (decidingChecks (termination session label) wag s) (granting (termination session label) s) s (terminate session label s)
-  unfolding terminate decidingChecks granting placeTaken cutBy afterwards check refuse grant pick firstFailing noneFails numberOf
+  unfolding terminate decidingChecks granting placeTaken cutBy afterwards check refuse grant pick firstFailed codeGiven firstFailing noneFails numberOf
   decided-end =
       by-test (none (withSession session (onEntry (entryNamed label s) (s .accesses))))
       (λ a. rw a (refuses refl refl refl refl))

@@ -1,35 +1,45 @@
 -- The demands, each a statement of specs/ with its proof, which stands in the file that is cited.
 use Rattle.order.specs.Demand2.{FirstFailingCheck, SuccessExactly, RefusedChangesNothing, UnansweredLeaves, RefusedLeaves, CutExactly, OneToCut, SuccessReply, SuccessFindsRow, SuccessReplacesRow, OtherRowsStay, SoundStaysSound, SoundStaysInList}
-use Rattle.order.specs.Demand3.{OneReplyEach, EachInTurn, LastTable, RepliesAlone, RecordAlone, LookupStays, SameTable, SameReplies, NobodysReply, NobodyChangesNothing, NobodysReplies, SubjectCounts, SenderCounts, NoSender, RepliesAloneBy, RecordAloneBy, SameTableBy, SameRepliesBy}
-use Rattle.order.specs.OpenedFirst.{OpenedInOrder, CutOpenedFirst}
+use Rattle.order.specs.ChecksInOrder.{TellsTheByte}
+use Rattle.order.specs.Demand3.{OneReplyEach, EachInTurn, LastTable, RepliesAlone, RecordAlone, LookupStays, BroughtDecides, RoomsAfter, SameTable, SameReplies, SameRecord, NobodysReply, NobodyChangesNothing, NobodysReplies, SubjectCounts, SenderCounts, NoSender, RepliesAloneBy, RecordAloneBy, SameTableBy, SameRepliesBy, SameRecordBy}
+use Rattle.order.specs.OpenedFirst.{LineIsHistory, EntriesStay, CutOpenedFirst, SecondRowStays, UnsoundRowStays}
+use Rattle.order.specs.OpenedAgain.{OpenedAgainStandsLast}
 use Rattle.order.specs.NoSecondAnswer.{OneClearing, OneEntering, OneAdding, OneAnswer}
 use Rattle.order.specs.SettingUp.{ClearRefused, EnterRefused, AddRefused, ClearedZero, EnterWrites, EnteredFound, AddWrites}
+use Rattle.order.proofs.Read as Read
 use Rattle.order.proofs.Checks as Checks
 use Rattle.order.proofs.Rest as Rest
+use Rattle.order.proofs.OpenedAgain as OpenedAgain
 use Rattle.order.proofs.Opening as Opening
 use Rattle.order.proofs.Lists as Lists
+use Rattle.order.proofs.Rooms as Rooms
 use Rattle.order.proofs.Counted as Counted
 use Rattle.order.proofs.Setting as Setting
+use Rattle.order.proofs.NoSecondAnswer as NoSecondAnswer
 
 -- DEMAND 1: every input has a defined outcome, since `handle`, `clear`, `enter` and `add` are defined for all; and no second
--- one meets what is promised.
+-- one meets what the operations promise.
 pub no-second-clearing : OneClearing
-no-second-clearing = Setting.one-clearing
+no-second-clearing = NoSecondAnswer.one-clearing
 
 pub no-second-entering : OneEntering
-no-second-entering = Setting.one-entering
+no-second-entering = NoSecondAnswer.one-entering
 
 pub no-second-adding : OneAdding
-no-second-adding = Setting.one-adding
+no-second-adding = NoSecondAnswer.one-adding
 
 pub no-second-answer : OneAnswer
-no-second-answer = Setting.one-answer
+no-second-answer = NoSecondAnswer.one-answer
 
 -- DEMAND 2
 
 -- the first failing check gives the code
 pub first-failing-check : FirstFailingCheck
 first-failing-check = Checks.first-failing-check
+
+-- and a failing AVP is told with the byte at which it starts
+pub tells-the-byte : TellsTheByte
+tells-the-byte = Read.tells-the-byte
 
 -- success is given exactly when none fails
 pub success-exactly : SuccessExactly
@@ -57,13 +67,26 @@ one-to-cut = Checks.one-to-cut
 pub success-reply : SuccessReply
 success-reply = Checks.success-reply
 
--- the order line is the order of opening
-pub opened-in-order : OpenedInOrder
-opened-in-order = Opening.opened-in-order
+-- the order line is the order of opening: what the subscriber's calls and their replies show, from the line before them
+pub line-is-history : LineIsHistory
+line-is-history = Opening.line-is-history
+
+pub opened-again-stands-last : OpenedAgainStandsLast
+opened-again-stands-last = OpenedAgain.opened-again-stands-last
 
 -- so that the tunnel that is cut is the one there that was opened first
 pub cut-opened-first : CutOpenedFirst
 cut-opened-first = Opening.cut-opened-first
+
+-- no call changes a row's entries, a second row of a name, or an unsound row
+pub entries-stay : EntriesStay
+entries-stay = Opening.entries-stay
+
+pub second-row-stays : SecondRowStays
+second-row-stays = Opening.second-row-stays
+
+pub unsound-row-stays : UnsoundRowStays
+unsound-row-stays = Opening.unsound-row-stays
 
 -- success finds a row, replaces that row, and no other
 pub success-finds-row : SuccessFindsRow
@@ -105,12 +128,23 @@ record-alone = Lists.record-alone
 pub lookup-stays : LookupStays
 lookup-stays = Lists.lookup-stays
 
--- two lists with the same calls, each subscriber's in order, end with the same table, and each call gets the same answer
+-- what a call leaves depends on its rooms only as to whether they are large enough; they stay but for what is told
+pub brought-decides : BroughtDecides
+brought-decides = Rooms.brought-decides
+
+pub rooms-after : RoomsAfter
+rooms-after = Rooms.rooms-after
+
+-- so two lists whose calls bring the same, each subscriber's in order, end with the same table, and each call gets the same
+-- answer
 pub same-table : SameTable
-same-table = Lists.same-table
+same-table = Rooms.same-table
 
 pub same-replies : SameReplies
-same-replies = Lists.same-replies
+same-replies = Rooms.same-replies
+
+pub same-record : SameRecord
+same-record = Rooms.same-record
 
 -- a message that belongs to nobody is answered by no record
 pub nobodys-reply : NobodysReply
@@ -143,6 +177,9 @@ same-table-by = Counted.same-table-by
 
 pub same-replies-by : SameRepliesBy
 same-replies-by = Counted.same-replies-by
+
+pub same-record-by : SameRecordBy
+same-record-by = Counted.same-record-by
 
 -- SET-UP
 

@@ -3,6 +3,7 @@ pub mod Alone
 pub mod Tables
 pub mod Handling
 pub mod Lists
+pub mod Rooms
 pub mod Decided
 pub mod Read
 pub mod Answered
@@ -10,6 +11,12 @@ pub mod Cuts
 pub mod Checks
 pub mod Rest
 pub mod Setting
+pub mod NoSecondAnswer
+pub mod Ensured
 pub mod Counted
+pub mod OpenedAgain
+pub mod Labels
+pub mod Taken
+pub mod History
 pub mod Opening
 pub mod Demands

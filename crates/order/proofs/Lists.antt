@@ -14,7 +14,7 @@ use Rattle.table.specs.TheTable.{Found, row, nothing, later, firstRow, lookup, 
 use Rattle.table.proofs.Rows.{whole-rows}
 use Rattle.rules.specs.Calls.{Call, Reply, Left, silent, refusal, onReading, handle, ranFirst, run}
 use Rattle.order.specs.Demand3.{Subject, nobody, subscriber, sameSubject, subject, sentBy, isOf, callsOf, repliesOf, Record, absent, bytes, recordAt, recordOf, ownNumber}
-use Rattle.order.specs.Demand3.{OneReplyEach, EachInTurn, LastTable, RepliesAlone, RecordAlone, LookupStays, SameTable, SameReplies, NobodysReply, NobodyChangesNothing, NobodysReplies}
+use Rattle.order.specs.Demand3.{OneReplyEach, EachInTurn, LastTable, RepliesAlone, RecordAlone, LookupStays, NobodysReply, NobodyChangesNothing, NobodysReplies}
 use Rattle.order.proofs.Finding.{finds, subject-eq}
 use Rattle.order.proofs.Tables.{flat, flat-cut, cut-at, length-cut}
 use Rattle.order.proofs.Handling.{act, says, lost, lostOn, stable, silence, Agrees, one-call, handle-good, handle-bad, There, there}
@@ -191,14 +191,12 @@ lookup-stays t cs name =
     (λ e. good-lookup t (eqb-true (tableNumber t) 0 e) cs name)
     (λ e. ap (λ (u : List ℕ). lookup u name) (bad-table t e cs))
 
-pub same-table : SameTable
-same-table t cs ds h =
+-- two lists in which each subscriber's calls are equal
+pub equal-calls : (t : List ℕ) (cs ds : List Call) → ((name : List ℕ) → callsOf (subscriber name) cs ≡ callsOf (subscriber name) ds) → (run t cs) .table ≡ (run t ds) .table
+equal-calls t cs ds h =
     by-test (eqb (tableNumber t) 0)
     (λ e. good-table t (eqb-true (tableNumber t) 0 e) cs ds h)
     (λ e. bad-table t e cs ∙ sym (bad-table t e ds))
-
-pub same-replies : SameReplies
-same-replies t cs ds who h = replies-alone t cs who ∙ ap (λ (es : List Call). (run t es) .replies) h ∙ sym (replies-alone t ds who)
 
 -- NOBODY
 

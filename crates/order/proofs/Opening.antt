@@ -1,88 +1,33 @@
--- The order line is the order of opening: a new access goes to its end, and every other change leaves out or leaves alone.
+-- The order line through a list of calls: each call of its subscriber that succeeds changes it as its reply shows, and no other
+-- call does.
 use mathlib.Core.Path.{_≡_, refl, sym, ap, _∙_}
 use mathlib.Core.Bool.{Bool, true, false, _&&_}
-use mathlib.Core.List.{List, [], _∷_, _++_, append-assoc, append-nil}
-use Prim.Native.Nat.{ℕ}
+use mathlib.Core.List.{List, [], _∷_}
+use Prim.Native.Nat.{ℕ, _/_}
 use native.Mathlib.Omega.{arith}
 use borrow.Author.Tests.{eq-eqb, eqb-true, eqb-false}
 use lib.Dec.{eqb}
-use lib.ListN.{getD}
+use lib.ListN.{getD, length, take}
 use Rattle.octets.specs.Choice.{pick}
-use Rattle.octets.specs.Lists.{keep}
-use Rattle.octets.proofs.Choice.{by-pick}
 use Rattle.octets.proofs.Lists.{and-left, and-right, by-test}
-use Rattle.message.specs.ReadingAMessage.{Ask, tunnel, policy, termination, readingCode, command, avps, requestOf, request, read}
-use Rattle.table.specs.TheTable.{Access, Subscriber, Found, row, nothing, later, firstRow, lookup, rows, isRowOf, rowAt, readRow}
-use Rattle.table.specs.Soundness.{onEntry, sessions}
-use Rattle.changes.specs.Changes.{freed, leave, opened, newAccess, routed}
-use Rattle.changes.proofs.Stays.{sids-hold, sids-snoc}
+use Rattle.message.specs.ReadingAMessage.{Ask, readingCode, command, avps, requestOf, request, read}
+use Rattle.table.specs.TheTable.{Entry, Subscriber, Found, row, nothing, later, firstRow, lookup, rows, isRowOf, rowAt, rowLength, tableNumber, readRow}
+use Rattle.table.specs.Soundness.{sound}
+use Rattle.table.proofs.Sound.{says-good}
+use Rattle.table.proofs.Rows.{whole-rows}
 use Rattle.rules.specs.Calls.{Call, handle, run, ranFirst, callNumber}
-use Rattle.order.specs.Demand2.{requestIn, found, rowBefore, said, succeeds, exceeds, onAsked, firstAlone, cutFor, afterwards, spared}
+use Rattle.order.specs.Demand2.{requestIn, found, said, succeeds, exceeds, placeTaken}
 use Rattle.order.specs.Demand3.{subscriber, isOf, subject, ownNumber}
-use Rattle.order.specs.OpenedFirst.{newSession, openings, Some, end, leaves, keeps, lineOf, OpenedInOrder, CutOpenedFirst}
-use Rattle.order.proofs.Finding.{finds, finds-owner, subject-refl, same-row}
+use Rattle.order.specs.OpenedFirst.{lineAfter, history, lineOf, entriesOf, labelIn, labelAsked, onLabel, tunnelCut}
+use Rattle.order.specs.OpenedFirst.{LineIsHistory, EntriesStay, CutOpenedFirst, SecondRowStays, UnsoundRowStays}
+use Rattle.order.proofs.Finding.{finds, finds-owner, subject-eq, subject-refl, same-row}
 use Rattle.order.proofs.Handling.{was-read, number-good}
 use Rattle.order.proofs.Lists.{lookup-stays}
-use Rattle.order.proofs.Checks.{cut-exactly, success-exactly, refused-changes-nothing, Won, won, won-went}
+use Rattle.order.proofs.Checks.{cut-exactly, success-exactly, success-reply, refused-changes-nothing, Won, won, won-went}
 use Rattle.order.proofs.Answered.{OnRow, went}
-use Rattle.order.proofs.Rest.{success-replaces-row, other-rows-stay, sound-stays-sound, rows-there}
-
--- SOME OF A LIST
-
-pub all : (xs : List (List ℕ)) → Some xs xs
-all [] = end
-all (x ∷ xs) = keeps (all xs)
-
-none : (ys : List (List ℕ)) → Some [] ys
-none [] = end
-none (y ∷ ys) = leaves (none ys)
-
-more : {xs ys : List (List ℕ)} (zs : List (List ℕ)) → Some xs ys → Some xs (ys ++ zs)
-more zs end = none zs
-more zs (leaves s) = leaves (more zs s)
-more zs (keeps s) = keeps (more zs s)
-
-behind : {xs ys : List (List ℕ)} (zs : List (List ℕ)) → Some xs ys → Some (xs ++ zs) (ys ++ zs)
-behind zs end = all zs
-behind zs (leaves s) = leaves (behind zs s)
-behind zs (keeps s) = keeps (behind zs s)
-
-through : {xs ys zs : List (List ℕ)} → Some xs ys → Some ys zs → Some xs zs
-through s end = s
-through s (leaves r) = leaves (through s r)
-through (leaves s) (keeps r) = leaves (through s r)
-through (keeps s) (keeps r) = keeps (through s r)
-
-kept : (f : Access → Bool) (a : List Access) → Some (sessions (keep f a)) (sessions a)
-unfolding sessions keep pick
-kept f [] = end
-kept f (x ∷ a) = by-test (f x) (λ e. rw e (keeps (kept f a))) (λ e. rw e (leaves (kept f a)))
-
--- ONE CHANGE
-
-left-out : (k : ℕ) (s : Subscriber) → Some (sessions ((freed k s) .accesses)) (sessions (s .accesses))
-unfolding freed leave
-left-out k s = kept _ (s .accesses)
-
-spared-some : (q : Ask) (s : Subscriber) → Some (sessions ((spared q s) .accesses)) (sessions (s .accesses))
-unfolding spared
-spared-some q s = by-pick (λ (u : Subscriber). Some (sessions (u .accesses)) (sessions (s .accesses))) _ (λ e. left-out _ s) (λ e. all _)
-
-last-in : (n : ℕ) (session host : List ℕ) (s : Subscriber) → sessions ((opened n session host s) .accesses) ≡ sessions (s .accesses) ++ (session ∷ [])
-unfolding opened newAccess
-last-in n session host s = sids-snoc (s .accesses) _
-
-held-same : (k : ℕ) (route : List ℕ) (s : Subscriber) → sessions ((routed k route s) .accesses) ≡ sessions (s .accesses)
-unfolding routed
-held-same k route s = sids-hold k route (s .accesses)
-
-pub one-change : (q : Ask) (s : Subscriber) → Some (sessions ((afterwards q s) .accesses)) (sessions (s .accesses) ++ newSession q)
-unfolding afterwards newSession
-one-change (tunnel session host label visited) s =
-    rw (last-in (Rattle.rules.specs.Deciding.entryNamed label s) session host (spared (tunnel session host label visited) s))
-    (behind (session ∷ []) (spared-some (tunnel session host label visited) s))
-one-change (policy session route) s = rw (append-nil (sessions (s .accesses)), held-same _ route s) (all (sessions (s .accesses)))
-one-change (termination session label) s = rw (append-nil (sessions (s .accesses))) (left-out _ s)
+use Rattle.order.proofs.Rest.{success-replaces-row, other-rows-stay, rows-there, in-table}
+use Rattle.order.proofs.Tables.{cut-at}
+use Rattle.order.proofs.History.{line-after, cut-named, same-entries}
 
 -- ONE NAME TO A ROW
 
@@ -100,18 +45,24 @@ unfolding Passes firstRow pick
 passes f [] = tt
 passes f (r ∷ rs) = by-test (f r) (λ e. rw e e) (λ e. rw e (passes-later f r rs (firstRow f rs) (passes f rs)))
 
-one-name : (t a b : List ℕ) (i : ℕ) → lookup t a ≡ row i → lookup t b ≡ row i → subscriber a ≡ subscriber b
-unfolding lookup Passes finds
-one-name t a b i p q =
-    let r : List ℕ = getD (rows t) i [] in
-    let x : isRowOf a r ≡ true = rw p at (passes (isRowOf a) (rows t)) in
-    let y : isRowOf b r ≡ true = rw q at (passes (isRowOf b) (rows t)) in
-    finds-owner (subscriber a) r x ∙ sym (finds-owner (subscriber b) r y)
+found-row : (t name : List ℕ) (i : ℕ) → lookup t name ≡ row i → isRowOf name (getD (rows t) i []) ≡ true
+unfolding lookup Passes
+found-row t name i e = rw e at (passes (isRowOf name) (rows t))
+
+found-at : (t name : List ℕ) (i : ℕ) → tableNumber t ≡ 0 → lookup t name ≡ row i → isRowOf name (rowAt t i) ≡ true
+unfolding lookup rows
+found-at t name i good e =
+    let r : getD (rows t) i [] ≡ rowAt t i = cut-at (length t / rowLength) t (whole-rows t good) i (in-table (isRowOf name) t i e) in
+    rw r at (found-row t name i e)
+
+one-owner : (a b r : List ℕ) → isRowOf a r ≡ true → isRowOf b r ≡ true → subscriber a ≡ subscriber b
+unfolding finds
+one-owner a b r p q = finds-owner (subscriber a) r p ∙ sym (finds-owner (subscriber b) r q)
 
 not-nothing : (i : ℕ) → nothing ≡ row i → ⊥
 not-nothing i e = let y : _≡_ {A = ℕ} 0 1 = cc in omega arith
 
--- ONE CALL
+-- A CALL THAT SUCCEEDS
 
 read-is : (m : List ℕ) → readingCode m ≡ 0 → read m ≡ request (requestOf (command m) (avps m))
 unfolding read pick
@@ -123,52 +74,123 @@ subject-won t c j o a =
     let own : eqb (ownNumber c) 0 ≡ true = eq-eqb (ownNumber c) 0 (sym (number-good t c (rows-there t c a)) ∙ a) in
     was-read c (requestOf (command (c .message)) (avps (c .message))) own (read-is (c .message) (o .was-read))
 
+same-name : (a b : List ℕ) → subscriber a ≡ subscriber b → a ≡ b
+same-name a b e = cc
+
 module _ (t name : List ℕ) (i : ℕ) (here : lookup t name ≡ row i) (c : Call) where
-  -- a call that succeeds on this row is its subscriber's
+  -- one on this row is its subscriber's, and one of its subscriber is on this row
   own-call : found t c ≡ row i → Won t c → isOf (subscriber name) c ≡ true
   unfolding isOf found
   own-call e (won j o a h) =
-      let s : subject c ≡ subscriber name = subject-won t c j o a ∙ one-name t ((requestIn c) .user) name i e here in
+      let s : subject c ≡ subscriber name = subject-won t c j o a ∙ one-owner _ _ _ (found-row t _ i e) (found-row t name i here) in
       rw s (subject-refl (subscriber name))
 
-  abbrev opening : List (List ℕ)
-  opening = pick (isOf (subscriber name) c && eqb ((handle t c) .reply .result .code) 2001) (newSession ((requestIn c) .ask)) []
+  own-row : subject c ≡ subscriber name → Won t c → found t c ≡ row i
+  unfolding found
+  own-row of (won j o n h) = ap (lookup t) (same-name _ _ (sym (subject-won t c j o n) ∙ of)) ∙ here
 
-  stays-so : rowAt ((handle t c) .table) i ≡ rowAt t i → Some (lineOf ((handle t c) .table) i) (lineOf t i ++ opening)
-  stays-so e = rw e (more opening (all (lineOf t i)))
+-- what its reply shows of the row that it is on
+module _ (t : List ℕ) (c : Call) (i : ℕ) (e : found t c ≡ row i) where
+  abbrev asks : Ask
+  asks = (requestIn c) .ask
 
-  opening-is : succeeds t c ≡ true → found t c ≡ row i → opening ≡ newSession ((requestIn c) .ask)
-  unfolding pick
-  opening-is h e = rw (own-call e (won-went t c h (went t c)), success-exactly t c ∙ h)
+  shows : succeeds t c ≡ true → Won t c → lineOf ((handle t c) .table) i ≡ lineAfter (entriesOf t i) asks ((handle t c) .reply) (lineOf t i)
+  shows s (won j o a h) =
+      let q : j ≡ i = same-row j i (sym (o .at) ∙ e) in
+      rw ((success-replaces-row t c i s e) .says, success-reply t c s, o .before, q)
+      (line-after c (placeTaken asks (readRow (rowAt t i))) asks (c .wag) (readRow (rowAt t i)) (says-good (rowAt t i) (rw q at (o .was-sound))) (rw q at (sym (o .none) ∙ h)))
 
-  on-own : succeeds t c ≡ true → found t c ≡ row i → Some (lineOf ((handle t c) .table) i) (lineOf t i ++ opening)
-  on-own h e =
-      rw (opening-is h e, (success-replaces-row t c i h e) .says) (one-change ((requestIn c) .ask) (readRow (rowAt t i)))
+-- ANY CALL
 
-  by-found : succeeds t c ≡ true → (F : Found) → found t c ≡ F → Some (lineOf ((handle t c) .table) i) (lineOf t i ++ opening)
-  by-found h nothing e = stays-so (other-rows-stay t c i (λ f. not-nothing i (sym e ∙ f)))
+not-both : {P : Type 0} (b : Bool) → b ≡ true → b ≡ false → P
+not-both b p q = let z : _≡_ {A = ℕ} 0 1 = cc in absurd (omega arith)
+
+won-success : (t : List ℕ) (c : Call) → succeeds t c ≡ true → Won t c
+won-success t c s = won-went t c s (went t c)
+
+-- a row is the one that a call which succeeds is on, or it stays
+module _ (t : List ℕ) (c : Call) (i : ℕ) where
+  data Touched : Type 0 where
+    on : succeeds t c ≡ true → found t c ≡ row i → Touched
+    stays : rowAt ((handle t c) .table) i ≡ rowAt t i → Touched
+
+  by-found : succeeds t c ≡ true → (F : Found) → found t c ≡ F → Touched
+  by-found h nothing e = stays (other-rows-stay t c i (λ f. not-nothing i (sym e ∙ f)))
   by-found h (row j) e =
       by-test (eqb j i)
-      (λ s. on-own h (e ∙ ap row (eqb-true j i s)))
-      (λ s. stays-so (other-rows-stay t c i (λ f. eqb-false j i s (same-row j i (sym e ∙ f)))))
+      (λ s. on h (e ∙ ap row (eqb-true j i s)))
+      (λ s. stays (other-rows-stay t c i (λ f. eqb-false j i s (same-row j i (sym e ∙ f)))))
 
-  one-call : Some (lineOf ((handle t c) .table) i) (lineOf t i ++ opening)
-  one-call =
+  touched : Touched
+  touched =
       by-test (succeeds t c)
       (λ h. by-found h (found t c) refl)
-      (λ h. stays-so (ap (λ (u : List ℕ). rowAt u i) ((refused-changes-nothing t c (success-exactly t c ∙ h)) .table)))
+      (λ h. stays (ap (λ (u : List ℕ). rowAt u i) ((refused-changes-nothing t c (success-exactly t c ∙ h)) .table)))
+
+  entries-one : Touched → entriesOf ((handle t c) .table) i ≡ entriesOf t i
+  entries-one (on h e) = ap (λ (s : Subscriber). s .entries) ((success-replaces-row t c i h e) .says) ∙ same-entries _ _
+  entries-one (stays e) = ap (λ (r : List ℕ). (readRow r) .entries) e
+
+  unsound-one : sound (rowAt t i) ≡ false → Touched → rowAt ((handle t c) .table) i ≡ rowAt t i
+  unsound-one u (on h e) = not-both _ ((success-replaces-row t c i h e) .was-sound) u
+  unsound-one u (stays e) = e
+
+module _ (t name : List ℕ) (i : ℕ) (here : lookup t name ≡ row i) (c : Call) where
+  abbrev granted : Bool
+  granted = isOf (subscriber name) c && eqb ((handle t c) .reply .result .code) 2001
+
+  line-stays : granted ≡ false → Touched t c i → lineOf ((handle t c) .table) i ≡ lineOf t i
+  line-stays b (on h e) = not-both granted (rw (own-call t name i here c e (won-success t c h), success-exactly t c ∙ h)) b
+  line-stays b (stays e) = rw e
+
+  one-call : lineOf ((handle t c) .table) i ≡ pick granted (lineAfter (entriesOf t i) ((requestIn c) .ask) ((handle t c) .reply) (lineOf t i)) (lineOf t i)
+  unfolding isOf pick
+  one-call =
+      by-test granted
+      (λ b. let h : succeeds t c ≡ true = sym (success-exactly t c) ∙ and-right (isOf (subscriber name) c) _ b in
+      let of : subject c ≡ subscriber name = subject-eq (subject c) (subscriber name) (and-left (isOf (subscriber name) c) _ b) in
+      rw b (shows t c i (own-row t name i here c of (won-success t c h)) h (won-success t c h)))
+      (λ b. rw b (line-stays b (touched t c i)))
+
+  -- a second row of the name is on no call's way
+  second-found : (j : ℕ) → isRowOf name (rowAt t j) ≡ true → found t c ≡ row j → Won t c → row j ≡ row i
+  unfolding found
+  second-found j of e (won k o a h) =
+      sym e ∙ ap (lookup t) (same-name _ _ (one-owner _ _ _ (found-at t _ j (rows-there t c a) e) of)) ∙ here
+
+  second-one : (j : ℕ) → (j ≡ i → ⊥) → isRowOf name (rowAt t j) ≡ true → Touched t c j → rowAt ((handle t c) .table) j ≡ rowAt t j
+  second-one j ne of (on h e) = absurd (ne (same-row j i (second-found j of e (won-success t c h))))
+  second-one j ne of (stays e) = e
 
 -- A LIST OF CALLS
 
-pub opened-in-order : OpenedInOrder
-unfolding run ranFirst openings
-opened-in-order t [] name i h s = rw (append-nil (lineOf t i)) (all (lineOf t i))
-opened-in-order t (c ∷ cs) name i h s =
+pub entries-stay : EntriesStay
+unfolding run ranFirst
+entries-stay t [] i = refl
+entries-stay t (c ∷ cs) i = entries-stay ((handle t c) .table) cs i ∙ entries-one t c i (touched t c i)
+
+pub unsound-row-stays : UnsoundRowStays
+unfolding run ranFirst
+unsound-row-stays t [] j u = refl
+unsound-row-stays t (c ∷ cs) j u =
+    let e : rowAt ((handle t c) .table) j ≡ rowAt t j = unsound-one t c j u (touched t c j) in
+    unsound-row-stays ((handle t c) .table) cs j (ap sound e ∙ u) ∙ e
+
+pub second-row-stays : SecondRowStays
+unfolding run ranFirst
+second-row-stays t [] name i j here ne of = refl
+second-row-stays t (c ∷ cs) name i j here ne of =
+    let e : rowAt ((handle t c) .table) j ≡ rowAt t j = second-one t name i here c j ne of (touched t c j) in
+    second-row-stays ((handle t c) .table) cs name i j (lookup-stays t (c ∷ []) name ∙ here) ne (ap (isRowOf name) e ∙ of) ∙ e
+
+pub line-is-history : LineIsHistory
+unfolding run ranFirst history
+line-is-history t [] name i here = refl
+line-is-history t (c ∷ cs) name i here =
     let u : List ℕ = (handle t c) .table in
-    let first : Some (lineOf u i) (lineOf t i ++ opening t name i h c) = one-call t name i h c in
-    let then : Some (lineOf ((run u cs) .table) i) (lineOf u i ++ openings name cs ((run u cs) .replies)) =
-    opened-in-order u cs name i (lookup-stays t (c ∷ []) name ∙ h) (sound-stays-sound t c i s) in
-    rw (append-assoc (lineOf t i) (opening t name i h c) (openings name cs ((run u cs) .replies))) at (through then (behind (openings name cs ((run u cs) .replies)) first))
+    line-is-history u cs name i (lookup-stays t (c ∷ []) name ∙ here)
+    ∙ ap (λ (es : List Entry). history name es cs ((run u cs) .replies) (lineOf u i)) (entries-one t c i (touched t c i))
+    ∙ ap (history name (entriesOf t i) cs ((run u cs) .replies)) (one-call t name i here c)
 
 -- THE CUT
 
@@ -177,32 +199,24 @@ unfolding pick
 cuts true e = refl
 cuts false e = absurd (omega arith)
 
-asked-some : (q : Ask) (s : Subscriber) → Some (sessions (onAsked q s)) (sessions (s .accesses))
-unfolding onAsked onEntry sessions
-asked-some (tunnel session host label visited) s = kept _ (s .accesses)
-asked-some (policy session route) s = none _
-asked-some (termination session label) s = none _
+module _ (t : List ℕ) (c : Call) (i : ℕ) (e : found t c ≡ row i) where
+  abbrev labelHere : List ℕ
+  labelHere = labelIn (entriesOf t i) (labelAsked ((requestIn c) .ask))
 
-same-name : (a b : List ℕ) → subscriber a ≡ subscriber b → a ≡ b
-same-name a b e = cc
-
-module _ (u name : List ℕ) (i : ℕ) (c : Call) (here : lookup u name ≡ row i) (of : subject c ≡ subscriber name) where
-  row-is : Won u c → rowBefore u c ≡ rowAt u i
-  unfolding found
-  row-is (won j o n h) =
-      let p : (requestIn c) .user ≡ name = same-name _ _ (sym (subject-won u c j o n) ∙ of) in
-      let q : row j ≡ row i = sym (o .at) ∙ ap (lookup u) p ∙ here in
-      o .before ∙ ap (rowAt u) (same-row j i q)
+  names-first : succeeds t c ≡ true → exceeds ((requestIn c) .ask) (said t c) ≡ true → Won t c
+      → take 1 (onLabel labelHere (lineOf t i)) ≡ tunnelCut labelHere ((handle t c) .reply) ∷ []
+  names-first s x (won j o a h) =
+      let q : j ≡ i = same-row j i (sym (o .at) ∙ e) in
+      let full : exceeds ((requestIn c) .ask) (readRow (rowAt t i)) ≡ true = rw (o .before, q) at x in
+      rw (success-reply t c s, o .before, q)
+      (cut-named c (placeTaken ((requestIn c) .ask) (readRow (rowAt t i))) ((requestIn c) .ask) (c .wag) (readRow (rowAt t i)) (says-good (rowAt t i) (rw q at (o .was-sound))) (rw q at (sym (o .none) ∙ h)) full)
 
 pub cut-opened-first : CutOpenedFirst
-unfolding cutFor firstAlone pick
-cut-opened-first t before c name i a others h s of cut on =
+cut-opened-first t before c name i here of cut =
     let u : List ℕ = (run t before) .table in
-    let e : succeeds u c && exceeds ((requestIn c) .ask) (said u c) ≡ true = cuts _ (sym (cut-exactly u c) ∙ cut) in
-    let w : Won u c = won-went u c (and-left (succeeds u c) _ e) (went u c) in
-    let at : rowBefore u c ≡ rowAt u i = row-is u name i c (lookup-stays t before name ∙ h) of w in
-    let line : Some (sessions (a ∷ others)) (lineOf u i) = rw (on, at) at (asked-some ((requestIn c) .ask) (said u c)) in
-    record {
-      cut = rw (and-right (succeeds u c) _ e, on);
-      in-order = through line (opened-in-order t before name i h s);
-    }
+    let both : succeeds u c && exceeds ((requestIn c) .ask) (said u c) ≡ true = cuts _ (sym (cut-exactly u c) ∙ cut) in
+    let h : succeeds u c ≡ true = and-left (succeeds u c) _ both in
+    let e : found u c ≡ row i = own-row u name i (lookup-stays t before name ∙ here) c of (won-success u c h) in
+    let line : lineOf u i ≡ history name (entriesOf t i) before ((run t before) .replies) (lineOf t i) = line-is-history t before name i here in
+    let entries : entriesOf u i ≡ entriesOf t i = entries-stay t before i in
+    rw (← line, ← entries) (names-first u c i e h (and-right (succeeds u c) _ both) (won-success u c h))

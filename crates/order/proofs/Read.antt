@@ -1,24 +1,179 @@
--- What was read: no failing test gives 2001, and a request brings texts that fit a row.
-use mathlib.Core.Path.{_≡_, refl, _∙_}
-use mathlib.Core.Bool.{Bool, true, false, not}
-use mathlib.Core.List.{List, [], _∷_}
-use Prim.Native.Nat.{ℕ, zero, suc}
-use borrow.Author.Tests.{eq-eqb}
-use lib.Dec.{eqb}
-use lib.ListN.{length, drop}
-use Rattle.octets.specs.Choice.{pick, require, firstOf}
+-- What was read: the checks of reading, one by one, give the code that the message is refused with; and a request brings
+-- texts that fit a row.
+use mathlib.Core.Path.{_≡_, refl, ap, _∙_}
+use mathlib.Core.Bool.{Bool, true, false, _&&_, _||_, not}
+use mathlib.Core.List.{List, [], _∷_, _++_, map, flatMap}
+use Prim.Native.Nat.{ℕ, zero, suc, _+_, _-_, _/_, _%_, _<_}
+use native.Mathlib.Omega.{arith}
+use borrow.Author.Tests.{eq-eqb, eqb-false, le-leb, lt-leb}
+use lib.Dec.{eqb, leb}
+use lib.ListN.{length, getD, drop}
+use Rattle.octets.specs.Choice.{pick, require, firstOf, within}
 use Rattle.octets.specs.Lists.{every}
-use Rattle.octets.specs.Numbers.{up4}
-use Rattle.octets.proofs.Choice.{by-pick}
-use Rattle.octets.proofs.Lists.{and-left, and-right, both, by-test, every-map, every-of}
+use Rattle.octets.specs.Numbers.{net24, net32, up4}
+use Rattle.octets.proofs.Lists.{and-left, and-right, both, by-test}
+use Rattle.message.specs.Codes.{plain}
 use Rattle.message.specs.CallsThatGetNoAnswer.{messageNumber}
-use Rattle.message.specs.ReadingAMessage.{Avp, Walk, Field, headerCode, avpLength, avpCode, behind, walkOne, walkUpTo, walk, body, avps, walkCode, having, testedAs, fieldCode, fields, listCode, readingCode, command, requestOf, request, read}
+use Rattle.message.specs.ReadingAMessage.{Avp, Field, flags, command, application, headerCode, headLength, avpLength, avpCode, behind, walk, body, avps, walkCode, sessionId, having, startsWith, testedAs, fieldCode, fields, listCode, readingCode, requestOf, request, read}
+use Rattle.message.proofs.Walks.{rest-shorter}
+use Rattle.message.proofs.Gathering.{walk-end, walk-bad, walk-one, next-on}
 use Rattle.table.specs.TheTable.{tableNumber}
 use Rattle.rules.specs.Calls.{Call, callNumber}
 use Rattle.decision.proofs.Answered.{request-fits}
 use Rattle.deciding.specs.Plans.{fitting}
+use Rattle.order.specs.ChecksInOrder.{Failure, sessionIdNotFirst, Check, pass, fail, check, firstFailed, noneFails, headerChecks, avpChecks, walkFrom, walkChecks, fieldChecks, listChecks, readingChecks, shortSecond, TellsTheByte}
 
--- NO FAILING TEST GIVES 2001
+-- CHECKS BEFORE OTHERS
+
+-- of checks that stand before others only the first that fails matters
+pub first-of : (cs ds : List Check) → firstFailed (cs ++ ds) ≡ firstFailed (firstFailed cs ∷ ds)
+unfolding firstFailed
+first-of [] ds = refl
+first-of (pass ∷ cs) ds = first-of cs ds
+first-of (fail what code ∷ cs) ds = refl
+
+pub none-of : (cs ds : List Check) → noneFails (cs ++ ds) ≡ noneFails (firstFailed cs ∷ ds)
+unfolding firstFailed noneFails
+none-of [] ds = refl
+none-of (pass ∷ cs) ds = none-of cs ds
+none-of (fail what code ∷ cs) ds = refl
+
+-- A CODE AND THE CHECKS THAT GIVE IT
+
+-- the first of the checks that fails has this Result-Code, and it is not 2001; or the code is 0, and none fails
+pub data Gives (n : ℕ) (cs : List Check) : Type 0 where
+  passes : n ≡ 0 → firstFailed cs ≡ pass → Gives n cs
+  fails : (what : Failure) → eqb n 0 ≡ false → eqb n 2001 ≡ false → firstFailed cs ≡ fail what (plain n) → Gives n cs
+
+nothing : Gives (firstOf []) []
+unfolding firstOf firstFailed
+nothing = passes refl refl
+
+-- checks behind some of which none fails; and the checks of a part, before those of others
+past : (n : ℕ) (cs ds : List Check) → firstFailed cs ≡ pass → Gives n ds → Gives n (cs ++ ds)
+unfolding firstFailed
+past n cs ds p (passes z q) = passes z (first-of cs ds ∙ rw p q)
+past n cs ds p (fails what z o q) = fails what z o (first-of cs ds ∙ rw p q)
+
+part : (n : ℕ) (ns : List ℕ) (cs ds : List Check) → Gives n cs → Gives (firstOf ns) ds → Gives (firstOf (n ∷ ns)) (cs ++ ds)
+unfolding firstOf firstFailed pick
+part n ns cs ds (passes z p) g = rw z (past (firstOf ns) cs ds p g)
+part n ns cs ds (fails what z o p) g = rw z (fails what z o (first-of cs ds ∙ rw p))
+
+last : (n : ℕ) (cs : List Check) → Gives n cs → Gives (firstOf (n ∷ [])) cs
+unfolding firstOf pick
+last n cs (passes z p) = rw z (passes refl p)
+last n cs (fails what z o p) = rw z (fails what z o p)
+
+-- HEADER AND WALK
+
+pub header-gives : (m : List ℕ) → Gives (headerCode m) (headerChecks m)
+unfolding headerCode headerChecks firstOf require check firstFailed pick
+header-gives m =
+    by-test (eqb (flags m % 16) 0)
+    (λ a. by-test (eqb (flags m / 32 % 2) 0)
+    (λ b. by-test (eqb (command m) 265 || eqb (command m) 275)
+    (λ c. by-test (eqb (application m) 1 || (eqb (command m) 275 && eqb (application m) 0))
+    (λ d. rw (a, b, c, d) (passes refl refl))
+    (λ d. rw (a, b, c, d) (fails _ refl refl refl)))
+    (λ c. rw (a, b, c) (fails _ refl refl refl)))
+    (λ b. rw (a, b) (fails _ refl refl refl)))
+    (λ a. rw a (fails _ refl refl refl))
+
+pub avp-gives : (at : ℕ) (s : List ℕ) → Gives (avpCode s) (avpChecks at s)
+unfolding avpCode avpChecks headLength firstOf require check firstFailed pick
+avp-gives at s =
+    by-test (leb 8 (length s))
+    (λ a. by-test (eqb (getD s 4 0 % 32) 0)
+    (λ b. by-test (leb (headLength s) (avpLength s))
+    (λ c. by-test (leb (up4 (avpLength s)) (length s))
+    (λ d. rw (a, b, c, d) (passes refl refl))
+    (λ d. rw (a, b, c, d) (fails _ refl refl refl)))
+    (λ c. rw (a, b, c) (fails _ refl refl refl)))
+    (λ b. rw (a, b) (fails _ refl refl refl)))
+    (λ a. rw a (fails _ refl refl refl))
+
+-- the AVP before is stepped over
+walk-skips : (at k : ℕ) (s : List ℕ) → walkFrom at k s ≡ walkFrom (at + k) 0 (drop k s)
+unfolding walkFrom
+walk-skips at zero s = let z : at + 0 ≡ at = omega arith in rw z
+walk-skips at (suc k) [] = refl
+walk-skips at (suc k) (b ∷ s) = let z : at + suc k ≡ suc at + k = omega arith in rw z (walk-skips (suc at) k s)
+
+-- an AVP that passes, and what follows its padding
+pub walk-next : (at : ℕ) (s : List ℕ) → avpCode s ≡ 0 → walkFrom at 0 s ≡ avpChecks at s ++ walkFrom (at + up4 (avpLength s)) 0 (drop (up4 (avpLength s)) s)
+unfolding walkFrom
+walk-next at [] h = let o = next-on [] 0 (omega arith) h in absurd (omega (arith, o .0, o .1))
+walk-next at (b ∷ s) h =
+    let e : up4 (avpLength (b ∷ s)) ≡ suc (up4 (avpLength (b ∷ s)) - 1) = omega (arith, (next-on (b ∷ s) 0 (omega arith) h) .0) in
+    let z : at + up4 (avpLength (b ∷ s)) ≡ suc at + (up4 (avpLength (b ∷ s)) - 1) = omega arith in
+    let d : drop (up4 (avpLength (b ∷ s))) (b ∷ s) ≡ drop (up4 (avpLength (b ∷ s)) - 1) s = ap (λ k. drop k (b ∷ s)) e in
+    rw (z, d) (ap (λ (cs : List Check). avpChecks at (b ∷ s) ++ cs) (walk-skips (suc at) (up4 (avpLength (b ∷ s)) - 1) s))
+
+walked-one : (at b : ℕ) (s : List ℕ)
+    → (avpCode (b ∷ s) ≡ 0 → Gives ((walk (drop (up4 (avpLength (b ∷ s))) (b ∷ s))) .code) (walkFrom (at + up4 (avpLength (b ∷ s))) 0 (drop (up4 (avpLength (b ∷ s))) (b ∷ s))))
+    → Gives (avpCode (b ∷ s)) (avpChecks at (b ∷ s)) → Gives ((walk (b ∷ s)) .code) (walkFrom at 0 (b ∷ s))
+unfolding walkFrom firstFailed behind
+walked-one at b s onward (passes z p) = rw (walk-one (b ∷ s) z, walk-next at (b ∷ s) z) (past _ (avpChecks at (b ∷ s)) _ p (onward z))
+walked-one at b s onward (fails what z o p) =
+    rw (walk-bad (b ∷ s) (omega arith) (omega (arith, eqb-false (avpCode (b ∷ s)) 0 z))) (fails what z o (first-of (avpChecks at (b ∷ s)) _ ∙ rw p))
+
+walked : (n at : ℕ) (s : List ℕ) → length s < n → Gives ((walk s) .code) (walkFrom at 0 s)
+unfolding walkFrom firstFailed
+walked zero at s h = absurd (omega arith)
+walked (suc n) at [] h = rw (walk-end [] refl) (passes refl refl)
+walked (suc n) at (b ∷ s) h = walked-one at b s (λ z. walked n _ _ (omega (arith, rest-shorter (b ∷ s) z))) (avp-gives at (b ∷ s))
+
+pub walk-gives : (m : List ℕ) → Gives (walkCode m) (walkChecks m)
+unfolding walkCode walkChecks
+walk-gives m = walked (suc (length (body m))) _ (body m) (omega arith)
+
+-- THE LISTS
+
+-- a field that is there is not absent, required or not
+pub there-is : (required : Bool) → not required || true ≡ true
+there-is true = refl
+there-is false = refl
+
+pub field-gives : (f : Field) (there : List Avp) → Gives (testedAs f there) (fieldChecks f there)
+unfolding testedAs fieldChecks firstOf require check firstFailed every pick
+field-gives f [] = by-test (f .required) (λ e. rw e (fails _ refl refl refl)) (λ e. rw e (passes refl refl))
+field-gives f (a ∷ []) =
+    by-test (within (f .low) (f .high) (length (a .value)))
+    (λ e. by-test (f .allowed (a .value))
+    (λ d. rw (there-is (f .required), e, d) (passes refl refl))
+    (λ d. rw (there-is (f .required), e, d) (fails _ refl refl refl)))
+    (λ e. rw (there-is (f .required), e) (fails _ refl refl refl))
+field-gives f (a ∷ (b ∷ xs)) =
+    let some : leb 1 (length (a ∷ b ∷ xs)) ≡ true = le-leb 1 (length (a ∷ b ∷ xs)) (omega arith) in
+    let more : leb (length (a ∷ b ∷ xs)) 1 ≡ false = lt-leb (length (a ∷ b ∷ xs)) 1 (omega arith) in
+    rw (some, there-is (f .required), more) (fails _ refl refl refl)
+
+fields-give : (xs : List Avp) (fs : List Field) → Gives (firstOf (map (fieldCode xs) fs)) (flatMap (λ (f : Field). fieldChecks f (having (f .name) xs)) fs)
+unfolding fieldCode flatMap
+fields-give xs [] = nothing
+fields-give xs (f ∷ fs) = part _ _ (fieldChecks f (having (f .name) xs)) _ (field-gives f (having (f .name) xs)) (fields-give xs fs)
+
+first-is : (m : List ℕ) → Gives (require (startsWith sessionId (avps m)) 5005) (check sessionIdNotFirst (startsWith sessionId (avps m)) (plain 5005) ∷ [])
+unfolding require check firstFailed
+first-is m = by-test (startsWith sessionId (avps m)) (λ e. rw e (passes refl refl)) (λ e. rw e (fails _ refl refl refl))
+
+list-gives : (m : List ℕ) → Gives (listCode (command m) (avps m)) (listChecks m)
+unfolding listCode listChecks
+list-gives m =
+    part _ _ (check sessionIdNotFirst (startsWith sessionId (avps m)) (plain 5005) ∷ []) _ (first-is m) (fields-give (avps m) (fields (command m) (avps m)))
+
+pub reading-gives : (m : List ℕ) → Gives (readingCode m) (readingChecks m)
+unfolding readingCode readingChecks
+reading-gives m =
+    part _ _ (headerChecks m) _ (header-gives m) (part _ _ (walkChecks m) (listChecks m) (walk-gives m) (last _ _ (list-gives m)))
+
+-- the byte where an AVP starts that fails, in a case
+pub tells-the-byte : TellsTheByte
+unfolding readingChecks headerChecks walkChecks walkFrom avpChecks check firstFailed shortSecond pick net24 net32 up4
+tells-the-byte = refl
+
+-- NO NUMBER IS 2001
 
 unfoldable pub other : ℕ → Bool
 other c = not (eqb c 2001)
@@ -33,35 +188,6 @@ unfolding require other
 require-other true c h = refl
 require-other false c h = h
 
-header-other : (m : List ℕ) → other (headerCode m) ≡ true
-unfolding headerCode every other
-header-other m =
-    first-other _ (both (require-other _ 5013 refl) (both (require-other _ 3008 refl) (both (require-other _ 3001 refl) (both (require-other _ 3007 refl) refl))))
-
-avp-other : (s : List ℕ) → other (avpCode s) ≡ true
-unfolding avpCode every other
-avp-other s =
-    first-other _ (both (require-other _ 5014 refl) (both (require-other _ 3009 refl) (both (require-other _ 5014 refl) (both (require-other _ 5014 refl) refl))))
-
-walk-other : (n : ℕ) (s : List ℕ) → other ((walkUpTo n s) .code) ≡ true
-unfolding walkUpTo walkOne behind other
-walk-other zero s = refl
-walk-other (suc n) s =
-    by-pick (λ (w : Walk). other (w .code) ≡ true) (eqb (length s) 0)
-    (λ e. refl)
-    (λ e. by-pick (λ (w : Walk). other (w .code) ≡ true) (eqb (avpCode s) 0) (λ f. walk-other n (drop (up4 (avpLength s)) s)) (λ f. avp-other s))
-
-tested-other : (f : Field) (xs : List Avp) → other (testedAs f xs) ≡ true
-unfolding testedAs every other
-tested-other f [] = require-other _ 5005 refl
-tested-other f (a ∷ []) = first-other _ (both (require-other _ 5014 refl) (both (require-other _ 5004 refl) refl))
-tested-other f (a ∷ (b ∷ xs)) = refl
-
-list-other : (c : ℕ) (xs : List Avp) → other (listCode c xs) ≡ true
-unfolding listCode every fieldCode other
-list-other c xs =
-    first-other _ (both (require-other _ 5005 refl) (every-map other (fieldCode xs) (fields c xs) ∙ every-of _ (λ (f : Field). tested-other f (having (f .name) xs)) (fields c xs)))
-
 message-other : (m : List ℕ) → other (messageNumber m) ≡ true
 unfolding messageNumber every other
 message-other m =
@@ -71,16 +197,6 @@ pub call-other : (t : List ℕ) (c : Call) → other (callNumber t c) ≡ true
 unfolding callNumber tableNumber every other
 call-other t c =
     first-other _ (both (require-other _ 1 refl) (both (require-other _ 2 refl) (both (require-other _ 3 refl) (both (require-other _ 4 refl) (both (message-other (c .message)) refl)))))
-
-pub header-code : (m : List ℕ) → other (headerCode m) ≡ true
-header-code m = header-other m
-
-pub walk-code : (m : List ℕ) → other (walkCode m) ≡ true
-unfolding walkCode walk
-walk-code m = walk-other _ (body m)
-
-pub list-code : (m : List ℕ) → other (listCode (command m) (avps m)) ≡ true
-list-code m = list-other (command m) (avps m)
 
 -- THE TEXTS OF A REQUEST FIT A ROW
 

@@ -19,7 +19,8 @@ use Rattle.table.proofs.Sound.{says-good, sound-row}
 use Rattle.rules.specs.Deciding.{Verdict}
 use Rattle.rules.specs.Calls.{Call, Left, callNumber, silent, refusal, settled, handle, ranFirst, run}
 use Rattle.deciding.proofs.Stay.{stays}
-use Rattle.order.specs.Demand2.{requestIn, found, checks, noneFails, afterwards, Replaced, SuccessReplacesRow, OtherRowsStay, SoundStaysSound, SoundStaysInList}
+use Rattle.order.specs.ChecksInOrder.{noneFails}
+use Rattle.order.specs.Demand2.{requestIn, found, checks, afterwards, Replaced, SuccessReplacesRow, OtherRowsStay, SoundStaysSound, SoundStaysInList}
 use Rattle.order.proofs.Finding.{same-row}
 use Rattle.order.proofs.Read.{ask-fits}
 use Rattle.order.proofs.Answered.{Went, OnRow, unanswered, stopped, reached, went, verdict}

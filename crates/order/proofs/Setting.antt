@@ -25,24 +25,9 @@ use Rattle.changes.proofs.Stays.{MayEnter}
 use Rattle.changes.proofs.Steps.{row-name}
 use Rattle.changes.proofs.Keep.{good-named, good-entered}
 use Rattle.order.specs.SettingUp.{Wrote, ClearRefused, EnterRefused, AddRefused, ClearedZero, EnterWrites, EnteredFound, AddWrites}
-use Rattle.order.specs.NoSecondAnswer.{OneClearing, OneEntering, OneAdding, OneAnswer}
 use Rattle.order.proofs.Finding.{front}
 use Rattle.order.proofs.Tables.{at-with, at-other, cut-with, length-cut, length-with}
 use Rattle.order.proofs.Rest.{in-table}
-
--- NO SECOND ANSWER
-
-pub one-clearing : OneClearing
-one-clearing t a b p q = p ∙ sym q
-
-pub one-entering : OneEntering
-one-entering t name a b p q = p ∙ sym q
-
-pub one-adding : OneAdding
-one-adding t name e a b p q = p ∙ sym q
-
-pub one-answer : OneAnswer
-one-answer t c a b p q = p ∙ sym q
 
 -- REFUSALS
 

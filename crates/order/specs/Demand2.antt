@@ -1,64 +1,21 @@
 -- Demand 2: the first failing check gives the code, success is given exactly when none fails, what is cut, and what stays.
 use mathlib.Core.Path.{_≡_}
-use mathlib.Core.Bool.{Bool, true, false, _&&_, not}
+use mathlib.Core.Bool.{Bool, true, false, _&&_}
 use mathlib.Core.List.{List, [], _∷_, _++_}
 use Prim.Native.Nat.{ℕ}
 use lib.Dec.{eqb}
 use lib.ListN.{length}
 use Rattle.octets.specs.Choice.{pick}
-use Rattle.message.specs.Codes.{Code, plain, userUnknown, noSubscription, roamingNotAllowed, unusedByUser, numberOf, kindOf}
-use Rattle.message.specs.ReadingAMessage.{Ask, tunnel, policy, termination, Request, headerCode, walkCode, listCode, command, avps, requestOf}
-use Rattle.table.specs.TheTable.{Access, Subscriber, Found, row, nothing, isFound, lookup, rowAt, withRow, readRow, rowBytes, barred, mayRoam}
+use Rattle.message.specs.Codes.{Code, plain, userUnknown, numberOf, kindOf}
+use Rattle.message.specs.ReadingAMessage.{Ask, tunnel, policy, termination, Request, command, avps, requestOf}
+use Rattle.table.specs.TheTable.{Access, Subscriber, Found, row, nothing, isFound, lookup, rowAt, withRow, readRow, rowBytes}
 use Rattle.table.specs.Soundness.{sound, onEntry}
 use Rattle.changes.specs.Changes.{freed, lowestFree, opened, routed}
-use Rattle.rules.specs.Deciding.{entryNamed, entryAt, withSession, none, atLimit, placeOf}
+use Rattle.rules.specs.Deciding.{entryNamed, withSession, atLimit, placeOf}
 use Rattle.rules.specs.Calls.{Call, Left, callNumber, silent, reply, refusal, handle, run}
-
--- CHECKS IN ORDER
-
-pub data Check : Type 0 where
-  pass : Check
-  fail : Code → Check
-
--- A check, with the code that its failure gives.
-unfoldable pub check : Bool → Code → Check
-check true code = pass
-check false code = fail code
-
--- The code of the first that fails; 2001 where none does.
-unfoldable pub firstFailing : List Check → Code
-firstFailing [] = plain 2001
-firstFailing (pass ∷ cs) = firstFailing cs
-firstFailing (fail code ∷ cs) = code
-
-unfoldable pub noneFails : List Check → Bool
-noneFails [] = true
-noneFails (pass ∷ cs) = noneFails cs
-noneFails (fail code ∷ cs) = false
+use Rattle.order.specs.ChecksInOrder.{Check, noRow, unsoundRow, check, firstFailing, noneFails, readingChecks, decidingChecks}
 
 -- THE CHECKS OF A CALL
-
--- Header, walk and lists: each gives the code of the first of its own tests that fails, 0 where none does.
-unfoldable pub readingChecks : List ℕ → List Check
-readingChecks m =
-    check (eqb (headerCode m) 0) (plain (headerCode m))
-    ∷ check (eqb (walkCode m) 0) (plain (walkCode m))
-    ∷ check (eqb (listCode (command m) (avps m)) 0) (plain (listCode (command m) (avps m)))
-    ∷ []
-
--- Type 0: the label is entered; the entry is not barred; no visited network is named, or the entry may roam; the
--- Session-Id is not in the row. Type 1: an access has the Session-Id; the WAG says yes. Termination: an access has the
--- Session-Id on this W-APN.
-unfoldable pub decidingChecks : Ask → (wag : Bool) → Subscriber → List Check
-decidingChecks (tunnel session host label visited) wag s =
-    check (not (eqb (entryNamed label s) 0)) noSubscription
-    ∷ check (not (barred (entryAt (entryNamed label s) s))) (plain 5003)
-    ∷ check (not (visited && not (mayRoam (entryAt (entryNamed label s) s)))) roamingNotAllowed
-    ∷ check (none (withSession session (s .accesses))) (plain 5012)
-    ∷ []
-decidingChecks (policy session route) wag s = check (not (none (withSession session (s .accesses)))) (plain 5012) ∷ check wag (plain 5012) ∷ []
-decidingChecks (termination session label) wag s =
-    check (not (none (withSession session (onEntry (entryNamed label s) (s .accesses))))) unusedByUser ∷ []
 
 -- What the message asks and for whom, once it is read; the user's row, and what it says. No bytes where there is no row.
 unfoldable pub requestIn : Call → Request
@@ -81,7 +38,9 @@ said t c = readRow (rowBefore t c)
 unfoldable pub checks : List ℕ → Call → List Check
 checks t c =
     readingChecks (c .message)
-    ++ (check (isFound (found t c)) userUnknown ∷ check (sound (rowBefore t c)) (plain 5012) ∷ decidingChecks ((requestIn c) .ask) (c .wag) (said t c))
+    ++ (check noRow (isFound (found t c)) userUnknown
+    ∷ check unsoundRow (sound (rowBefore t c)) (plain 5012)
+    ∷ decidingChecks ((requestIn c) .ask) (c .wag) (said t c))
 
 -- A call succeeds if it is one that gets an answer and none of its checks fails.
 unfoldable pub succeeds : List ℕ → Call → Bool

@@ -7,11 +7,11 @@ use lib.Dec.{eqb, leb}
 use lib.ListN.{length, take}
 use Rattle.octets.specs.Choice.{pick, require, firstOf, within}
 use Rattle.octets.specs.Lists.{keep}
-use Rattle.octets.specs.Texts.{same}
+use Rattle.octets.specs.Texts.{same, put}
 use Rattle.message.specs.CallsThatGetNoAnswer.{messageNumber}
 use Rattle.message.specs.ReadingAMessage.{Reading, refused, request, read, headerCode, walkCode, command, avps, startsWith, sessionId, userName, valueOf, fieldCode, fields}
 use Rattle.table.specs.TheTable.{Found, row, nothing, lookup, rowAt}
-use Rattle.rules.specs.Calls.{Call, Reply, handle, run, answerLeast, noticeLength}
+use Rattle.rules.specs.Calls.{Call, Result, Reply, Left, handle, run, answerLeast, noticeLength}
 
 -- WHOSE A CALL IS
 
@@ -87,6 +87,59 @@ EachInTurn =
 abbrev pub LastTable : Type 0
 LastTable = (t : List ℕ) (before : List Call) (c : Call) → (run t (before ++ (c ∷ []))) .table ≡ (handle ((run t before) .table) c) .table
 
+-- WHAT A CALL BRINGS AND WHAT IT IS TOLD, whatever stands in its rooms: a caller may lend the same two rooms to all calls, and
+-- then what stands in them depends on the calls before.
+
+-- What a call brings; of the two rooms only whether they are large enough, by the numbers 3 and 4.
+pub record Brought : Type 0 where
+  pub message : List ℕ
+  pub host : List ℕ
+  pub realm : List ℕ
+  pub answerFits : Bool
+  pub noticeFits : Bool
+  pub wag : Bool
+
+unfoldable pub brought : Call → Brought
+brought c =
+    record {
+      message = c .message;
+      host = c .host;
+      realm = c .realm;
+      answerFits = leb answerLeast (length (c .answer));
+      noticeFits = leb noticeLength (length (c .notice));
+      wag = c .wag;
+    }
+
+-- What a reply tells: the result, the bytes of the answer, and those of the cut notice, none without a cut.
+pub record Told : Type 0 where
+  pub result : Result
+  pub answer : List ℕ
+  pub notice : List ℕ
+
+unfoldable pub told : Reply → Told
+told r =
+    record {
+      result = r .result;
+      answer = take (r .result .length) (r .answer);
+      notice = pick (eqb (r .result .cut) 1) (take noticeLength (r .notice)) [];
+    }
+
+-- The table after a call, and what it is told, depend on the call only by what it brings.
+pub record SameLeft (l k : Left) : Type 0 where
+  pub table : l .table ≡ k .table
+  pub reply : told (l .reply) ≡ told (k .reply)
+
+abbrev pub BroughtDecides : Type 0
+BroughtDecides = (t : List ℕ) (c d : Call) → brought c ≡ brought d → SameLeft (handle t c) (handle t d)
+
+-- Each room afterwards is as it stood, but for what is told, which is written from its first byte on.
+pub record RoomsOf (c : Call) (r : Reply) : Type 0 where
+  pub answer : r .answer ≡ put (c .answer) 0 ((told r) .answer)
+  pub notice : r .notice ≡ put (c .notice) 0 ((told r) .notice)
+
+abbrev pub RoomsAfter : Type 0
+RoomsAfter = (t : List ℕ) (c : Call) → RoomsOf c ((handle t c) .reply)
+
 -- DEMAND 3. The table is any list of numbers, one that number 1 refuses too. The calls are any, each with its own names,
 -- rooms and word from the WAG.
 
@@ -104,17 +157,27 @@ RecordAlone =
 abbrev pub LookupStays : Type 0
 LookupStays = (t : List ℕ) (cs : List Call) (name : List ℕ) → lookup ((run t cs) .table) name ≡ lookup t name
 
--- Two lists in which each subscriber's calls are the same, in the same order, end with the same table, byte for byte.
+-- Two lists in which a subject's calls bring the same, in the same order. Where all rooms are large enough that is: the same
+-- message, own names and word from the WAG.
+abbrev pub SameBrought : Subject → List Call → List Call → Type 0
+SameBrought who cs ds = map brought (callsOf who cs) ≡ map brought (callsOf who ds)
+
+-- If each subscriber's calls bring the same, both lists end with the same table, byte for byte.
 abbrev pub SameTable : Type 0
 SameTable =
-    (t : List ℕ) (cs ds : List Call) → ((name : List ℕ) → callsOf (subscriber name) cs ≡ callsOf (subscriber name) ds)
-    → (run t cs) .table ≡ (run t ds) .table
+    (t : List ℕ) (cs ds : List Call) → ((name : List ℕ) → SameBrought (subscriber name) cs ds) → (run t cs) .table ≡ (run t ds) .table
 
--- And each call gets the same reply: those of each subject get the same ones, in the same order.
+-- A subject's calls are told the same, in the same order, and a subscriber's record ends the same, if these calls bring the
+-- same, whatever the others bring. So `ds` may be these calls alone, in other rooms.
 abbrev pub SameReplies : Type 0
 SameReplies =
-    (t : List ℕ) (cs ds : List Call) (who : Subject) → callsOf who cs ≡ callsOf who ds
-    → repliesOf who cs ((run t cs) .replies) ≡ repliesOf who ds ((run t ds) .replies)
+    (t : List ℕ) (cs ds : List Call) (who : Subject) → SameBrought who cs ds
+    → map told (repliesOf who cs ((run t cs) .replies)) ≡ map told (repliesOf who ds ((run t ds) .replies))
+
+abbrev pub SameRecord : Type 0
+SameRecord =
+    (t : List ℕ) (cs ds : List Call) (name : List ℕ) → SameBrought (subscriber name) cs ds
+    → recordOf name ((run t cs) .table) ≡ recordOf name ((run t ds) .table)
 
 -- Nobody's call gets a reply that depends on no record: it is the same on any two tables of one length, and it changes
 -- nothing.
@@ -176,14 +239,21 @@ RecordAloneBy =
     (owner : Call → Subject) → Counting owner → (t : List ℕ) (cs : List Call) (name : List ℕ)
     → recordOf name ((run t cs) .table) ≡ recordOf name ((run t (callsBy owner (subscriber name) cs)) .table)
 
--- Two lists that are alike by this counting.
+-- Two lists in which a subject's calls by this counting bring the same.
+abbrev pub SameBroughtBy : (Call → Subject) → Subject → List Call → List Call → Type 0
+SameBroughtBy owner who cs ds = map brought (callsBy owner who cs) ≡ map brought (callsBy owner who ds)
+
 abbrev pub SameTableBy : Type 0
 SameTableBy =
     (owner : Call → Subject) → Counting owner → (t : List ℕ) (cs ds : List Call)
-    → ((name : List ℕ) → callsBy owner (subscriber name) cs ≡ callsBy owner (subscriber name) ds) → (run t cs) .table ≡ (run t ds) .table
+    → ((name : List ℕ) → SameBroughtBy owner (subscriber name) cs ds) → (run t cs) .table ≡ (run t ds) .table
 
 abbrev pub SameRepliesBy : Type 0
 SameRepliesBy =
-    (owner : Call → Subject) → Counting owner → (t : List ℕ) (cs ds : List Call) (name : List ℕ)
-    → callsBy owner (subscriber name) cs ≡ callsBy owner (subscriber name) ds
-    → repliesBy owner (subscriber name) cs ((run t cs) .replies) ≡ repliesBy owner (subscriber name) ds ((run t ds) .replies)
+    (owner : Call → Subject) → Counting owner → (t : List ℕ) (cs ds : List Call) (name : List ℕ) → SameBroughtBy owner (subscriber name) cs ds
+    → map told (repliesBy owner (subscriber name) cs ((run t cs) .replies)) ≡ map told (repliesBy owner (subscriber name) ds ((run t ds) .replies))
+
+abbrev pub SameRecordBy : Type 0
+SameRecordBy =
+    (owner : Call → Subject) → Counting owner → (t : List ℕ) (cs ds : List Call) (name : List ℕ) → SameBroughtBy owner (subscriber name) cs ds
+    → recordOf name ((run t cs) .table) ≡ recordOf name ((run t ds) .table)

@@ -1,56 +1,120 @@
--- Demand 2: what stands first on the order line was opened first. The line is the order in which the calls opened the
--- accesses, with those left out that were cut or ended since.
+-- Demand 2: the order line is the order in which the calls opened the tunnels, and the tunnel that is cut is the one there that
+-- was opened first. Both are said from calls, replies and the row's entries alone.
 use mathlib.Core.Path.{_≡_}
-use mathlib.Core.Bool.{true, _&&_}
-use mathlib.Core.List.{List, [], _∷_, _++_}
+use mathlib.Core.Bool.{Bool, true, false, _&&_, not}
+use mathlib.Core.List.{List, [], _∷_, _++_, map}
 use Prim.Native.Nat.{ℕ}
 use lib.Dec.{eqb}
+use lib.ListN.{take, drop}
 use Rattle.octets.specs.Choice.{pick}
+use Rattle.octets.specs.Lists.{keep}
+use Rattle.octets.specs.Texts.{same}
 use Rattle.message.specs.ReadingAMessage.{Ask, tunnel, policy, termination}
-use Rattle.table.specs.TheTable.{Access, row, lookup, rowAt, readRow}
-use Rattle.table.specs.Soundness.{sound, sessions}
+use Rattle.table.specs.TheTable.{Entry, Access, Subscriber, row, lookup, isRowOf, rowAt, readRow}
+use Rattle.table.specs.Soundness.{sound, sameLabel}
+use Rattle.rules.specs.Deciding.{entryAt}
 use Rattle.rules.specs.Calls.{Call, Reply, handle, run}
-use Rattle.order.specs.Demand2.{requestIn, said, onAsked, cutFor}
+use Rattle.order.specs.Demand2.{requestIn}
 use Rattle.order.specs.Demand3.{subscriber, subject, isOf}
 
--- The Session-Id that a request asks to open.
-unfoldable pub newSession : Ask → List (List ℕ)
-newSession (tunnel session host label visited) = session ∷ []
-newSession (policy session route) = []
-newSession (termination session label) = []
+-- A tunnel as the calls show it: its Session-Id, its gateway host, and its W-APN's label as it is entered.
+pub record Tunnel : Type 0 where
+  pub session : List ℕ
+  pub host : List ℕ
+  pub label : List ℕ
 
--- The Session-Ids that a subscriber's calls opened, in their order: those of the tunnels that were answered 2001. `rs` holds
--- a reply for each call of `cs`.
-unfoldable pub openings : (name : List ℕ) → (cs : List Call) → (rs : List Reply) → List (List ℕ)
-openings name [] rs = []
-openings name (c ∷ cs) [] = []
-openings name (c ∷ cs) (r ∷ rs) =
-    pick (isOf (subscriber name) c && eqb (r .result .code) 2001) (newSession ((requestIn c) .ask)) [] ++ openings name cs rs
+-- THE HISTORY
 
--- Some of a list, in their order.
-pub data Some : List (List ℕ) → List (List ℕ) → Type 0 where
-  end : Some [] []
-  leaves : {x : List ℕ} {xs ys : List (List ℕ)} → Some xs ys → Some xs (x ∷ ys)
-  keeps : {x : List ℕ} {xs ys : List (List ℕ)} → Some xs ys → Some (x ∷ xs) (x ∷ ys)
+-- The label of the first entry that `l` names, as it is entered; no bytes where no entry has it.
+unfoldable pub labelIn : List Entry → List ℕ → List ℕ
+labelIn [] l = []
+labelIn (e ∷ es) l = pick (sameLabel l (e .label)) (e .label) (labelIn es l)
 
--- The Session-Ids on the order line of row i.
-abbrev pub lineOf : List ℕ → ℕ → List (List ℕ)
-lineOf t i = sessions ((readRow (rowAt t i)) .accesses)
+-- The Session-Id that a cut notice names, by the length that the result gives.
+unfoldable pub sessionCut : Reply → List ℕ
+sessionCut r = take (r .result .cutSession) (r .notice)
 
-abbrev pub OpenedInOrder : Type 0
-OpenedInOrder =
-    (t : List ℕ) (cs : List Call) (name : List ℕ) (i : ℕ) → lookup t name ≡ row i → sound (rowAt t i) ≡ true
-    → Some (lineOf ((run t cs) .table) i) (lineOf t i ++ openings name cs ((run t cs) .replies))
+-- The tunnel with that Session-Id is taken away.
+unfoldable pub without : List ℕ → List Tunnel → List Tunnel
+without session line = keep (λ (x : Tunnel). not (same (x .session) session)) line
 
--- So what a call cuts was opened first: of the accesses on its entry, which stand in the order of their opening, it is the
--- first one. `before` are the calls before it, of whomever.
-pub record CutFirst (t : List ℕ) (before : List Call) (c : Call) (name : List ℕ) (i : ℕ) (a : Access) (others : List Access) : Type 0 where
-  pub cut : cutFor ((requestIn c) .ask) (said ((run t before) .table) c) ≡ a ∷ []
-  pub in-order : Some (sessions (a ∷ others)) (lineOf t i ++ openings name before ((run t before) .replies))
+-- A request that is answered 2001. Type 0: if there was a cut, the tunnel that the notice names is taken away; then the new
+-- tunnel stands at the end. Type 1: the line stays. Termination: the tunnel with its Session-Id is taken away.
+unfoldable pub lineAfter : List Entry → Ask → Reply → List Tunnel → List Tunnel
+lineAfter es (tunnel session host label visited) r line =
+    pick (eqb (r .result .cut) 1) (without (sessionCut r) line) line
+    ++ (record { session = session; host = host; label = labelIn es label } ∷ [])
+lineAfter es (policy session route) r line = line
+lineAfter es (termination session label) r line = without session line
 
+-- The subscriber's line after a list of calls, of whomever, from the line before it: each of the subscriber's calls that is
+-- answered 2001 changes it, and no other call does. `rs` holds a reply for each call of `cs`, and `es` are the row's entries.
+unfoldable pub history : (name : List ℕ) → (es : List Entry) → (cs : List Call) → (rs : List Reply) → (line : List Tunnel) → List Tunnel
+history name es [] rs line = line
+history name es (c ∷ cs) [] line = line
+history name es (c ∷ cs) (r ∷ rs) line =
+    let own : Bool = isOf (subscriber name) c && eqb (r .result .code) 2001 in
+    history name es cs rs (pick own (lineAfter es ((requestIn c) .ask) r line) line)
+
+-- THE ORDER LINE
+
+-- What the order line of row i says, first opened first: of each access its Session-Id, its host and its entry's label.
+unfoldable pub tunnelOf : Subscriber → Access → Tunnel
+tunnelOf s a = record { session = a .session; host = a .host; label = (entryAt (a .entry) s) .label }
+
+unfoldable pub tunnels : Subscriber → List Tunnel
+tunnels s = map (tunnelOf s) (s .accesses)
+
+abbrev pub lineOf : List ℕ → ℕ → List Tunnel
+lineOf t i = tunnels (readRow (rowAt t i))
+
+abbrev pub entriesOf : List ℕ → ℕ → List Entry
+entriesOf t i = (readRow (rowAt t i)) .entries
+
+-- THE STATEMENTS, for any table and any calls.
+
+-- After any list of calls the order line of a subscriber's row is its history from the line before them. The row may be
+-- unsound, too: then both stay as they were.
+abbrev pub LineIsHistory : Type 0
+LineIsHistory =
+    (t : List ℕ) (cs : List Call) (name : List ℕ) (i : ℕ) → lookup t name ≡ row i
+    → lineOf ((run t cs) .table) i ≡ history name (entriesOf t i) cs ((run t cs) .replies) (lineOf t i)
+
+-- The label that is asked for; no bytes where a policy is. The tunnels on a label, in their order. The tunnel that a cut notice
+-- names, on that label.
+unfoldable pub labelAsked : Ask → List ℕ
+labelAsked (tunnel session host label visited) = label
+labelAsked (policy session route) = []
+labelAsked (termination session label) = label
+
+unfoldable pub onLabel : (label : List ℕ) → List Tunnel → List Tunnel
+onLabel label line = keep (λ (x : Tunnel). same (x .label) label) line
+
+unfoldable pub tunnelCut : (label : List ℕ) → Reply → Tunnel
+tunnelCut label r = record { session = sessionCut r; host = take (r .result .cutHost) (drop 128 (r .notice)); label = label }
+
+-- What a call of a subscriber cuts was opened first: of the tunnels on the label that it asks for, as the history of the calls
+-- `before` it has them, the first is the one that its notice names.
 abbrev pub CutOpenedFirst : Type 0
 CutOpenedFirst =
-    (t : List ℕ) (before : List Call) (c : Call) (name : List ℕ) (i : ℕ) (a : Access) (others : List Access)
-    → lookup t name ≡ row i → sound (rowAt t i) ≡ true → subject c ≡ subscriber name
-    → (handle ((run t before) .table) c) .reply .result .cut ≡ 1
-    → onAsked ((requestIn c) .ask) (said ((run t before) .table) c) ≡ a ∷ others → CutFirst t before c name i a others
+    (t : List ℕ) (before : List Call) (c : Call) (name : List ℕ) (i : ℕ) → lookup t name ≡ row i → subject c ≡ subscriber name
+    → let r : Reply = (handle ((run t before) .table) c) .reply in
+    let label : List ℕ = labelIn (entriesOf t i) (labelAsked ((requestIn c) .ask)) in
+    r .result .cut ≡ 1
+    → take 1 (onLabel label (history name (entriesOf t i) before ((run t before) .replies) (lineOf t i))) ≡ tunnelCut label r ∷ []
+
+-- WHAT NO CALL CHANGES
+
+-- The entries of a row.
+abbrev pub EntriesStay : Type 0
+EntriesStay = (t : List ℕ) (cs : List Call) (i : ℕ) → entriesOf ((run t cs) .table) i ≡ entriesOf t i
+
+-- A second row of a name: the lookup finds the first.
+abbrev pub SecondRowStays : Type 0
+SecondRowStays =
+    (t : List ℕ) (cs : List Call) (name : List ℕ) (i j : ℕ) → lookup t name ≡ row i → (j ≡ i → ⊥) → isRowOf name (rowAt t j) ≡ true
+    → rowAt ((run t cs) .table) j ≡ rowAt t j
+
+-- An unsound row.
+abbrev pub UnsoundRowStays : Type 0
+UnsoundRowStays = (t : List ℕ) (cs : List Call) (j : ℕ) → sound (rowAt t j) ≡ false → rowAt ((run t cs) .table) j ≡ rowAt t j

@@ -13,7 +13,7 @@ ghost use Rattle.message.specs.Positions.{Gathered};
 ghost use Rattle.message.specs.Spans.{BothRead, HeardOf, Holds, Listed, hasProxies, isFound, policyCode, policyOf, restCode, tunnelCode, tunnelOf};
 
 // Whether the first AVP is Session-Id, in a message whose walk passed.
-fn starts(m: &[u8]) -> bool
+pub fn starts(m: &[u8]) -> bool
     requires { ⌜ (20 ≤ length (now m)) × (walkCode (now m) ≡ 0) ⌝ }
     ensures { λ r. ⌜ r ≡ startsWith sessionId (avps (now (m .entry))) ⌝ }
 {
@@ -152,21 +152,21 @@ fn list_275(m: &[u8], index: &[usize], session: Span) -> Told
     requires { ⌜ (Gathered (now m) (now index)) × (Holds (now m) sessionId session) ⌝ }
     ensures { λ r. ⌜ Listed (now (m .entry)) (restCode 275 (avps (now (m .entry)))) (requestOf 275 (avps (now (m .entry)))) r ⌝ }
 {
-    let g1 = message::number_field(m, index, 8, 1, 8);
-    let Got::Found(_) = g1 else {
-        return Told::Refused(message::refusal(g1));
+    let cause = message::number_field(m, index, 8, 1, 8);
+    let Got::Found(_) = cause else {
+        return Told::Refused(message::refusal(cause));
     };
-    let g2 = message::text_field(m, index, 6, 1, 128);
-    let Got::Found(_) = g2 else {
-        return Told::Refused(message::refusal(g2));
+    let destination = message::text_field(m, index, 6, 1, 128);
+    let Got::Found(_) = destination else {
+        return Told::Refused(message::refusal(destination));
     };
-    let g3 = message::text_field(m, index, 7, 1, 128);
-    let Got::Found(user) = g3 else {
-        return Told::Refused(message::refusal(g3));
+    let name = message::text_field(m, index, 7, 1, 128);
+    let Got::Found(user) = name else {
+        return Told::Refused(message::refusal(name));
     };
-    let g4 = message::text_field(m, index, 12, 1, 100);
-    let Got::Found(label) = g4 else {
-        return Told::Refused(message::refusal(g4));
+    let apn = message::text_field(m, index, 12, 1, 100);
+    let Got::Found(label) = apn else {
+        return Told::Refused(message::refusal(apn));
     };
     Told::Request(user, Asked::Termination { session, label })
 }

@@ -16,8 +16,8 @@ use Rattle.rules.specs.Deciding.{Verdict, decide}
 
 -- A CALL AND ITS REPLY
 
--- The message, the server's own host and realm names, the room for the answer, the room for a cut notice, and
--- yes or no from the wireless gateway (WAG) about a policy.
+-- What a caller brings beside the table: a message; the names by which the server calls itself, host and realm; two rooms to write
+-- into, with what stands in them; and the word of the wireless gateway (WAG), true for yes.
 pub record Call : Type 0 where
   pub message : List ℕ
   pub host : List ℕ
@@ -26,9 +26,9 @@ pub record Call : Type 0 where
   pub notice : List ℕ
   pub wag : Bool
 
--- The result, in the numbers that the call returns: the answer's length; the code and which kind of code it is
--- (0 no answer, 1 Result-Code, 2 Experimental-Result); the place taken by a new access, else 0; whether a cut was made
--- (1, else 0) and the lengths of the cut access's Session-Id and gateway host, 0 without one.
+-- The result, as seven numbers: how long the answer is; the code, and its kind, 0 for no answer, 1 for a Result-Code and 2 for an
+-- Experimental-Result; where a new access stands, 0 if there is none; and of a cut 1 with the lengths of the two texts that the
+-- notice holds, all 0 if there was none.
 pub record Result : Type 0 where
   pub length : ℕ
   pub code : ℕ
@@ -69,7 +69,7 @@ callNumber t c =
     ∷ messageNumber (c .message)
     ∷ [])
 
--- Each returns its number, kind "no answer", length 0, place 0 and no cut, and changes nothing.
+-- What such a call leaves: its number as the code, of kind 0, and 0 for everything else; rooms and table as they were.
 unfoldable pub silent : List ℕ → Call → ℕ → Left
 silent t c n =
     record {
@@ -83,8 +83,8 @@ silent t c n =
 
 -- THE CUT NOTICE
 
--- Session-Id in bytes 0 to 127 and gateway host in 128 to 255, filled up with zeros; bytes past them, and without a cut
--- the whole room, are untouched.
+-- The cut access's Session-Id and the host of its gateway, each in 128 bytes with zeros behind it; what the room has past these 256
+-- bytes stays, and all of it where nothing is cut.
 unfoldable pub noticeRoom : List Access → List ℕ → List ℕ
 noticeRoom [] room = room
 noticeRoom (a ∷ as') room = filled (a .session) 128 ++ (filled (a .host) 128 ++ drop noticeLength room)

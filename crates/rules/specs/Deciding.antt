@@ -73,8 +73,8 @@ firstOn n a = placeOf (onEntry n a)
 unfoldable pub atLimit : ℕ → Subscriber → Bool
 atLimit n s = not (ltb (length (onEntry n (s .accesses))) ((entryAt n s) .limit))
 
--- If the entry is at its limit, its first-opened access is cut. The new access takes the lowest free place, the one
--- just freed included, and the end of the order line.
+-- An entry that is at its limit loses the access that was opened first on it. Then the new one stands last on the order line,
+-- at the lowest place that is free by then.
 unfoldable pub admit : ℕ → (session host : List ℕ) → Subscriber → Verdict
 admit n session host s =
     let k : ℕ = firstOn n (s .accesses) in
@@ -99,8 +99,8 @@ type0 session host label visited s =
 
 -- TYPE 1
 
--- In order: no access has this Session-Id, 5012; the wireless gateway (WAG) says no, 5012; else the policy replaces what
--- was held, 2001.
+-- In order: the Session-Id has an access, else 5012; the wireless gateway (WAG) agrees, else 5012. Then that access holds this
+-- policy in place of any it had, 2001.
 unfoldable pub type1 : (session route : List ℕ) → (wag : Bool) → Subscriber → Verdict
 type1 session route wag s =
     let mine : List Access = withSession session (s .accesses) in

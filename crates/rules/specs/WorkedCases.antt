@@ -85,11 +85,12 @@ twelve =
 
 -- OTHERS
 
--- A second subscriber has a third entry, "gate" (limit 1, may roam). The gate's tunnel g is opened first, then a and b on
--- board: g counts for the gate alone, so that b is no cut, and c cuts a, which is not the head of the line.
+-- The same table, in which the subscriber has a third entry, "gate" (limit 1, may roam).
 unfoldable pub gated : List ℕ
 gated = withLabel start gate 2 1
 
+-- The gate's tunnel g is opened first, from a visited network, then a and b on board: g counts for the gate alone, so that
+-- b cuts nothing, and c cuts a, which is not the head of the line.
 unfoldable pub others : List Bool
 others =
     let g : Left = ask gated (openVisited (session 103) gate) in

@@ -1,5 +1,6 @@
 // The commands that set a table up. A file is changed only by an operation that succeeds.
 use files::Said;
+use holding::Held;
 
 // The number of a set-up operation that changed nothing, in words.
 fn refused(number: u32) {
@@ -13,13 +14,14 @@ fn refused(number: u32) {
     files::mark();
 }
 
-// The table kept in its file, and said.
-fn keep(path: &[u8], table: &[u8], done: &[u8]) -> bool {
-    if files::is_replaced(path, table) {
-        files::say_word(path, done);
-        return true;
+// The table written, what is done said, and the table put in its place. That comes last, so that whatever fails leaves the table as it was.
+fn keep(path: &[u8], h: Held, table: &[u8], done: &[u8]) {
+    if !holding::is_written(path, h, table) {
+        return;
     }
-    false
+    if files::say_word(path, done) {
+        holding::is_replaced(path);
+    }
 }
 
 // A table of so many free rows, under a name that no file has yet.
@@ -37,11 +39,10 @@ fn make(path: &[u8], table: &mut [u8], rows: usize) {
         refused(number);
         return;
     }
-    if !files::is_made(path) {
-        return;
-    }
-    if !keep(path, &table[0..n], b": a new table, all rows free") {
-        os::unlink(path);
+    let h = holding::hold_name(path);
+    if holding::is_held(h) {
+        keep(path, h, &table[0..n], b": a new table, all rows free");
+        holding::leave(path, h);
     }
 }
 
@@ -62,11 +63,8 @@ pub fn new(table: &mut [u8]) {
     new_at(&path[..n], &rows[..k], table);
 }
 
-fn enter_at(path: &[u8], name: &[u8], table: &mut [u8]) {
-    let n = files::read_table(path, table);
-    if n < 1 {
-        return;
-    }
+fn enter_held(path: &[u8], h: Held, name: &[u8], table: &mut [u8]) {
+    let n = h.length;
     if table.len() < n {
         return;
     }
@@ -75,7 +73,15 @@ fn enter_at(path: &[u8], name: &[u8], table: &mut [u8]) {
         refused(number);
         return;
     }
-    keep(path, &table[0..n], b": the subscriber is entered");
+    keep(path, h, &table[0..n], b": the subscriber is entered");
+}
+
+fn enter_at(path: &[u8], name: &[u8], table: &mut [u8]) {
+    let h = holding::hold(path, table);
+    if holding::is_held(h) {
+        enter_held(path, h, name, table);
+        holding::leave(path, h);
+    }
 }
 
 pub fn enter(table: &mut [u8]) {
@@ -86,11 +92,16 @@ pub fn enter(table: &mut [u8]) {
     enter_at(&path[..n], &name[..k], table);
 }
 
-fn add_at(path: &[u8], name: &[u8], label: &[u8], limit: u8, flags: u8, table: &mut [u8]) {
-    let n = files::read_table(path, table);
-    if n < 1 {
-        return;
-    }
+fn add_held(
+    path: &[u8],
+    h: Held,
+    name: &[u8],
+    label: &[u8],
+    limit: u8,
+    flags: u8,
+    table: &mut [u8],
+) {
+    let n = h.length;
     if table.len() < n {
         return;
     }
@@ -99,7 +110,15 @@ fn add_at(path: &[u8], name: &[u8], label: &[u8], limit: u8, flags: u8, table: &
         refused(number);
         return;
     }
-    keep(path, &table[0..n], b": the label is added");
+    keep(path, h, &table[0..n], b": the label is added");
+}
+
+fn add_at(path: &[u8], name: &[u8], label: &[u8], limit: u8, flags: u8, table: &mut [u8]) {
+    let h = holding::hold(path, table);
+    if holding::is_held(h) {
+        add_held(path, h, name, label, limit, flags, table);
+        holding::leave(path, h);
+    }
 }
 
 // What the words behind the limit say: 1 barred, 2 may roam, 4 something else.

@@ -1,4 +1,4 @@
--- Set-up: clear a table, enter a subscriber, add an access point name (W-APN).
+-- Set-up: a table is cleared, a subscriber enters it, a subscriber gets one more access point name (W-APN).
 use mathlib.Core.Bool.{_&&_, not}
 use mathlib.Core.List.{List, [], _∷_}
 use Prim.Native.Nat.{ℕ, _+_}

@@ -29,7 +29,7 @@ fn with_place(bits: u8, k: usize) -> u8
     bits | 1 << (k - 1)
 }
 
-// The order line lists exactly the places in use, once each. Its bits are gathered, and none comes twice.
+// The order line is the places in use. Its bits are gathered, and none comes twice.
 pub fn line_exact(r: &[u8]) -> bool
     requires { ⌜ length (now r) ≡ 4608 ⌝ }
     ensures { λ x. ⌜ x ≡ lineExact (now (r .entry)) ⌝ }

@@ -101,7 +101,7 @@ fn refuse(path: &[u8], at: usize, why: Next) {
 }
 
 // Nothing is left to follow.
-fn over(w: Way, well: bool) -> Way {
+pub fn over(w: Way, well: bool) -> Way {
     Way {
         messages: w.messages,
         from: w.from,

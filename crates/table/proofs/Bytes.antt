@@ -55,7 +55,7 @@ pub length-row : (s : Subscriber) → length (rowBytes s) ≡ rowLength
 unfolding rowBytes places
 length-row s = rw (length-append, length-head, length-places (s .accesses) 8 1)
 
--- past a part of length n
+-- what stands behind a first part of length n
 
 pub drop-past : (n m : ℕ) (a b : List ℕ) → length a ≡ n → drop (n + m) (a ++ b) ≡ drop m b
 drop-past n m a b h = rw (← h) (drop-append-add a b m)
@@ -172,7 +172,7 @@ block-place s (suc i) w =
     rw (q, drop-past 512 (512 * i) (headBytes s) (placesBytes (s .accesses) (counted 1 8)) (length-head s))
     (in-places (s .accesses) (counted 1 8) i h ∙ ap (placeBytes (s .accesses)) (getD-counted 1 8 i h ∙ omega arith))
 
--- each access is readRow from its place
+-- reading the places on the order line gives back the accesses
 
 other-places : (x : Access) (a : List Access) (ks : List ℕ) → every (λ k. not (eqb (x .place) k)) ks ≡ true
     → map (λ (k : ℕ). readAccess k (placeBytes (x ∷ a) k)) ks ≡ map (λ (k : ℕ). readAccess k (placeBytes a k)) ks
@@ -240,7 +240,7 @@ front-entries s t =
     rw (drop-past 15 15 (filled (s .name) 15) _ (length-filled _ 15), drop-past 8 4 (filled (line (s .accesses)) 8) _ (length-filled _ 8), drop-past 4 0 (zeros 4) _ (length-zeros 4))
     (take-at (filled (entriesBytes (s .entries)) 416) t 416 (length-filled _ 416))
 
--- readRow behind rowBytes
+-- reading the bytes of a good subscriber gives that subscriber (`read-row`)
 
 length-line : (a : List Access) → length (line a) ≡ length a
 unfolding line
@@ -274,12 +274,12 @@ read-row s g =
     rw order (row-places s (line (s .accesses)) on ∙ read-places _ (s .accesses) (f .each) (f .places-once)) in
     λ i. record { name = name i; entries = entries i; accesses = accesses i }
 
--- the bytes of a good subscriber are so
+-- the row of a good subscriber is sound in the form that the theorems use, `saidSound`
 pub said-row : (s : Subscriber) → Good s → saidSound (rowBytes s) ≡ true
 unfolding saidSound
 said-row s g = rw (read-row s g, same-refl (rowBytes s), good-is s g)
 
--- such a row is the bytes of what it says, and that is good
+-- and a row that is sound in that form is the bytes of what it says, a good subscriber
 pub said-is : (r : List ℕ) → saidSound r ≡ true → r ≡ rowBytes (readRow r)
 unfolding saidSound
 said-is r h = same-eq r _ (and-left (same r (rowBytes (readRow r))) _ h)

@@ -19,7 +19,7 @@ unfoldable pub weighted : List ℕ → ℕ
 weighted [] = 0
 weighted (x ∷ s) = suc (length s) * x + weighted s
 
--- the remainders may be taken later
+-- whether the remainder is taken before or after a sum is the same
 later-first : (a w : ℕ) → (a % 255 + w) % 255 ≡ (a + w) % 255
 later-first a w = omega arith
 
@@ -36,9 +36,10 @@ sums-plain a b [] =
     let q : a + 0 ≡ a = omega arith in
     rw (p, q)
 sums-plain a b (x ∷ s) =
+    let step : sumsFrom (a % 255) (b % 255) (x ∷ s) ≡ sumsFrom ((a + x) % 255) ((b + (a + x)) % 255) s =
+    ap (λ (second : ℕ). sumsFrom ((a % 255 + x) % 255) second s) (later-second a b x) ∙ ap (λ (first : ℕ). sumsFrom first ((b + (a + x)) % 255) s) (later-first a x) in
     let q : a + x + sumOf s ≡ a + (x + sumOf s) = omega arith in
-    rw (later-second a b x, later-first a x)
-    (sums-plain (a + x) (b + (a + x)) s ∙ rw (shift (length s) a b x (weighted s), q))
+    step ∙ sums-plain (a + x) (b + (a + x)) s ∙ rw (shift (length s) a b x (weighted s), q)
 
 -- SUMS OVER THE FIRST NUMBERS
 
@@ -156,7 +157,7 @@ with-both x t d h = omega arith
 pub both : (x f t g n : ℕ) → x % 255 ≡ t % 255 → f % 255 ≡ g % 255 → n ≡ t + g → (x + f) % 255 ≡ n % 255
 both x f t g n h k e = with-both x t f h ∙ ap (λ (i : ℕ). i % 255) (omega arith) ∙ with-both f g t k ∙ ap (λ (i : ℕ). i % 255) (omega arith)
 
--- what is taken out again, and what is left
+-- the sums of 512 bytes with the last two, p and q, taken out again. Differences are kept above 0 by multiples of 255
 first-left : (x s p q : ℕ) → x % 255 ≡ (s + p + q) % 255 → p < 256 → q < 256 → (x + 510 - p - q) % 255 ≡ s % 255
 first-left x s p q h bp bq =
     let e : x + 510 - p - q ≡ x + (510 - p - q) = omega arith in

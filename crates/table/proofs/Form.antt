@@ -36,7 +36,7 @@ same-append [] y r = refl
 same-append (c ∷ x) y [] = refl
 same-append (c ∷ x) y (d ∷ r) = rw (same-append x y r, and-assoc)
 
--- behind x of length n
+-- compared with x and then y, where x has n bytes: the first n are x, and those behind are y
 same-past : (n : ℕ) (x y r : List ℕ) → length x ≡ n → same r (x ++ y) ≡ same (take n r) x && same (drop n r) y
 same-past n x y r h = rw (← h) (same-append x y r)
 
@@ -60,7 +60,7 @@ same-sealed x b h =
     (λ e. rw (e, same-eq (take 510 b) x e))
     (λ e. rw e)
 
--- a room holds what is readRow from it, if what is behind is zero
+-- A room is filled with the text that is read from it exactly if zeros stand behind that text (`same-room`).
 pub take-zeros : (j m : ℕ) → j ≤ m → take j (zeros m) ≡ zeros j
 unfolding zeros
 take-zeros zero m h = refl
@@ -398,7 +398,7 @@ head-form r h g =
     (omega (arith, length-read (getD (block r 0) 18 0) (part (block r 0) 32 416)))
     (g .entries-good .each)
 
--- a row is the bytes of what it says, which may be, exactly if it passes these tests
+-- these tests pass exactly if the row is the bytes of the subscriber that it says, and that is a good one (`said-tests`)
 unfoldable pub tests : List ℕ → Bool
 tests r = (headTests (block r 0) && every (placeTests r) places) && good (readRow r)
 

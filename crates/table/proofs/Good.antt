@@ -14,7 +14,7 @@ use Rattle.octets.proofs.Lists.{and-left, and-right, both, distinct-keep, every
 use Rattle.table.specs.Soundness.{isName, labels, limits, onEntry, sameLabel, sessions, underLimits}
 use Rattle.table.specs.TheTable.{Access, Entry, Subscriber, line, places, readRow, rowBytes}
 
--- WHAT A SUBSCRIBER MAY BE: the clauses of soundness that speak of contents, over what the row says.
+-- A GOOD SUBSCRIBER: the clauses of soundness that speak of contents, over the record that the row says.
 
 unfoldable pub goodEntry : Entry → Bool
 goodEntry e = within 1 100 (length (e .label)) && (leb (e .flags) 3 && within 1 8 (e .limit))
@@ -35,7 +35,7 @@ goodAccesses es a =
 unfoldable pub good : Subscriber → Bool
 good s = isName (s .name) && (goodEntries (s .entries) && goodAccesses (s .entries) (s .accesses))
 
--- A row that is the bytes of what it says, which may be. It is the paper's `sound`: `sound-is` of Sound.
+-- A row is the bytes of the subscriber that it says, and that is a good one. This is the same test as the paper's clauses, `sound`: `sound-is` of Sound.
 unfoldable pub saidSound : List ℕ → Bool
 saidSound r = same r (rowBytes (readRow r)) && good (readRow r)
 

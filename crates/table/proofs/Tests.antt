@@ -77,7 +77,7 @@ fails {x} e n = sym e ∙ not-true x n
 pub passes-on : {x y : Bool} → x ≡ y → not x ≡ false → y ≡ true
 passes-on {x} e n = sym e ∙ not-false x n
 
--- the first of two fails, or the second: what stands behind them does not count
+-- where one of the first two tests fails, the third does not matter
 pub both-fail : (a b c : Bool) → a && b ≡ false → a && (b && c) ≡ false
 both-fail true b c e = rw e
 both-fail false b c e = refl
@@ -114,7 +114,7 @@ unfolding headForm
 head-last b e1 e2 e3 e4 e5 e6 =
     rw (e1, and-left (isName (part b 2 (getD b 1 0))) _ e2, and-right (isName (part b 2 (getD b 1 0))) _ e2, e3, e4, e5, e6)
 
--- what a block 0 of this form shows, refuted
+-- block 0 has not its form, if what the form would show is refuted
 pub not-head : (b : List ℕ) → (Headed b → isName (part b 2 (getD b 1 0)) && zeroBehind (getD b 1 0) (part b 2 15) ≡ true → getD b 18 0 ≤ 4 → ⊥) → false ≡ headForm b
 not-head b h =
     by-test (headForm b)

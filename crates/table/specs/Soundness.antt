@@ -70,8 +70,8 @@ sumsAgree r k = same (part (block r k) 510 2) (sums (take 510 (block r k)))
 
 -- THE CONTENTS
 
--- The order line lists exactly the places in use, once each: its numbers are places, all differ, and byte 17 has
--- exactly their bits.
+-- The order line is the places in use, none left out and none twice: its numbers are places, all differ, and byte 17 is
+-- the number with just their bits.
 unfoldable pub lineExact : List ℕ → Bool
 lineExact r =
     every (within 1 8) (orderLine r) && (distinct eqb (orderLine r) && eqb (getD (block r 0) 17 0) (usedBits (orderLine r)))
@@ -98,15 +98,15 @@ unfoldable pub underLimits : ℕ → List ℕ → List Access → Bool
 underLimits n [] a = true
 underLimits n (l ∷ ls) a = leb (length (onEntry n a)) l && underLimits (suc n) ls a
 
--- Byte 5 is 1 or more exactly if byte 4 is 1.
+-- The mark of a policy, byte 4, is 1 where the policy has bytes (its length is byte 5), and 0 where it has none.
 unfoldable pub policyMarked : List ℕ → ℕ → Bool
 policyMarked r k = eqb (getD (block r k) 4 0) (pick (leb 1 (getD (block r k) 5 0)) 1 0)
 
 -- A ROW IS SOUND
 
--- It has this form; all nine sums agree; the order line lists exactly the places in use, once each; labels differ;
--- limits sum to at most 8; no Session-Id stands twice; each access names an entry that exists; no entry has more
--- accesses than its limit; and byte 5 is 1 or more exactly if byte 4 is 1.
+-- The bytes have the form above, and the sums of each block are those of its bytes. Then what they say has to hold together: the
+-- line is the places in use; no two labels are the same, and the limits come to 8 or less; no two accesses have one
+-- Session-Id, the entry of each is there, and no entry has more of them than its limit allows; and a policy is marked where it has bytes.
 unfoldable pub sound : List ℕ → Bool
 sound r =
     let says : Subscriber = readRow r in

@@ -10,8 +10,8 @@ use Rattle.octets.specs.Texts.{part, zeros, filled, same, put}
 
 -- THE SUMS
 
--- Fletcher-16. Both sums start at 0; each byte is added to the first, then the first to the second, all modulo 255.
--- The second stands before the first.
+-- Fletcher-16: two remainders by 255, 0 to begin with. Each byte goes into the first, and what the first then is into the
+-- second. The second stands before the first.
 unfoldable pub sumsFrom : ℕ → ℕ → List ℕ → List ℕ
 sumsFrom first second [] = second ∷ first ∷ []
 sumsFrom first second (b ∷ bs) = sumsFrom ((first + b) % 255) ((second + (first + b) % 255) % 255) bs

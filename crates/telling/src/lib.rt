@@ -1,7 +1,8 @@
-// What a call did, in words: the code and its name, the place, who was cut; and the order line that it left.
+// What a call did, in words: the code and its name, why it is no success, the place, who was cut; and the order line that it left.
 use carrying::Cut;
 use decision::Outcome;
 use message::Kind;
+use reasons::Why;
 use words::number;
 use words::say;
 use words::text;
@@ -15,6 +16,11 @@ pub fn ask(
     notice: &mut [u8; 256],
 ) -> Outcome {
     decision::handle(table, b"wm.example", b"example", m, wag, answer, notice)
+}
+
+// Why `ask` answers a request as it does, asked before it.
+pub fn why(table: &[u8], m: &[u8], wag: bool, answer: &[u8; 5120], notice: &[u8; 256]) -> Why {
+    reasons::first_failed(table, b"wm.example", b"example", m, wag, answer, notice)
 }
 
 // A code by its number and its name.
@@ -66,15 +72,16 @@ fn cut(out: &mut [u8; 4096], at: usize, notice: &[u8], session: usize, host: usi
     text(out, c, &notice[128..e])
 }
 
-// The code and its name, the place, who was cut.
-pub fn outcome(out: &mut [u8; 4096], at: usize, o: Outcome, notice: &[u8; 256]) -> usize {
+// The code and its name, why it is no success, the place, who was cut.
+pub fn outcome(out: &mut [u8; 4096], at: usize, o: Outcome, why: Why, notice: &[u8; 256]) -> usize {
     let kind = o.kind;
     let a = code(out, at, kind, o.code);
-    let b = place(out, a, o.place);
+    let b = explaining::why(out, a, why);
+    let c = place(out, b, o.place);
     let what = o.cut;
     match what {
-        Cut::NoCut => b,
-        Cut::Lengths(session, host) => cut(out, b, notice, session, host),
+        Cut::NoCut => c,
+        Cut::Lengths(session, host) => cut(out, c, notice, session, host),
     }
 }
 

@@ -89,8 +89,8 @@ pub fn progress(done: usize, all: usize) {
     files::note(&out, e);
 }
 
-// What was done, in a line.
-pub fn summary(t: Totals) {
+// What was done, in a line; whether it could be said.
+pub fn summary(t: Totals) -> bool {
     let mut out = [0u8; 4096];
     let a = number(&mut out, 0, t.messages as u64);
     let b = say(&mut out, a, b" messages, ");
@@ -100,5 +100,5 @@ pub fn summary(t: Totals) {
     let f = say(&mut out, e, b" without an answer; cuts: ");
     let g = number(&mut out, f, t.cuts as u64);
     let h = say(&mut out, g, b"\n");
-    files::print(&out, h);
+    files::print(&out, h)
 }

@@ -1,7 +1,7 @@
 // What the tool can do.
 
 fn line(text: &[u8]) {
-    io::write_all(1, text);
+    files::put(text);
 }
 
 // The commands that set a table up and show it.

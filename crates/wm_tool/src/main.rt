@@ -48,7 +48,39 @@ fn run(word: &[u8], table: &mut [u8; 4718593]) {
     );
 }
 
+// Whether a word fits the room that words are read to. One that does not would be read as an empty one.
+fn is_whole(i: usize) -> bool {
+    if os::arg_count() <= i {
+        return true;
+    }
+    let mut word = io::buffer();
+    os::arg(i, &mut word);
+    if os::errno() != libc::ENAMETOOLONG {
+        return true;
+    }
+    files::refuse(b"a word is over 4,096 bytes");
+    false
+}
+
+// The words that a command may have, all of them.
+fn are_whole() -> bool {
+    let mut i: usize = 1;
+    while i < 8 {
+        if !is_whole(i) {
+            return false;
+        }
+        i += 1;
+    }
+    true
+}
+
 fn main() {
+    if !files::is_heard() {
+        return;
+    }
+    if !are_whole() {
+        return;
+    }
     if os::arg_count() < 2 {
         example::play();
         return;

@@ -11,6 +11,38 @@ use Rattle.answers.proofs.Writing.{session-most, auth-most, result-most
 use Rattle.answers.proofs.answer.Statement.{statement}
 use Rattle.answers.proofs.answer.Tie as tie
 
+-- what stands in the room comes before the bounds: a wrong answer is refused here
+returns : tie.Need-returns
+unfolding answerBody
+returns c =
+    let s = c .before .before .before .before .before .before .before .before .before .before .before .before .before .before .before .before .before .before .before .before .before .before .before .before .before .before .before .before .before .before .before .before .before .before .before .before in
+    let a = s .args in
+    let m = a .m .now in
+    let host = a .host .now in
+    let realm = a .realm .now in
+    let room = a .room .now in
+    let k = a .kind in
+    let n = a .code in
+    let w1 = c .before .before .before .before .before .before .before .before .before .before .before .before .before .before .before .before .before .before .before .before .before .before .before .before .before .before .before .before .before .before .put-session in
+    let w2 = c .before .before .before .before .before .before .before .before .before .before .before .before .before .before .before .before .before .before .before .before .before .before .before .before .before .before .put-auth in
+    let w3 = c .before .before .before .before .before .before .before .before .before .before .before .before .before .before .before .before .before .before .before .before .before .before .put-result in
+    let w4 = c .before .before .before .before .before .before .before .before .before .before .before .before .before .before .before .before .before .before .put-avp in
+    let w5 = c .before .before .before .before .before .before .before .before .before .before .before .before .before .before .put-avp2 in
+    let w6 = c .before .before .before .before .before .before .before .before .before .before .put-subscription in
+    let w7 = c .before .before .before .before .before .before .put-proxies in
+    let fits = answerable-fits m host realm k n (a .user) (a .proxies) room (s .pre) in
+    let all =
+    written-seven room (w1 .last .1 .0) (w2 .last .1 .1 .0) (w3 .last .1 .1 .0) (w4 .last .0) (w5 .last .0) (w6 .last .1 .1 .1 .0) (w7 .last .1 .1 .0)
+    20 (w1 .result) (w2 .result) (w3 .result) (w4 .result) (w5 .result) (w6 .result) (w7 .result)
+    (sessionAvp m) (authAvps m (codeFrom k n)) (resultAvp (codeFrom k n)) (avpBytes 264 host) (avpBytes 296 realm) (subscriptionAvp m (codeFrom k n))
+    (proxyAvps m)
+    (w1 .ensures) (rw (auth-from m k n) at (w2 .ensures)) (w3 .ensures) (w4 .ensures) (w5 .ensures) (rw (subscription-from m k n) at (w6 .ensures))
+    (w7 .ensures)
+    (omega (arith, fits, length-body m host realm (codeFrom k n))) in
+    answer-put m host realm (codeFrom k n) room (w7 .last .1 .1 .0) (c .before .before .put-header .last .1 .1 .1 .0) (w7 .result) (s .pre .least)
+    fits all
+    (c .before .before .put-header .ensures ∙ ap (put (w7 .last .1 .1 .0) 0) (head-from m k n (w7 .result)))
+
 one : (p : tie.After-put-session) → (p .put-session .result ≤ 156) × (length (p .put-session .last .1 .0) ≡ length (p .before .before .before .before .before .before .args .room .now))
 one p = (omega (arith, p .put-session .ensures .place, session-most (p .before .before .before .before .before .before .args .m .now)), p .put-session .kept .1 .0)
 
@@ -102,37 +134,6 @@ same-length : tie.Need-same-length
 same-length c =
     c .before .before .put-header .kept .1 .1 .1 .0 ∙ c .before .before .before .before .before .before .put-proxies .kept .1 .1 .0
     ∙ (six (c .before .before .before .before .before .before .before .before .before .before)) .1
-
-returns : tie.Need-returns
-unfolding answerBody
-returns c =
-    let s = c .before .before .before .before .before .before .before .before .before .before .before .before .before .before .before .before .before .before .before .before .before .before .before .before .before .before .before .before .before .before .before .before .before .before .before .before in
-    let a = s .args in
-    let m = a .m .now in
-    let host = a .host .now in
-    let realm = a .realm .now in
-    let room = a .room .now in
-    let k = a .kind in
-    let n = a .code in
-    let w1 = c .before .before .before .before .before .before .before .before .before .before .before .before .before .before .before .before .before .before .before .before .before .before .before .before .before .before .before .before .before .before .put-session in
-    let w2 = c .before .before .before .before .before .before .before .before .before .before .before .before .before .before .before .before .before .before .before .before .before .before .before .before .before .before .put-auth in
-    let w3 = c .before .before .before .before .before .before .before .before .before .before .before .before .before .before .before .before .before .before .before .before .before .before .put-result in
-    let w4 = c .before .before .before .before .before .before .before .before .before .before .before .before .before .before .before .before .before .before .put-avp in
-    let w5 = c .before .before .before .before .before .before .before .before .before .before .before .before .before .before .put-avp2 in
-    let w6 = c .before .before .before .before .before .before .before .before .before .before .put-subscription in
-    let w7 = c .before .before .before .before .before .before .put-proxies in
-    let fits = answerable-fits m host realm k n (a .user) (a .proxies) room (s .pre) in
-    let all =
-    written-seven room (w1 .last .1 .0) (w2 .last .1 .1 .0) (w3 .last .1 .1 .0) (w4 .last .0) (w5 .last .0) (w6 .last .1 .1 .1 .0) (w7 .last .1 .1 .0)
-    20 (w1 .result) (w2 .result) (w3 .result) (w4 .result) (w5 .result) (w6 .result) (w7 .result)
-    (sessionAvp m) (authAvps m (codeFrom k n)) (resultAvp (codeFrom k n)) (avpBytes 264 host) (avpBytes 296 realm) (subscriptionAvp m (codeFrom k n))
-    (proxyAvps m)
-    (w1 .ensures) (rw (auth-from m k n) at (w2 .ensures)) (w3 .ensures) (w4 .ensures) (w5 .ensures) (rw (subscription-from m k n) at (w6 .ensures))
-    (w7 .ensures)
-    (omega (arith, fits, length-body m host realm (codeFrom k n))) in
-    answer-put m host realm (codeFrom k n) room (w7 .last .1 .1 .0) (c .before .before .put-header .last .1 .1 .1 .0) (w7 .result) (s .pre .least)
-    fits all
-    (c .before .before .put-header .ensures ∙ ap (put (w7 .last .1 .1 .0) 0) (head-from m k n (w7 .result)))
 
 pub answer-spec : {M : Type 1} → statement M
 answer-spec =

@@ -71,26 +71,7 @@ part-put-avp-start c = search needs
 part-put-avp-end : tie.Need-part-put-avp-end
 part-put-avp-end c = omega (arith, (named (c .before .before .before .before .before .before .before .before .before)) .inside)
 
-put-avp-requires : tie.Need-put-avp-requires
-put-avp-requires c κs =
-    let u = c .before .before .before .before .before .before .before .before .before .before .before .before .before .before .before .args .user in
-    let m = c .before .before .before .before .before .before .before .before .before .before .before .before .before .before .before .args .m .now in
-    let e : u .at + u .len - u .at ≡ u .len = omega arith in
-    let l = length-part m (u .at) (u .len) ((named (c .before .before .before .before .before .before .before .before .before .before)) .inside) in
-    rw e (omega (
-      arith,
-      l,
-      short (c .before .before .before .before .before .before .before .before .before .before),
-      c .before .before .before .before .put-number .ensures .place,
-      length-number 450 1,
-      c .before .before .before .before .put-number .kept .0,
-      c .before .before .before .before .before .before .before .before .put-head .kept .0,
-      c .before .before .before .before .before .before .before .before .before .before .before .before .before .before .before .pre .1,
-    ))
-
-same-length : tie.Need-same-length
-same-length c = search needs
-
+-- before what `put_avp` asks: a wrong number inside the group is refused here, and not at a bound
 returns-3 : tie.Need-returns-3
 unfolding up4
 returns-3 c =
@@ -118,6 +99,26 @@ returns-3 c =
       h .kept .0,
       c .before .before .before .before .before .before .before .before .before .before .before .before .before .before .before .before .before .before .pre .1,
     ))))
+
+put-avp-requires : tie.Need-put-avp-requires
+put-avp-requires c κs =
+    let u = c .before .before .before .before .before .before .before .before .before .before .before .before .before .before .before .args .user in
+    let m = c .before .before .before .before .before .before .before .before .before .before .before .before .before .before .before .args .m .now in
+    let e : u .at + u .len - u .at ≡ u .len = omega arith in
+    let l = length-part m (u .at) (u .len) ((named (c .before .before .before .before .before .before .before .before .before .before)) .inside) in
+    rw e (omega (
+      arith,
+      l,
+      short (c .before .before .before .before .before .before .before .before .before .before),
+      c .before .before .before .before .put-number .ensures .place,
+      length-number 450 1,
+      c .before .before .before .before .put-number .kept .0,
+      c .before .before .before .before .before .before .before .before .put-head .kept .0,
+      c .before .before .before .before .before .before .before .before .before .before .before .before .before .before .before .pre .1,
+    ))
+
+same-length : tie.Need-same-length
+same-length c = search needs
 
 pub put-subscription-spec : {M : Type 1} → statement M
 put-subscription-spec =

@@ -1,4 +1,4 @@
--- What is left to test is the same test; the part lent is the block.
+-- The invariant: the test of what is left has the answer of the whole test; the part lent is the block.
 use mathlib.Core.Path.{_∙_, _≡_, sym}
 use mathlib.Core.List.{_∷_}
 use Prim.Native.Nat.{_-_, _*_, _≤_}

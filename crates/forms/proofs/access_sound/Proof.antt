@@ -4,7 +4,7 @@ use mathlib.Core.Bool.{false, true}
 use lib.ListN.{getD}
 use lib.Dec.{eqb, leb}
 use borrow.Author.Needs.{needs}
-use Rattle.octets.specs.Choice.{pick}
+use Rattle.octets.specs.Choice.{pick, within}
 use Rattle.forms.specs.RowTests.{accessSound}
 use Rattle.table.proofs.Tests.{fails, passes-on}
 use Rattle.table.proofs.Form.{access-form}
@@ -58,7 +58,8 @@ returns-3 c =
     let is-within-was = c .before .is-within in
     let test3 = c .if3 in
     let marked : eqb (getD (given .b .now) 4 0) (pick (leb 1 (getD (given .b .now) 5 0)) 1 0) ≡ true = passes-on (policy-marked-was .ensures) (test2 .left) in
-    rw (passes-on (access-form-was .ensures) (test1 .left), marked, fails (is-within-was .ensures) (test3 .taken))
+    let entry : within 1 (given .n) (getD (given .b .now) 1 0) ≡ false = fails (is-within-was .ensures) (test3 .taken) in
+    rw (passes-on (access-form-was .ensures) (test1 .left), marked, entry)
 
 block-sums-agree-requires : tie.Need-block-sums-agree-requires
 block-sums-agree-requires c κs = search needs
@@ -75,7 +76,8 @@ returns-4 c =
     let test3 = c .before .if3 in
     let block-sums-agree-was = c .block-sums-agree in
     let marked : eqb (getD (given .b .now) 4 0) (pick (leb 1 (getD (given .b .now) 5 0)) 1 0) ≡ true = passes-on (policy-marked-was .ensures) (test2 .left) in
-    rw (passes-on (access-form-was .ensures) (test1 .left), marked, passes-on (is-within-was .ensures) (test3 .left)) (block-sums-agree-was .ensures)
+    let entry : within 1 (given .n) (getD (given .b .now) 1 0) ≡ true = passes-on (is-within-was .ensures) (test3 .left) in
+    rw (passes-on (access-form-was .ensures) (test1 .left), marked, entry) (block-sums-agree-was .ensures)
 
 pub access-sound-spec : {M : Type 1} → statement M
 access-sound-spec =

@@ -1,4 +1,4 @@
--- What is left to test is the same test.
+-- The invariant: the test of what is left has the answer of the whole test.
 use mathlib.Core.Path.{_∙_, _≡_, sym}
 use mathlib.Core.Bool.{false, not, true}
 use mathlib.Core.List.{List, []}
@@ -26,6 +26,17 @@ loop-holds c = search needs
 label-once-requires : tie.Need-label-once-requires Inv-loop μ-loop
 label-once-requires c κs = search needs
 
+-- the way on comes before the way out, so that what is passed wrongly is refused here
+loop-again : tie.Need-loop-again Inv-loop μ-loop
+loop-again c =
+    let given = c .before .before .before .before .before .args in
+    let loop-was = c .before .before .before .loop in
+    let label-once-was = c .before .label-once in
+    let test1 = c .if1 in
+    let all : List (List ℕ) = labels (readEntries (given .n) (given .room .now)) in
+    let said : every (λ y. not (sameLabel (getD all (loop-was .i) []) y)) (drop (loop-was .i + 1) all) ≡ true = passes-on (label-once-was .ensures) (test1 .left) in
+    (omega arith, sym (distinct-turn [] sameLabel all (loop-was .i) (omega (arith, length-labels (given .n) (given .room .now))) ∙ rw said) ∙ loop-was .inv .1)
+
 returns : tie.Need-returns Inv-loop μ-loop
 returns c =
     let given = c .before .before .before .before .before .args in
@@ -41,16 +52,6 @@ add-i c = search needs
 
 loop-less : tie.Need-loop-less Inv-loop μ-loop
 loop-less c = search needs
-
-loop-again : tie.Need-loop-again Inv-loop μ-loop
-loop-again c =
-    let given = c .before .before .before .before .before .args in
-    let loop-was = c .before .before .before .loop in
-    let label-once-was = c .before .label-once in
-    let test1 = c .if1 in
-    let all : List (List ℕ) = labels (readEntries (given .n) (given .room .now)) in
-    let said : every (λ y. not (sameLabel (getD all (loop-was .i) []) y)) (drop (loop-was .i + 1) all) ≡ true = passes-on (label-once-was .ensures) (test1 .left) in
-    (omega arith, sym (distinct-turn [] sameLabel all (loop-was .i) (omega (arith, length-labels (given .n) (given .room .now))) ∙ rw said) ∙ loop-was .inv .1)
 
 returns-2 : tie.Need-returns-2 Inv-loop μ-loop
 returns-2 c =

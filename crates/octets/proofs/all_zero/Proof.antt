@@ -1,4 +1,4 @@
--- What has been gathered and the rest give the same answer: `zero-first`, `zero-turn`, `zero-last` of Words.
+-- The invariant: all bytes are zero exactly if the bits gathered so far are none, and the rest from i on is zero: `zero-first`, `zero-turn`, `zero-last` of Words.
 use mathlib.Core.Path.{_≡_, sym, _∙_}
 use Prim.Native.Nat.{_+_, _-_, _/_, _≤_}
 use native.Mathlib.Omega.{arith}

@@ -1,4 +1,4 @@
--- The rest of the two texts being the same stays the same answer.
+-- The invariant: whether the rests from i on are the same is whether the whole texts are.
 use Rattle.octets.specs.Texts.{same}
 use Rattle.octets.proofs.Texts.{same-step, same-differ, same-end}
 use mathlib.Core.Path.{_≡_, sym, _∙_}

@@ -1,4 +1,4 @@
--- The loop keeps the largest byte; that it is zero and the rest is zero stays the same answer.
+-- The loop keeps the largest byte. The invariant: all bytes are zero exactly if the largest so far is, and the rest from i on.
 use mathlib.Core.Logic.{⊎-elim}
 use mathlib.Core.Bool.{_&&_, true, and-true}
 use lib.Dec.{eqb}

@@ -44,7 +44,7 @@ unfolding textField bytesField nameAt names
 three p =
     let m = p .before .before .before .before .before .before .before .before .before .before .before .before .args .m .now in
     two (p .before .before .before .before) ∙ go-on m (textField userName true) (behind3 (avps m)) (p .before .before .before .text-field2 .result)
-    (p .before .g3 .given .0 .0) (p .before .before .before .text-field2 .ensures true) (p .before .g3 .given .1)
+    (p .before .name .given .0 .0) (p .before .before .before .text-field2 .ensures true) (p .before .name .given .1)
 
 number-field-requires : tie.Need-number-field-requires
 number-field-requires c κs = search needs
@@ -83,8 +83,8 @@ returns-2 c =
 text-field-requires-2 : tie.Need-text-field-requires-2
 text-field-requires-2 c κs = search needs
 
-enum-known-g3 : tie.Need-enum-known-g3
-enum-known-g3 c = search needs
+enum-known-name : tie.Need-enum-known-name
+enum-known-name c = search needs
 
 refusal-requires-3 : tie.Need-refusal-requires-3
 refusal-requires-3 c κs = search needs
@@ -100,8 +100,8 @@ returns-3 c =
 text-field-requires-3 : tie.Need-text-field-requires-3
 text-field-requires-3 c κs = search needs
 
-enum-known-g4 : tie.Need-enum-known-g4
-enum-known-g4 c = search needs
+enum-known-apn : tie.Need-enum-known-apn
+enum-known-apn c = search needs
 
 refusal-requires-4 : tie.Need-refusal-requires-4
 refusal-requires-4 c κs = search needs
@@ -119,15 +119,15 @@ unfolding labelField bytesField nameAt names firstOf
 returns-5 c =
     let a = c .before .before .before .before .before .before .before .before .before .before .before .before .before .before .before .before .args in
     let m = a .m .now in
-    let label = c .before .g4 .given .0 .0 in
-    let user = c .before .before .before .before .before .g3 .given .0 .0 in
+    let label = c .before .apn .given .0 .0 in
+    let user = c .before .before .before .before .before .name .given .0 .0 in
     told-termination m user (a .session) label
     (c .before .before .before .before .before .before .before .text-field2 .ensures true .found user
-    (c .before .before .before .before .before .g3 .given .1))
+    (c .before .before .before .before .before .name .given .1))
     (c .before .before .before .before .before .before .before .before .before .before .before .before .before .before .before .before .pre .1)
-    (c .before .before .before .text-field3 .ensures true .found label (c .before .g4 .given .1))
+    (c .before .before .before .text-field3 .ensures true .found label (c .before .apn .given .1))
     (three (c .before .before .before .before) ∙ go-on m (labelField wlanApnId true) [] (c .before .before .before .text-field3 .result) label
-    (c .before .before .before .text-field3 .ensures true) (c .before .g4 .given .1))
+    (c .before .before .before .text-field3 .ensures true) (c .before .apn .given .1))
 
 pub list-275-spec : {M : Type 1} → statement M
 list-275-spec =
@@ -142,11 +142,11 @@ list-275-spec =
     refusal-requires-2
     returns-2
     text-field-requires-2
-    enum-known-g3
+    enum-known-name
     refusal-requires-3
     returns-3
     text-field-requires-3
-    enum-known-g4
+    enum-known-apn
     refusal-requires-4
     returns-4
     returns-5)

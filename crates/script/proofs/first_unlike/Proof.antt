@@ -1,4 +1,4 @@
--- i and what is left to the first difference are the index of the first difference.
+-- The invariant: i and the index of the first difference in the rests from i on make the index of the first difference.
 use Rattle.script.specs.TheScript.{unlike}
 use Rattle.script.proofs.Steps.{unlike-step, unlike-differ, unlike-end}
 use mathlib.Core.Path.{_≡_}

@@ -6,10 +6,11 @@ use Rattle.serving.proofs.serve_all.Statement.{statement}
 use Rattle.serving.proofs.serve_all.Tie as tie
 
 abbrev Inv-loop : tie.InvT-loop
-Inv-loop d table₀ all t₀ left₀ table t left = length table ≡ length table₀
+Inv-loop d requests answers notices table₀ all t₀ left₀ table t left =
+    length table ≡ length table₀
 
 abbrev μ-loop : tie.MeasureT-loop
-μ-loop d table₀ all t₀ left₀ table t left = left
+μ-loop d requests answers notices table₀ all t₀ left₀ table t left = left
 
 none-requires : tie.Need-none-requires Inv-loop μ-loop
 none-requires c κs = search needs
@@ -23,6 +24,12 @@ sub-left c = search needs
 turn-requires : tie.Need-turn-requires Inv-loop μ-loop
 turn-requires c κs = search needs
 
+same-length : tie.Need-same-length Inv-loop μ-loop
+same-length c = search needs
+
+returns : tie.Need-returns Inv-loop μ-loop
+returns c = search needs
+
 progress-requires : tie.Need-progress-requires Inv-loop μ-loop
 progress-requires c κs = search needs
 
@@ -32,11 +39,11 @@ loop-less c = search needs
 loop-again : tie.Need-loop-again Inv-loop μ-loop
 loop-again c = search needs
 
-same-length : tie.Need-same-length Inv-loop μ-loop
-same-length c = search needs
+same-length-2 : tie.Need-same-length-2 Inv-loop μ-loop
+same-length-2 c = search needs
 
-returns : tie.Need-returns Inv-loop μ-loop
-returns c = search needs
+returns-2 : tie.Need-returns-2 Inv-loop μ-loop
+returns-2 c = search needs
 
 pub serve-all-spec : {M : Type 1} → statement M
 serve-all-spec =
@@ -48,8 +55,10 @@ serve-all-spec =
     loop-holds
     sub-left
     turn-requires
+    same-length
+    returns
     progress-requires
     loop-less
     loop-again
-    same-length
-    returns)
+    same-length-2
+    returns-2)

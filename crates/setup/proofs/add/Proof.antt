@@ -59,6 +59,19 @@ part-entry-number-end c = omega (arith, c .before .before .before .before .looku
 entry-number-requires : tie.Need-entry-number-requires
 entry-number-requires c κs = search needs
 
+-- the way that writes comes before the one that refuses, so that writing in spite of a number is refused here
+returns-4 : tie.Need-returns-4
+returns-4 c = let start = c .before .before .before .before .before .before .before .before .before .before .before .before .before .before .before .before .before .before .before in
+    let t = start .args .table .now in
+    let i = c .before .before .before .before .before .before .before .before .before .i .given .0 .0 in
+    let e : Entry = record { label = start .args .label .now; flags = start .args .flags; limit = start .args .limit } in
+    let number = c .before .before .before .before .before .entry-number in
+    add-done t (start .args .name .now) e i (number .result) (c .before .before .add-entry .last .0) (sym (c .before .before .before .before .before .before .before .before .before .before .before .before .before .before .table-number .ensures) ∙ c .before .before .before .before .before .before .before .before .before .before .before .before .before .if1 .left)
+    (sym (c .before .before .before .before .before .before .before .before .before .before .before .lookup .ensures .0) ∙ ap found (c .before .before .before .before .before .before .before .before .before .i .given .1))
+    (number .ensures ∙ ap (λ (r : List ℕ). entryNumber r e) (lent-row t (4608 * i) i refl))
+    (c .before .before .before .before .if2 .left)
+    (c .before .before .add-entry .ensures)
+
 same-length-3 : tie.Need-same-length-3
 same-length-3 c = search needs
 
@@ -85,18 +98,6 @@ add-entry-requires c κs = let start = c .before .before .before .before .before
 
 same-length-4 : tie.Need-same-length-4
 same-length-4 c = search needs
-
-returns-4 : tie.Need-returns-4
-returns-4 c = let start = c .before .before .before .before .before .before .before .before .before .before .before .before .before .before .before .before .before .before .before in
-    let t = start .args .table .now in
-    let i = c .before .before .before .before .before .before .before .before .before .i .given .0 .0 in
-    let e : Entry = record { label = start .args .label .now; flags = start .args .flags; limit = start .args .limit } in
-    let number = c .before .before .before .before .before .entry-number in
-    add-done t (start .args .name .now) e i (number .result) (c .before .before .add-entry .last .0) (sym (c .before .before .before .before .before .before .before .before .before .before .before .before .before .before .table-number .ensures) ∙ c .before .before .before .before .before .before .before .before .before .before .before .before .before .if1 .left)
-    (sym (c .before .before .before .before .before .before .before .before .before .before .before .lookup .ensures .0) ∙ ap found (c .before .before .before .before .before .before .before .before .before .i .given .1))
-    (number .ensures ∙ ap (λ (r : List ℕ). entryNumber r e) (lent-row t (4608 * i) i refl))
-    (c .before .before .before .before .if2 .left)
-    (c .before .before .add-entry .ensures)
 
 pub add-spec : {M : Type 1} → statement M
 add-spec =

@@ -1,4 +1,4 @@
--- The row that is lent comes back: `back-row` of Rows.
+-- Row i of the table is lent and changed; when it has come back, the table is as it was but for that row: `back-row` of Rows.
 use Prim.Native.Nat.{_-_}
 use borrow.Author.Needs.{needs}
 use Rattle.changes.specs.Changes.{named}

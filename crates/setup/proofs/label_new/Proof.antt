@@ -1,4 +1,4 @@
--- What is left to test is the same test; the part lent is the label: `label-lent` of the table's Entries.
+-- The invariant: the test of what is left has the answer of the whole test; the part lent is the label: `label-lent` of the table's Entries.
 use mathlib.Core.Bool.{not}
 use mathlib.Core.Path.{_≡_, sym, ap, _∙_}
 use mathlib.Core.List.{List, []}

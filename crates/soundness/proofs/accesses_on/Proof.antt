@@ -1,4 +1,4 @@
--- The accesses counted and those on the rest of the line are all on the entry: `keep-hit` and `keep-miss` of Accesses.
+-- The invariant: those counted so far and those on the rest of the line make the number of accesses on the entry: `keep-hit` and `keep-miss` of Accesses.
 use mathlib.Core.Path.{_∙_, _≡_}
 use mathlib.Core.Logic.{⊎-elim}
 use Prim.Native.Nat.{_+_, _-_, _<_, _≤_}

@@ -66,6 +66,21 @@ in-use-requires c κs =
     let long-was = c .before .long in
     (omega (arith, line-low (given .r .now) (loop-was .i) pre-was (omega arith), long-was .ensures .0), omega arith)
 
+-- the way on comes before the way out, so that what is passed wrongly is refused here
+loop-again : tie.Need-loop-again Inv-loop μ-loop
+loop-again c =
+    let given = c .before .before .before .before .before .before .before .before .before .before .before .args in
+    let loop-was = c .before .before .before .before .before .before .before .loop in
+    let long-was = c .before .before .before .before .long in
+    let pre-was = c .before .before .before .before .before .before .before .before .before .before .before .pre in
+    let with-place-was = c .with-place in
+    let in-use-was = c .before .before .in-use in
+    let test2 = c .before .if2 in
+    let this : getD (orderLine (given .r .now)) (loop-was .i) 0 ≡ long-was .result = line-at (given .r .now) (loop-was .i) pre-was (omega arith) ∙ sym (long-was .ensures .0) in
+    let low : 1 ≤ long-was .result = omega (arith, line-low (given .r .now) (loop-was .i) pre-was (omega arith), long-was .ensures .0) in
+    let next = line-turn (orderLine (given .r .now)) (loop-was .i) (loop-was .used) (with-place-was .result) (omega arith) (rw this low) (omega arith) (loop-was .inv .3) (rw this (sym (in-use-was .ensures) ∙ test2 .left)) (rw this (with-place-was .ensures)) (loop-was .inv .4) (loop-was .inv .5) in
+    (omega arith, loop-was .inv .1, omega arith, next .0, next .1, next .2)
+
 returns-2 : tie.Need-returns-2 Inv-loop μ-loop
 returns-2 c =
     let given = c .before .before .before .before .before .before .before .before .before .before .args in
@@ -95,20 +110,6 @@ add-i c = search needs
 
 loop-less : tie.Need-loop-less Inv-loop μ-loop
 loop-less c = search needs
-
-loop-again : tie.Need-loop-again Inv-loop μ-loop
-loop-again c =
-    let given = c .before .before .before .before .before .before .before .before .before .before .before .args in
-    let loop-was = c .before .before .before .before .before .before .before .loop in
-    let long-was = c .before .before .before .before .long in
-    let pre-was = c .before .before .before .before .before .before .before .before .before .before .before .pre in
-    let with-place-was = c .with-place in
-    let in-use-was = c .before .before .in-use in
-    let test2 = c .before .if2 in
-    let this : getD (orderLine (given .r .now)) (loop-was .i) 0 ≡ long-was .result = line-at (given .r .now) (loop-was .i) pre-was (omega arith) ∙ sym (long-was .ensures .0) in
-    let low : 1 ≤ long-was .result = omega (arith, line-low (given .r .now) (loop-was .i) pre-was (omega arith), long-was .ensures .0) in
-    let next = line-turn (orderLine (given .r .now)) (loop-was .i) (loop-was .used) (with-place-was .result) (omega arith) (rw this low) (omega arith) (loop-was .inv .3) (rw this (sym (in-use-was .ensures) ∙ test2 .left)) (rw this (with-place-was .ensures)) (loop-was .inv .4) (loop-was .inv .5) in
-    (omega arith, loop-was .inv .1, omega arith, next .0, next .1, next .2)
 
 shared-slice-read-result : tie.Need-shared-slice-read-result Inv-loop μ-loop
 shared-slice-read-result c = search needs

@@ -1,4 +1,4 @@
--- What is left to test is the same test; the parts lent are the Session-Ids: `session-lent` of Accesses.
+-- The invariant: the test of what is left has the answer of the whole test; the parts lent are the Session-Ids: `session-lent` of Accesses.
 use mathlib.Core.Path.{_∙_, _≡_, ap, sym}
 use mathlib.Core.Bool.{not}
 use mathlib.Core.List.{List, []}

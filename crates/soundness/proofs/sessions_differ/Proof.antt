@@ -1,4 +1,4 @@
--- What is left to test is the same test.
+-- The invariant: the test of what is left has the answer of the whole test.
 use mathlib.Core.Path.{_∙_, _≡_, sym}
 use mathlib.Core.Bool.{false, not, true}
 use mathlib.Core.List.{List, []}
@@ -33,6 +33,18 @@ session-once-requires c κs =
     let accesses-in-use-was = c .before .before .accesses-in-use in
     (pre-was .0, pre-was .1, accesses-in-use-was .ensures .0, omega arith)
 
+-- the way on comes before the way out, so that what is passed wrongly is refused here
+loop-again : tie.Need-loop-again Inv-loop μ-loop
+loop-again c =
+    let given = c .before .before .before .before .before .before .args in
+    let loop-was = c .before .before .before .loop in
+    let session-once-was = c .before .session-once in
+    let test1 = c .if1 in
+    let accesses-in-use-was = c .before .before .before .before .accesses-in-use in
+    let all : List (List ℕ) = sessions ((readRow (given .r .now)) .accesses) in
+    let said : every (λ y. not (same (getD all (loop-was .i) []) y)) (drop (loop-was .i + 1) all) ≡ true = passes-on (session-once-was .ensures) (test1 .left) in
+    (omega arith, sym (distinct-turn [] same all (loop-was .i) (omega (arith, length-sessions (given .r .now), accesses-in-use-was .ensures .0)) ∙ rw said) ∙ loop-was .inv .1)
+
 returns : tie.Need-returns Inv-loop μ-loop
 returns c =
     let given = c .before .before .before .before .before .before .args in
@@ -49,17 +61,6 @@ add-i c = search needs
 
 loop-less : tie.Need-loop-less Inv-loop μ-loop
 loop-less c = search needs
-
-loop-again : tie.Need-loop-again Inv-loop μ-loop
-loop-again c =
-    let given = c .before .before .before .before .before .before .args in
-    let loop-was = c .before .before .before .loop in
-    let session-once-was = c .before .session-once in
-    let test1 = c .if1 in
-    let accesses-in-use-was = c .before .before .before .before .accesses-in-use in
-    let all : List (List ℕ) = sessions ((readRow (given .r .now)) .accesses) in
-    let said : every (λ y. not (same (getD all (loop-was .i) []) y)) (drop (loop-was .i + 1) all) ≡ true = passes-on (session-once-was .ensures) (test1 .left) in
-    (omega arith, sym (distinct-turn [] same all (loop-was .i) (omega (arith, length-sessions (given .r .now), accesses-in-use-was .ensures .0)) ∙ rw said) ∙ loop-was .inv .1)
 
 returns-2 : tie.Need-returns-2 Inv-loop μ-loop
 returns-2 c =

@@ -1,4 +1,4 @@
--- What is added up and the rest of the column are the column: `column-turn` and its companions of Columns.
+-- The invariant, of each of the two sums: the sum so far and that of the rest of the column are that of the column: `column-turn` and its companions of Columns.
 use mathlib.Core.Path.{_∙_, _≡_, ap}
 use Prim.Native.Nat.{_*_, _+_, _-_, _≤_, ℕ}
 use native.Mathlib.Omega.{arith}

@@ -5,6 +5,13 @@ use borrow.Author.Needs.{needs}
 use Rattle.wm.proofs.outcome_in_c.Statement.{statement}
 use Rattle.wm.proofs.outcome_in_c.Tie as tie
 
+-- what is returned comes before the bounds: a wrong number is refused here
+returns : tie.Need-returns
+unfolding saidInC resultSaid
+returns c =
+    let start = c .before .before .before .before .before .before in
+    rw (c .host-in-c .ensures, c .before .session-in-c .ensures, c .before .before .cut-in-c .ensures, c .before .before .before .narrow2 .ensures, c .before .before .before .before .narrow .ensures, c .before .before .before .before .before .kind-in-c .ensures (start .args .o .code))
+
 kind-in-c-requires : tie.Need-kind-in-c-requires
 kind-in-c-requires c κs = search needs
 
@@ -26,12 +33,6 @@ session-in-c-requires c κs = c .before .before .before .before .pre .session-fi
 host-in-c-requires : tie.Need-host-in-c-requires
 unfolding resultSaid
 host-in-c-requires c κs = c .before .before .before .before .before .pre .host-fits
-
-returns : tie.Need-returns
-unfolding saidInC resultSaid
-returns c =
-    let start = c .before .before .before .before .before .before in
-    rw (c .host-in-c .ensures, c .before .session-in-c .ensures, c .before .before .cut-in-c .ensures, c .before .before .before .narrow2 .ensures, c .before .before .before .before .narrow .ensures, c .before .before .before .before .before .kind-in-c .ensures (start .args .o .code))
 
 pub outcome-in-c-spec : {M : Type 1} → statement M
 outcome-in-c-spec =

@@ -1,4 +1,4 @@
--- What the search finds from the n-th entry on stays the same.
+-- The invariant: the search from the n-th entry on finds what the whole search finds.
 use mathlib.Core.Bool.{true, false}
 use Rattle.table.specs.TheTable.{readRow}
 use Rattle.table.specs.Soundness.{sameLabel}

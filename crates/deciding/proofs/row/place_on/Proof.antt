@@ -1,4 +1,4 @@
--- What the search finds from the i-th place on stays the same; what it finds has entry and Session-Id.
+-- The invariant: the search from the i-th place on finds what the whole search finds; what it finds has entry and Session-Id.
 use mathlib.Core.Bool.{true, false}
 use Rattle.octets.specs.Choice.{within}
 use Rattle.octets.specs.Lists.{every}

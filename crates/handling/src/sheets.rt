@@ -1,0 +1,187 @@
+// The two files that are written, ANSWERS and NOTICES: opened as they are, emptied only once both are known to be files of their own.
+use holding::Held;
+
+// A file to be written, -1 where there is none, and whether it was made here.
+struct Sheet {
+    fd: i32,
+    made: bool,
+}
+
+// Both, open and empty, if `well`.
+pub struct Sheets {
+    pub answers: i32,
+    pub notices: i32,
+    pub well: bool,
+}
+
+fn none() -> Sheet {
+    Sheet {
+        fd: -1,
+        made: false,
+    }
+}
+
+// A file that is there, as it is, or a new one. Why there is none is said.
+fn open_one(path: &[u8]) -> Sheet {
+    let fd = os::open_update(path);
+    if 0 <= fd {
+        return Sheet { fd, made: false };
+    }
+    if os::errno() != libc::ENOENT {
+        files::refuse_file(path);
+        return none();
+    }
+    let fresh = os::create(path);
+    if fresh < 0 {
+        files::refuse_file(path);
+        return none();
+    }
+    Sheet {
+        fd: fresh,
+        made: true,
+    }
+}
+
+// The file closed, and gone if it was made here.
+fn give_up(s: Sheet, path: &[u8]) {
+    if s.fd < 0 {
+        return;
+    }
+    libc::close(s.fd);
+    if s.made {
+        os::unlink(path);
+    }
+}
+
+// Whether two open files are not one and the same plain file. What is no plain file, as /dev/null, loses nothing when it is written twice.
+fn is_apart(a: i32, b: i32) -> bool {
+    let s = status::of(a);
+    if !status::is_plain(s) {
+        return true;
+    }
+    !status::are_one(s, status::of(b))
+}
+
+// Whether a file is none of those that are in use otherwise: the table, its lock, the new table, the requests, and what the lines go to.
+fn is_own(fd: i32, h: Held, requests: i32) -> bool {
+    if !is_apart(fd, h.table) {
+        return false;
+    }
+    if !is_apart(fd, h.lock) {
+        return false;
+    }
+    if !is_apart(fd, h.new) {
+        return false;
+    }
+    if !is_apart(fd, requests) {
+        return false;
+    }
+    if is_apart(fd, libc::STDOUT_FILENO) {
+        return is_apart(fd, libc::STDERR_FILENO);
+    }
+    false
+}
+
+// Whether a file may be written: it is none of the others, and its mode lets it be written. Why not is said.
+fn is_free(fd: i32, path: &[u8], h: Held, requests: i32) -> bool {
+    if !is_own(fd, h, requests) {
+        files::refuse_word(
+            path,
+            b": in use here already: ANSWERS and NOTICES have to be files of their own",
+        );
+        return false;
+    }
+    let s = status::of(fd);
+    if !status::is_plain(s) {
+        return true;
+    }
+    if !status::is_writable(s) {
+        files::refuse_word(path, b": its mode does not let it be written");
+        return false;
+    }
+    true
+}
+
+// Whether a file is empty from here on; what is no plain file has nothing that could be lost.
+fn is_emptied(fd: i32, path: &[u8]) -> bool {
+    if !status::is_plain(status::of(fd)) {
+        return true;
+    }
+    if libc::ftruncate(fd, 0) == 0 {
+        return true;
+    }
+    files::refuse_file(path);
+    false
+}
+
+// Whether what was written to a file is forced out. Only a plain file can be asked for that.
+pub fn is_kept(fd: i32, path: &[u8]) -> bool {
+    if !status::is_plain(status::of(fd)) {
+        return true;
+    }
+    if libc::fsync(fd) == 0 {
+        return true;
+    }
+    files::refuse_file(path);
+    false
+}
+
+// Whether both may be written.
+fn are_free(a: i32, n: i32, answers: &[u8], notices: &[u8], h: Held, requests: i32) -> bool {
+    if !is_free(a, answers, h, requests) {
+        return false;
+    }
+    if !is_free(n, notices, h, requests) {
+        return false;
+    }
+    if is_apart(a, n) {
+        return true;
+    }
+    files::refuse_word(
+        notices,
+        b": in use here already: ANSWERS and NOTICES have to be files of their own",
+    );
+    false
+}
+
+fn bad() -> Sheets {
+    Sheets {
+        answers: -1,
+        notices: -1,
+        well: false,
+    }
+}
+
+// Both emptied, once it is known that they may be.
+fn start(a: i32, n: i32, answers: &[u8], notices: &[u8]) -> Sheets {
+    if !is_emptied(a, answers) {
+        return bad();
+    }
+    if !is_emptied(n, notices) {
+        return bad();
+    }
+    Sheets {
+        answers: a,
+        notices: n,
+        well: true,
+    }
+}
+
+// ANSWERS and NOTICES, or nothing made and nothing changed, which is then said.
+pub fn open(h: Held, requests: i32, answers: &[u8], notices: &[u8]) -> Sheets {
+    let a = open_one(answers);
+    if a.fd < 0 {
+        return bad();
+    }
+    let n = open_one(notices);
+    if n.fd < 0 {
+        give_up(a, answers);
+        return bad();
+    }
+    if are_free(a.fd, n.fd, answers, notices, h, requests) {
+        return start(a.fd, n.fd, answers, notices);
+    }
+    give_up(n, notices);
+    give_up(a, answers);
+    bad()
+}

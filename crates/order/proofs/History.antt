@@ -1,0 +1,189 @@
+-- What a request that succeeds makes of the tunnels on the order line is what its reply shows.
+use mathlib.Core.Path.{_≡_, refl, sym, ap, _∙_}
+use mathlib.Core.Bool.{Bool, true, false, _&&_}
+use mathlib.Core.List.{List, [], _∷_, _++_, map, map-append}
+use Prim.Native.Nat.{ℕ, _≤_}
+use native.Mathlib.Omega.{arith}
+use borrow.Author.Tests.{eqb-true}
+use lib.Dec.{eqb}
+use lib.ListN.{length, take, drop}
+use lib.Seq.{take-at, drop-at, take-append-le, take-take}
+use Rattle.octets.specs.Choice.{pick}
+use Rattle.octets.specs.Lists.{firstOr, keep}
+use Rattle.octets.specs.Texts.{filled, same, zeros}
+use Rattle.octets.proofs.Choice.{by-pick}
+use Rattle.octets.proofs.Lists.{by-test, same-eq, within-high}
+use Rattle.octets.proofs.Texts.{length-filled}
+use Rattle.message.specs.Codes.{plain}
+use Rattle.message.specs.ReadingAMessage.{Ask, tunnel, policy, termination}
+use Rattle.table.specs.TheTable.{Access, Subscriber, line}
+use Rattle.table.specs.Soundness.{onEntry}
+use Rattle.table.proofs.Good.{Good, Standing, goodAccess, standing}
+use Rattle.changes.specs.Changes.{freed, hold, newAccess, opened, routed}
+use Rattle.rules.specs.Deciding.{entryAt, entryNamed, none, placeOf, withSession}
+use Rattle.rules.specs.Calls.{Call, Reply, noticeRoom, reply, resultOf}
+use Rattle.deciding.proofs.Stay.{entry-found}
+use Rattle.order.specs.ChecksInOrder.{check, decidingChecks, noneFails}
+use Rattle.order.specs.Demand2.{afterwards, cutFor, exceeds, firstAlone, onAsked, spared}
+use Rattle.order.specs.OpenedFirst.{labelAsked, labelIn, lineAfter, onLabel, sessionCut, tunnelCut, tunnelOf, tunnels, without}
+use Rattle.order.proofs.Cuts.{cut-first, entry-there}
+use Rattle.order.proofs.Labels.{label-is, on-label}
+use Rattle.order.proofs.Taken.{first-kept, keep-twice, kept-first, taken}
+
+-- ONE CHANGE
+
+data First (xs : List Access) : Type 0 where
+  first : (a : Access) (others : List Access) → xs ≡ a ∷ others → First xs
+
+first-alone : (xs : List Access) → length (firstAlone xs) ≡ 1 → First xs
+unfolding firstAlone
+first-alone [] h = absurd (omega arith)
+first-alone (a ∷ others) h = first a others refl
+
+not-none : (xs : List Access) → none xs ≡ false → First xs
+unfolding none
+not-none [] h = let z : _≡_ {A = ℕ} 0 1 = cc in absurd (omega arith)
+not-none (a ∷ others) h = first a others refl
+
+module _ (s : Subscriber) (g : Good s) (f : Access → Bool) (a : Access) (others : List Access) (e : keep f (s .accesses) ≡ a ∷ others) where
+  freed-one : tunnels (freed (placeOf (keep f (s .accesses))) s) ≡ without (a .session) (tunnels s)
+  unfolding tunnels freed tunnelOf entryAt placeOf line firstOr
+  freed-one = rw e (taken s f (s .accesses) a others (g .accesses-good .places-once) (g .accesses-good .sids-once) e)
+
+  fitting : Standing (length (s .entries)) a
+  fitting = standing _ a (first-kept f (goodAccess (length (s .entries))) (s .accesses) a others (g .accesses-good .each) e)
+
+new-last : (n : ℕ) (session host : List ℕ) (s : Subscriber)
+    → tunnels (opened n session host s) ≡ tunnels s ++ (record { session = session; host = host; label = (entryAt n s) .label } ∷ [])
+unfolding tunnels opened newAccess tunnelOf entryAt
+new-last n session host s = map-append _ (s .accesses) _
+
+shown-held : (s : Subscriber) (k : ℕ) (route : List ℕ) (xs : List Access) → map (tunnelOf s) (map (hold k route) xs) ≡ map (tunnelOf s) xs
+unfolding hold tunnelOf pick
+shown-held s k route [] = refl
+shown-held s k route (x ∷ xs) = by-test (eqb (x .place) k) (λ e. rw (e, shown-held s k route xs)) (λ e. rw (e, shown-held s k route xs))
+
+line-held : (k : ℕ) (route : List ℕ) (s : Subscriber) → tunnels (routed k route s) ≡ tunnels s
+unfolding tunnels routed tunnelOf entryAt
+line-held k route s = shown-held s k route (s .accesses)
+
+-- a change leaves the entries
+spared-entries : (q : Ask) (s : Subscriber) → (spared q s) .entries ≡ s .entries
+unfolding spared freed
+spared-entries q s = by-pick (λ (u : Subscriber). u .entries ≡ s .entries) _ (λ e. refl) (λ e. refl)
+
+entry-spared : (n : ℕ) (q : Ask) (s : Subscriber) → entryAt n (spared q s) ≡ entryAt n s
+unfolding entryAt
+entry-spared n q s = rw (spared-entries q s)
+
+pub same-entries : (q : Ask) (s : Subscriber) → (afterwards q s) .entries ≡ s .entries
+unfolding afterwards opened routed freed
+same-entries (tunnel session host label visited) s = spared-entries _ s
+same-entries (policy session route) s = refl
+same-entries (termination session label) s = refl
+
+-- THE NOTICE
+
+text-filled : (x rest : List ℕ) → length x ≤ 128 → take (length x) (filled x 128 ++ rest) ≡ x
+unfolding filled
+text-filled x rest h =
+    take-append-le (length x) (filled x 128) rest (rw (length-filled x 128) h)
+    ∙ take-take (length x) 128 (x ++ zeros 128) h ∙ take-at x (zeros 128) (length x) refl
+
+module _ (c : Call) (place : ℕ) (n : ℕ) (a : Access) (fits : Standing n a) where
+  abbrev told : Reply
+  told = reply c (plain 2001) place (a ∷ [])
+
+  session-told : sessionCut told ≡ a .session
+  unfolding sessionCut reply resultOf noticeRoom
+  session-told = text-filled (a .session) _ (within-high 1 128 _ (fits .sid-fits))
+
+  tunnel-told : (label : List ℕ) → tunnelCut label told ≡ record { session = a .session; host = a .host; label = label }
+  unfolding tunnelCut reply resultOf noticeRoom
+  tunnel-told label =
+      let host : take (length (a .host)) (drop 128 (told .notice)) ≡ a .host =
+      ap (take (length (a .host))) (drop-at (filled (a .session) 128) _ 128 (length-filled (a .session) 128))
+      ∙ text-filled (a .host) _ (within-high 1 128 _ (fits .host-fits)) in
+      rw (session-told, host)
+
+-- A REQUEST THAT SUCCEEDS
+
+module _ (c : Call) (place : ℕ) (s : Subscriber) (g : Good s) where
+  -- what was cut, if anything, and the line that is left
+  module _ (session host label : List ℕ) (visited : Bool) where
+    abbrev asked : Ask
+    asked = tunnel session host label visited
+
+    abbrev replied : Reply
+    replied = reply c (plain 2001) place (cutFor asked s)
+
+    spared-cut : exceeds asked s ≡ true → First (onAsked asked s)
+        → tunnels (spared asked s) ≡ pick (eqb (replied .result .cut) 1) (without (sessionCut replied) (tunnels s)) (tunnels s)
+    unfolding spared cutFor firstAlone reply resultOf onAsked onEntry pick
+    spared-cut e (first a others on) =
+        rw (e, on) (ap tunnels (ap (λ (l : List Access). freed (placeOf l) s) (sym on)) ∙ freed-one s g _ a others on
+        ∙ ap (λ (x : List ℕ). without x (tunnels s)) (sym (session-told c place _ a (fitting s g _ a others on))))
+
+    spared-all : exceeds asked s ≡ false → tunnels (spared asked s) ≡ pick (eqb (replied .result .cut) 1) (without (sessionCut replied) (tunnels s)) (tunnels s)
+    unfolding spared cutFor reply resultOf pick
+    spared-all e = rw e
+
+    line-tunnel : (wag : Bool) → noneFails (decidingChecks asked wag s) ≡ true → tunnels (afterwards asked s) ≡ lineAfter (s .entries) asked replied (tunnels s)
+    unfolding afterwards lineAfter
+    line-tunnel wag h =
+        let there : eqb (entryNamed label s) 0 ≡ false = entry-there session host label visited wag s h in
+        let left : tunnels (spared asked s) ≡ pick (eqb (replied .result .cut) 1) (without (sessionCut replied) (tunnels s)) (tunnels s) =
+        by-test (exceeds asked s) (λ e. spared-cut e (first-alone _ ((cut-first asked wag s g h e) .some))) (λ e. spared-all e) in
+        rw (label-is label s there, ← left, ← entry-spared (entryNamed label s) asked s) (new-last (entryNamed label s) session host (spared asked s))
+
+  module _ (session label : List ℕ) where
+    abbrev ended : List Access
+    ended = withSession session (onEntry (entryNamed label s) (s .accesses))
+
+    line-ended : First ended → tunnels (freed (placeOf ended) s) ≡ without session (tunnels s)
+    unfolding withSession onEntry
+    line-ended (first a others e) =
+        let one : keep (λ x. eqb (x .entry) (entryNamed label s) && same (x .session) session) (s .accesses) ≡ a ∷ others =
+        sym (keep-twice _ _ (s .accesses)) ∙ e in
+        let own : a .session ≡ session = same-eq (a .session) session (kept-first (λ (x : Access). same (x .session) session) _ a others e) in
+        ap (λ (l : List Access). tunnels (freed (placeOf l) s)) (keep-twice _ _ (s .accesses)) ∙ freed-one s g _ a others one
+        ∙ ap (λ (x : List ℕ). without x (tunnels s)) own
+
+    ended-one : (wag : Bool) → noneFails (decidingChecks (termination session label) wag s) ≡ true → First ended
+    unfolding decidingChecks check noneFails
+    ended-one wag h = not-none ended (by-test (none ended) (λ e. let z : false ≡ true = rw e at h in cc) (λ e. e))
+
+-- what a request that succeeds leaves on the line is what its reply shows
+pub line-after : (c : Call) (place : ℕ) (q : Ask) (wag : Bool) (s : Subscriber) → Good s → noneFails (decidingChecks q wag s) ≡ true
+    → tunnels (afterwards q s) ≡ lineAfter (s .entries) q (reply c (plain 2001) place (cutFor q s)) (tunnels s)
+unfolding afterwards lineAfter
+line-after c place (tunnel session host label visited) wag s g h = line-tunnel c place s g session host label visited wag h
+line-after c place (policy session route) wag s g h = line-held _ route s
+line-after c place (termination session label) wag s g h = line-ended c place s g session label (ended-one c place s g session label wag h)
+
+-- THE CUT
+
+module _ (c : Call) (place : ℕ) (s : Subscriber) (g : Good s) (session host label : List ℕ) (visited : Bool) (there : eqb (entryNamed label s) 0 ≡ false) where
+  abbrev opening : Ask
+  opening = tunnel session host label visited
+
+  abbrev answered : Reply
+  answered = reply c (plain 2001) place (cutFor opening s)
+
+  first-named : exceeds opening s ≡ true → First (onAsked opening s)
+      → take 1 (onLabel (labelIn (s .entries) label) (tunnels s)) ≡ tunnelCut (labelIn (s .entries) label) answered ∷ []
+  unfolding cutFor firstAlone onAsked onEntry tunnels tunnelOf pick
+  first-named e (first a others on) =
+      let own : a .entry ≡ entryNamed label s = eqb-true _ _ (kept-first _ (s .accesses) a others on) in
+      let line : onLabel ((entryAt (entryNamed label s) s) .label) (tunnels s) ≡ map (tunnelOf s) (a ∷ others) =
+      on-label s g (entryNamed label s) (entry-found label s there) (s .accesses) (g .accesses-good .each) ∙ ap (map (tunnelOf s)) on in
+      rw (label-is label s there, line, e, on, tunnel-told c place _ a (fitting s g _ a others on), ← own)
+
+-- at the limit, the first on the label that is asked for is the one that the notice names
+pub cut-named : (c : Call) (place : ℕ) (q : Ask) (wag : Bool) (s : Subscriber) → Good s → noneFails (decidingChecks q wag s) ≡ true → exceeds q s ≡ true
+    → take 1 (onLabel (labelIn (s .entries) (labelAsked q)) (tunnels s)) ≡ tunnelCut (labelIn (s .entries) (labelAsked q)) (reply c (plain 2001) place (cutFor q s)) ∷ []
+unfolding exceeds labelAsked
+cut-named c place (tunnel session host label visited) wag s g h e =
+    first-named c place s g session host label visited (entry-there session host label visited wag s h) e (first-alone _ ((cut-first (tunnel session host label visited) wag s g h e) .some))
+cut-named c place (policy session route) wag s g h e = cc
+cut-named c place (termination session label) wag s g h e = cc

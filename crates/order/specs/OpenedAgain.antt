@@ -1,0 +1,53 @@
+-- A worked case of the history: a Session-Id that is opened again stands where it was opened last.
+use mathlib.Core.Path.{_≡_}
+use mathlib.Core.Bool.{true}
+use mathlib.Core.List.{List, [], _∷_, _++_, map}
+use Prim.Native.Nat.{ℕ}
+use Rattle.octets.specs.Texts.{filled, zeros}
+use Rattle.message.specs.WorkedCases.{board, endAt, gateway, name, openAt, ownHost, ownRealm, session}
+use Rattle.table.specs.TheTable.{Entry}
+use Rattle.rules.specs.Calls.{Call, Reply}
+use Rattle.order.specs.OpenedFirst.{Tunnel, history}
+
+-- The subscriber of the worked cases, with "board" (limit 2, no flags).
+unfoldable pub entered : List Entry
+entered = record { label = board; flags = 0; limit = 2 } ∷ []
+
+unfoldable pub calling : List ℕ → Call
+calling message = record { message = message; host = ownHost; realm = ownRealm; answer = zeros 5120; notice = zeros 256; wag = true }
+
+-- What the history looks at in a reply: 2001 without a cut, and 2001 with a cut of the tunnel of that letter.
+unfoldable pub granted : Reply
+granted =
+    record {
+      result = record { length = 0; code = 2001; kind = 1; place = 0; cut = 0; cutSession = 0; cutHost = 0 };
+      answer = [];
+      notice = zeros 256;
+    }
+
+unfoldable pub cutting : ℕ → Reply
+cutting letter =
+    record {
+      result = record { length = 0; code = 2001; kind = 1; place = 0; cut = 1; cutSession = 3; cutHost = 2 };
+      answer = [];
+      notice = filled (session letter) 128 ++ filled gateway 128;
+    }
+
+-- a and b are opened, a is ended, and a is opened again.
+unfoldable pub again : List Tunnel
+again =
+    history name entered
+    (calling (openAt (session 97) board) ∷ calling (openAt (session 98) board) ∷ calling (endAt (session 97) board) ∷ calling (openAt (session 97) board) ∷ [])
+    (granted ∷ granted ∷ granted ∷ granted ∷ [])
+    []
+
+-- Then c is opened, which cuts b.
+unfoldable pub andThenC : List Tunnel
+andThenC = history name entered (calling (openAt (session 99) board) ∷ []) (cutting 98 ∷ []) again
+
+unfoldable pub named : List Tunnel → List (List ℕ)
+named line = map (λ (x : Tunnel). x .session) line
+
+-- The line is b a, and then a c.
+abbrev pub OpenedAgainStandsLast : Type 0
+OpenedAgainStandsLast = named again ∷ named andThenC ∷ [] ≡ (session 98 ∷ session 97 ∷ []) ∷ (session 97 ∷ session 99 ∷ []) ∷ []

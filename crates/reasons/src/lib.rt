@@ -1,0 +1,389 @@
+// Why a call is answered as it is: the first of the paper's checks that fails.
+use deciding::Plan;
+use message::Asked;
+use message::Got;
+use message::Span;
+use message::Told;
+use reader::Fault;
+use reader::Step;
+use table::RowFound;
+ghost use mathlib.Core.Path.{_≡_};
+ghost use mathlib.Core.Bool.{Bool, true};
+ghost use mathlib.Core.List.{List, [], _∷_};
+ghost use Prim.Native.Nat.{ℕ, _≤_, _<_};
+ghost use lib.ListN.{length};
+ghost use Rattle.octets.specs.Lists.{every};
+ghost use Rattle.message.specs.ReadingAMessage.{Avp, Field, avpCode, avps, for265, for275, forBoth, numberField, policy, termination, testedAs, tunnel, walkCode};
+ghost use Rattle.message.specs.Positions.{Gathered, nameAt};
+ghost use Rattle.message.specs.Spans.{asks, bytesField, bytesOf, codeOf, isInside, spansIn};
+ghost use Rattle.reader.specs.Steps.{faultOf};
+ghost use Rattle.table.specs.TheTable.{lookup, readRow, tableNumber};
+ghost use Rattle.table.specs.Soundness.{sound};
+ghost use Rattle.decision.specs.Outcomes.{callOf};
+ghost use Rattle.order.specs.ChecksInOrder.{avpChecks, decidingChecks, fieldChecks, firstFailed, headerChecks, listChecks, readingChecks, walkChecks};
+ghost use Rattle.order.specs.Demand2.{checks};
+ghost use Rattle.reasons.specs.Reasons.{checkNamed, groundNamed, groundOf};
+ghost use Rattle.reasons.specs.Parts.{behindType, firstOfFields, rowChecks};
+
+// The check that fails, or that none does.
+pub enum Reason {
+    Passes,
+    // the header
+    ReservedBits,
+    ErrorBit,
+    UnknownCommand,
+    WrongApplication,
+    // the AVP that starts at this byte of the message
+    FewBytesLeft(usize),
+    ReservedAvpBits(usize),
+    ShortLength(usize),
+    PastTheEnd(usize),
+    // the lists; the AVP by the slot of its name
+    SessionIdNotFirst,
+    Absent(usize),
+    Twice(usize),
+    WrongLength(usize),
+    WrongValue(usize),
+    // any request
+    NoRow,
+    UnsoundRow,
+    // a tunnel
+    NotEntered,
+    EntryBarred,
+    MayNotRoam,
+    SessionHeld,
+    // a policy
+    NoAccess,
+    GatewaySaysNo,
+    // termination
+    Unused,
+}
+
+// A call that gets no answer has a number; any other is answered for a reason.
+pub enum Why {
+    Unanswered(u32),
+    Answered(Reason),
+}
+
+// HEADER AND WALK
+
+// Each code of the header tests is that of one test.
+fn header_failed(m: &[u8]) -> Reason
+    requires { ⌜ 20 ≤ length (now m) ⌝ }
+    ensures { λ r. ⌜ checkNamed r ≡ firstFailed (headerChecks (now (m .entry))) ⌝ }
+{
+    match message::header_code(m) {
+        0 => Reason::Passes,
+        5013 => Reason::ReservedBits,
+        3008 => Reason::ErrorBit,
+        3001 => Reason::UnknownCommand,
+        _ => Reason::WrongApplication,
+    }
+}
+
+// The reason for a test that the AVP at a byte fails.
+fn avp_failed(fault: Fault, at: usize) -> Reason
+    ensures { λ r. ⌜ ((s : List ℕ) → (avpCode s ≡ 0 → ⊥) → faultOf s ≡ fault → checkNamed r ≡ firstFailed (avpChecks at s)) ⌝ }
+{
+    match fault {
+        Fault::Few => Reason::FewBytesLeft(at),
+        Fault::Bits => Reason::ReservedAvpBits(at),
+        Fault::Short => Reason::ShortLength(at),
+        Fault::Past => Reason::PastTheEnd(at),
+    }
+}
+
+// One AVP after another, up to the end or to the first that fails.
+fn walk_failed(m: &[u8]) -> Reason
+    requires { ⌜ 20 ≤ length (now m) ⌝ }
+    ensures { λ r. ⌜ checkNamed r ≡ firstFailed (walkChecks (now (m .entry))) ⌝ }
+{
+    let mut at: usize = 20;
+    loop {
+        let step = reader::avp_at(m, at);
+        match step {
+            Step::End => return Reason::Passes,
+            Step::Bad(fault) => return avp_failed(fault, at),
+            Step::One(a) => {
+                at = a.next;
+            }
+        }
+    }
+}
+
+// THE LISTS
+
+// The first of two reasons for which something fails.
+fn first_of(a: Reason, b: Reason) -> Reason
+    ensures { λ r. ⌜ checkNamed r ≡ firstFailed (checkNamed a ∷ checkNamed b ∷ []) ⌝ }
+{
+    match a {
+        Reason::Passes => b,
+        _ => a,
+    }
+}
+
+// The code of a field by what its reader answers; one that is not required may be absent.
+fn code_in(g: Got, required: bool) -> u32
+    ensures { λ r. ⌜ r ≡ codeOf required g ⌝ }
+{
+    if required {
+        return message::refusal(g);
+    }
+    match g {
+        Got::Code(n) => n,
+        _ => 0,
+    }
+}
+
+// Each code of a field is that of one test.
+fn field_failed(slot: usize, code: u32) -> Reason
+    ensures { λ r. ⌜ ((f : Field) (there : List Avp) → f .name ≡ nameAt slot → testedAs f there ≡ code → checkNamed r ≡ firstFailed (fieldChecks f there)) ⌝ }
+{
+    match code {
+        0 => Reason::Passes,
+        5005 => Reason::Absent(slot),
+        5009 => Reason::Twice(slot),
+        5014 => Reason::WrongLength(slot),
+        _ => Reason::WrongValue(slot),
+    }
+}
+
+// The field of a slot, whose value has low to high bytes.
+fn text_failed(
+    m: &[u8],
+    index: &[usize],
+    slot: usize,
+    required: bool,
+    low: usize,
+    high: usize,
+) -> Reason
+    requires { ⌜ (slot < 14) × (1 ≤ low) × Gathered (now m) (now index) ⌝ }
+    ensures { λ r. ⌜ checkNamed r ≡ firstOfFields (now (m .entry)) (bytesField (nameAt slot) required low high ∷ []) ⌝ }
+{
+    let g = message::text_field(m, index, slot, low, high);
+    field_failed(slot, code_in(g, required))
+}
+
+// The field of a slot whose value is a number from low to high.
+fn number_failed(m: &[u8], index: &[usize], slot: usize, low: u32, high: u32) -> Reason
+    requires { ⌜ (slot < 14) × Gathered (now m) (now index) ⌝ }
+    ensures { λ r. ⌜ checkNamed r ≡ firstOfFields (now (m .entry)) (numberField (nameAt slot) low high ∷ []) ⌝ }
+{
+    let g = message::number_field(m, index, slot, low, high);
+    field_failed(slot, message::refusal(g))
+}
+
+// The fields of both requests.
+fn both_failed(m: &[u8], index: &[usize]) -> Reason
+    requires { ⌜ Gathered (now m) (now index) ⌝ }
+    ensures { λ r. ⌜ checkNamed r ≡ firstOfFields (now (m .entry)) forBoth ⌝ }
+{
+    let session = text_failed(m, index, 0, true, 1, 128);
+    let application = number_failed(m, index, 1, 1, 1);
+    let host = text_failed(m, index, 2, true, 1, 128);
+    let realm = text_failed(m, index, 3, true, 1, 128);
+    let destination = text_failed(m, index, 4, true, 1, 128);
+    let realms = first_of(realm, destination);
+    first_of(session, first_of(application, first_of(host, realms)))
+}
+
+// The fields of a 265 behind its type.
+fn end_failed(m: &[u8], index: &[usize], kind: u32) -> Reason
+    requires { ⌜ Gathered (now m) (now index) ⌝ }
+    ensures { λ r. ⌜ checkNamed r ≡ firstOfFields (now (m .entry)) (behindType kind) ⌝ }
+{
+    let visited = text_failed(m, index, 10, false, 1, 128);
+    let label = text_failed(m, index, 12, kind == 0, 1, 100);
+    let route = text_failed(m, index, 13, kind == 1, 1, 128);
+    first_of(visited, first_of(label, route))
+}
+
+// The fields of a 265. Its type says which of the last two are required.
+fn list_265_failed(m: &[u8], index: &[usize]) -> Reason
+    requires { ⌜ Gathered (now m) (now index) ⌝ }
+    ensures { λ r. ⌜ checkNamed r ≡ firstOfFields (now (m .entry)) (for265 (avps (now (m .entry)))) ⌝ }
+{
+    let request = number_failed(m, index, 5, 2, 2);
+    let host = text_failed(m, index, 6, true, 1, 128);
+    let user = text_failed(m, index, 7, true, 1, 128);
+    let before = first_of(request, first_of(host, user));
+    let g = message::number_field(m, index, 11, 0, 1);
+    let Got::Found(kind) = g else {
+        return first_of(before, field_failed(11, message::refusal(g)));
+    };
+    let a = kind.at;
+    let e = a + kind.len;
+    first_of(before, end_failed(m, index, message::value32(&m[a..e])))
+}
+
+// The fields of a 275.
+fn list_275_failed(m: &[u8], index: &[usize]) -> Reason
+    requires { ⌜ Gathered (now m) (now index) ⌝ }
+    ensures { λ r. ⌜ checkNamed r ≡ firstOfFields (now (m .entry)) for275 ⌝ }
+{
+    let cause = number_failed(m, index, 8, 1, 8);
+    let host = text_failed(m, index, 6, true, 1, 128);
+    let user = text_failed(m, index, 7, true, 1, 128);
+    let label = text_failed(m, index, 12, true, 1, 100);
+    first_of(cause, first_of(host, first_of(user, label)))
+}
+
+// Both lists, of a message whose walk passed.
+fn lists_failed(m: &[u8], index: &[usize]) -> Reason
+    requires { ⌜ (20 ≤ length (now m)) × (walkCode (now m) ≡ 0) × Gathered (now m) (now index) ⌝ }
+    ensures { λ r. ⌜ checkNamed r ≡ firstFailed (listChecks (now (m .entry))) ⌝ }
+{
+    if !reading::starts(m) {
+        return Reason::SessionIdNotFirst;
+    }
+    let both = both_failed(m, index);
+    if octets::read24(m, 5) == 265 {
+        return first_of(both, list_265_failed(m, index));
+    }
+    first_of(both, list_275_failed(m, index))
+}
+
+// A MESSAGE
+
+// The first check of reading that a message fails, or that it passes them all.
+pub fn reading_failed(m: &[u8]) -> Reason
+    requires { ⌜ 20 ≤ length (now m) ⌝ }
+    ensures { λ r. ⌜ checkNamed r ≡ firstFailed (readingChecks (now (m .entry))) ⌝ }
+{
+    if message::header_code(m) != 0 {
+        return header_failed(m);
+    }
+    let mut index = [0usize; 28];
+    if message::gather(m, &mut index) != 0 {
+        return walk_failed(m);
+    }
+    lists_failed(m, &index)
+}
+
+// ON A ROW
+
+// A tunnel: each refusal of the plan is that of one check.
+fn tunnel_failed(row: &[u8], session: &[u8], label: &[u8], visited: bool) -> Reason
+    requires { ⌜ sound (now row) ≡ true ⌝ }
+    ensures { λ r. ⌜ ((host : List ℕ) (wag : Bool) → checkNamed r
+        ≡ firstFailed (decidingChecks (tunnel (now (session .entry)) host (now (label .entry)) visited) wag (readRow (now (row .entry))))) ⌝ }
+{
+    match deciding::plan_tunnel(row, session, label, visited) {
+        Plan::NotSubscribed => Reason::NotEntered,
+        Plan::Barred => Reason::EntryBarred,
+        Plan::RoamingNotAllowed => Reason::MayNotRoam,
+        Plan::UnableToComply => Reason::SessionHeld,
+        _ => Reason::Passes,
+    }
+}
+
+// A policy: if there is no access, the plan is a refusal even where the wireless gateway says yes.
+fn policy_failed(row: &[u8], session: &[u8], wag: bool) -> Reason
+    requires { ⌜ sound (now row) ≡ true ⌝ }
+    ensures { λ r. ⌜ ((route : List ℕ) → checkNamed r ≡ firstFailed (decidingChecks (policy (now (session .entry)) route) wag (readRow (now (row .entry))))) ⌝ }
+{
+    let plan = deciding::plan_policy(row, session, true);
+    if let Plan::UnableToComply = plan {
+        return Reason::NoAccess;
+    }
+    if wag {
+        return Reason::Passes;
+    }
+    Reason::GatewaySaysNo
+}
+
+fn termination_failed(row: &[u8], session: &[u8], label: &[u8]) -> Reason
+    requires { ⌜ sound (now row) ≡ true ⌝ }
+    ensures { λ r. ⌜ ((wag : Bool) → checkNamed r
+        ≡ firstFailed (decidingChecks (termination (now (session .entry)) (now (label .entry))) wag (readRow (now (row .entry))))) ⌝ }
+{
+    match deciding::plan_termination(row, session, label) {
+        Plan::UnusedByUser => Reason::Unused,
+        _ => Reason::Passes,
+    }
+}
+
+// Deciding, on a sound row.
+fn deciding_failed(row: &[u8], m: &[u8], asked: Asked, wag: bool) -> Reason
+    requires { ⌜ (sound (now row) ≡ true) × (every (isInside (now m)) (spansIn asked) ≡ true) ⌝ }
+    ensures { λ r. ⌜ checkNamed r ≡ firstFailed (decidingChecks (asks (now (m .entry)) asked) wag (readRow (now (row .entry)))) ⌝ }
+{
+    match asked {
+        Asked::Tunnel {
+            session,
+            host,
+            label,
+            visited,
+        } => {
+            return tunnel_failed(
+                row,
+                decision::text(m, session),
+                decision::text(m, label),
+                visited,
+            );
+        }
+        Asked::Policy { session, route } => {
+            return policy_failed(row, decision::text(m, session), wag);
+        }
+        Asked::Termination { session, label } => {
+            return termination_failed(row, decision::text(m, session), decision::text(m, label));
+        }
+    }
+}
+
+// A request that was read: the user's row, its soundness, then deciding.
+fn request_failed(table: &[u8], m: &[u8], wag: bool, user: Span, asked: Asked) -> Reason
+    requires { ⌜ (tableNumber (now table) ≡ 0) × (every (isInside (now m)) (spansIn asked) ≡ true) × (isInside (now m) user ≡ true) ⌝ }
+    ensures { λ r. ⌜ checkNamed r ≡ firstFailed (rowChecks (now (table .entry)) (lookup (now (table .entry)) (bytesOf (now (m .entry)) user)) (asks (now (m .entry)) asked) wag) ⌝ }
+{
+    let found = table::lookup(table, decision::text(m, user));
+    let RowFound::At(i) = found else {
+        return Reason::NoRow;
+    };
+    let a = 4608 * i;
+    let e = a + 4608;
+    if !soundness::row_sound(&table[a..e]) {
+        return Reason::UnsoundRow;
+    }
+    deciding_failed(&table[a..e], m, asked, wag)
+}
+
+// A message that gets an answer.
+fn answered_for(table: &[u8], m: &[u8], wag: bool) -> Reason
+    requires { ⌜ (tableNumber (now table) ≡ 0) × (20 ≤ length (now m)) ⌝ }
+    ensures { λ r. ⌜ ((host realm answer notice : List ℕ) → checkNamed r ≡ firstFailed (checks (now (table .entry)) (callOf (now (m .entry)) host realm answer notice wag))) ⌝ }
+{
+    let heard = reading::read(m);
+    let told = heard.told;
+    match told {
+        Told::Refused(_) => {
+            return reading_failed(m);
+        }
+        Told::Request(user, asked) => {
+            return request_failed(table, m, wag, user, asked);
+        }
+    }
+}
+
+// A CALL
+
+// Why `decision::handle` answers what is lent as it does: the number of a call that gets no answer, else the first check that fails.
+// Nothing is asked of what is lent.
+pub fn first_failed(
+    table: &[u8],
+    host: &[u8],
+    realm: &[u8],
+    message: &[u8],
+    wag: bool,
+    answer: &[u8],
+    notice: &[u8],
+) -> Why
+    ensures { λ r. ⌜ groundNamed r ≡ groundOf (now (table .entry)) (callOf (now (message .entry)) (now (host .entry)) (now (realm .entry)) (now (answer .entry)) (now (notice .entry)) wag) ⌝ }
+{
+    let n = decision::call_number(table, host, realm, message, answer, notice);
+    if n != 0 {
+        return Why::Unanswered(n);
+    }
+    Why::Answered(answered_for(table, message, wag))
+}
