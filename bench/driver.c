@@ -156,6 +156,15 @@ static void cutting_full(void) {
     openings(8);
 }
 
+/* The W-APN, the last AVP of 25 bytes and 3 of padding, is typed in capitals. */
+static void cutting_capitals(void) {
+    cutting();
+    for (struct request *r = messages; r < messages + MESSAGES; r++)
+        for (uint8_t *letter = r->bytes + r->length - 28; letter < r->bytes + r->length - 3; letter++)
+            if (*letter >= 'a' && *letter <= 'z')
+                *letter -= 32;
+}
+
 static void opening_first(void) {
     subscribers(2, 0);
     openings(0);
@@ -249,6 +258,7 @@ static const struct line lines[] = {
     {"opening with a cut, 64 rows", cutting, 64, MESSAGES, false, {2001, 1, 0, 0, 1, 72, 39}},
     {"opening with a cut, 1,024 rows", cutting, 1024, MESSAGES, false, {2001, 1, 0, 0, 1, 72, 39}},
     {"opening with a cut, 8 accesses", cutting_full, 1, MESSAGES, false, {2001, 1, 0, 0, 1, 72, 39}},
+    {"opening with a cut, W-APN in capitals", cutting_capitals, 1, MESSAGES, false, {2001, 1, 0, 0, 1, 72, 39}},
     {"opening without a cut, 1 row", opening_first, 1, MESSAGES, true, {2001, 1, 0, 1, 0, 0, 0}},
     {"opening without a cut, 1,024 rows", opening_first, 1024, MESSAGES, true, {2001, 1, 0, 1, 0, 0, 0}},
     {"policy", policies, 1, 2, false, {2001, 1, 0, 0, 0, 0, 0}},

@@ -39,7 +39,7 @@ static const struct text names[] = {TEXT("1"),         TEXT("12345"),           
                                     TEXT("223456"),    TEXT("001010123456789"), TEXT("001010123456780"), TEXT(""),
                                     TEXT("12a"),       TEXT("0010101234567890"), TEXT(HUNDRED),          TEXT(HUNDRED HUNDRED)};
 static const struct text labels[] = {TEXT("a"),  TEXT("board"), TEXT("yard"),   TEXT("internet.operator.example"),
-                                     TEXT("b"),  TEXT("Board"), TEXT(HUNDRED), TEXT(""),
+                                     TEXT("@Z[`z{"), TEXT("Board"), TEXT(HUNDRED), TEXT(""),
                                      TEXT(HUNDRED "k")};
 static const struct text sessions[] = {
     TEXT("s"),          TEXT("t"),          TEXT("session"),    TEXT("sessions"),      TEXT(GATEWAY ";1;1"),
@@ -60,6 +60,25 @@ static bool decoded;
 
 static const struct text *pick_name(void) {
     return decoded && !one_in(40) ? &names[3 + below(4)] : PICK(names);
+}
+
+/* The bit in which the two cases of a letter differ, turned in one byte, a letter or not. */
+static void turn_case(uint8_t *bytes, size_t length) {
+    if (length > 0)
+        bytes[below((uint32_t)length)] ^= 0x20;
+}
+
+/* A label as it stands above, or as others may type it. */
+static const struct text *pick_label(void) {
+    static uint8_t bytes[128];
+    static struct text typed;
+    const struct text *label = PICK(labels);
+    if (one_in(2))
+        return label;
+    memcpy(bytes, label->bytes, label->length);
+    turn_case(bytes, label->length);
+    typed = (struct text){(const char *)bytes, label->length};
+    return &typed;
 }
 
 /* ---- a request ---- */
@@ -121,7 +140,7 @@ static void fields(struct request *r, bool termination, uint32_t type) {
             break;
         case 7:
             if (termination || type == 0 || one_in(4))
-                text_field(r, 100, true, PICK(labels));
+                text_field(r, 100, true, pick_label());
             break;
         case 8:
             value_field(r, 311, true, type);
@@ -140,6 +159,22 @@ static void fields(struct request *r, bool termination, uint32_t type) {
 static void damage(uint8_t *bytes, size_t length, uint32_t times) {
     for (; times > 0; times--)
         bytes[one_in(2) && length > 64 ? below(64) : below((uint32_t)length)] ^= (uint8_t)(1u << below(8));
+}
+
+/* The second label of a row becomes the first with that bit turned in one byte; the sums of block 0 agree. */
+static void label_again(uint8_t *row) {
+    uint8_t *first = row + 32, *second = first + 104;
+    uint32_t low = 0, high = 0;
+    if (row[0] != 1 || row[18] < 2 || first[0] < 1 || first[0] > 100)
+        return;
+    memcpy(second, first, 101);
+    turn_case(second + 1, second[0]);
+    for (uint32_t i = 0; i < 510; i++) {
+        low = (low + row[i]) % 255;
+        high = (high + low) % 255;
+    }
+    row[510] = (uint8_t)high;
+    row[511] = (uint8_t)low;
 }
 
 static void by_chance(struct request *r) {
@@ -181,7 +216,7 @@ static size_t table_length(void) {
 
 static bool set_up(uint32_t *number) {
     size_t length = table_length();
-    const struct text *name = decoded ? &names[3 + below(4)] : PICK(names), *label = PICK(labels);
+    const struct text *name = decoded ? &names[3 + below(4)] : PICK(names), *label = pick_label();
     const uint8_t *n = (const uint8_t *)name->bytes, *l = (const uint8_t *)label->bytes;
     uint8_t limit = (uint8_t)(one_in(20) ? below(12) : 1 + below(3)), flags = (uint8_t)(one_in(20) ? below(6) : 2 * below(2));
     if (one_in(12)) {
@@ -246,7 +281,10 @@ int mix(uint32_t calls, uint64_t from, const char *answers) {
             written++;
         }
         if (!decoded && one_in(60)) {
-            damage(proved.table + below(ROWS) * WM_ROW, one_in(2) ? 512 : WM_ROW, 1);
+            if (one_in(3))
+                label_again(proved.table + below(ROWS) * WM_ROW);
+            else
+                damage(proved.table + below(ROWS) * WM_ROW, one_in(2) ? 512 : WM_ROW, 1);
             memcpy(plain.table, proved.table, sizeof plain.table);
         }
     }

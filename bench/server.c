@@ -72,6 +72,20 @@ static inline bool same(const uint8_t *a, const uint8_t *b, size_t bytes) {
     return memcmp(a, b, bytes) == 0;
 }
 
+static inline uint8_t lower_case(uint8_t letter) {
+    return letter >= 'A' && letter <= 'Z' ? letter + 32 : letter;
+}
+
+/* Labels of one length, a letter in either case. */
+static inline bool same_label(const uint8_t *a, const uint8_t *b, size_t bytes) {
+    if (same(a, b, bytes))
+        return true;
+    for (size_t i = 0; i < bytes; i++)
+        if (lower_case(a[i]) != lower_case(b[i]))
+            return false;
+    return true;
+}
+
 /* ---- sums ---- */
 
 /* Fletcher-16 of a block: the second sum times 256, and the first.
@@ -131,7 +145,7 @@ static inline bool in_use(const uint8_t *row, uint32_t place) {
 static uint32_t find_entry(const uint8_t *row, const uint8_t *label, size_t length) {
     for (uint32_t i = 0; i < row[18]; i++) {
         const uint8_t *e = entry_at(row, i);
-        if (e[0] == length && same(e + 1, label, length))
+        if (e[0] == length && same_label(e + 1, label, length))
             return i + 1;
     }
     return 0;
@@ -182,7 +196,7 @@ static bool entries_sound(const uint8_t *row) {
             return false;
         for (uint32_t j = 0; j < i; j++) {
             const uint8_t *other = entry_at(row, j);
-            if (other[0] == e[0] && same(other + 1, e + 1, e[0]))
+            if (other[0] == e[0] && same_label(other + 1, e + 1, e[0]))
                 return false;
         }
         limits += e[102];

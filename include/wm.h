@@ -60,7 +60,7 @@ enum wm_number {
     WM_NO_SUBSCRIBER = 12,   /* adding: no row has that name */
     WM_UNSOUND_ROW = 13,     /* adding: the row is damaged */
     WM_LABEL_FORM = 14,      /* adding: the label has not 1 to 100 bytes, the limit is not 1 to 8, or the flags are over 3 */
-    WM_LABEL_HELD = 15,      /* adding: the subscriber has that label */
+    WM_LABEL_HELD = 15,      /* adding: the subscriber has that label, its letters in either case */
     WM_FOUR_LABELS = 16,     /* adding: the subscriber has four labels */
     WM_LIMITS_OVER_8 = 17    /* adding: the limits would sum to over 8 */
 };

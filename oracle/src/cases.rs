@@ -1,6 +1,7 @@
 //! Single calls in the making: a table with a sound row, and a good request about it.
 
 use crate::drafts::{Draft, DraftAvp};
+use crate::either_case::typed;
 use crate::program::{Asked, Operation, Room};
 use crate::random::Random;
 use crate::reading_a_message::{
@@ -8,7 +9,7 @@ use crate::reading_a_message::{
     W_APN,
 };
 use crate::rules::DOCUMENT_01;
-use crate::the_table::{Access, Entry, MAY_ROAM, PLACES, ROW, Row, encode};
+use crate::the_table::{Access, Entry, MAY_ROAM, PLACES, ROW, Row, encode, same_label};
 
 #[derive(Clone, Copy, Debug, PartialEq, Eq)]
 pub enum Sort {
@@ -110,7 +111,8 @@ impl Case {
     /// The entry the request is about.
     pub fn entry(&mut self) -> Option<&mut Entry> {
         let label = self.draft.avp(W_APN)?.value.clone();
-        self.row.entries.iter_mut().find(|e| e.label == label)
+        let mut entries = self.row.entries.iter_mut();
+        entries.find(|e| same_label(&e.label, &label))
     }
 
     pub fn operation(&self) -> Operation {
@@ -144,10 +146,14 @@ fn good_draft(sort: Sort, row: &mut Row, random: &mut Random) -> Draft {
             entry.flags &= MAY_ROAM;
             let mut session = text(random, 127);
             session.push(b'+');
-            Draft::open(&row.name, &session, &gateway, &entry.label)
+            let label = typed(&entry.label, random);
+            Draft::open(&row.name, &session, &gateway, &label)
         }
         Sort::Policy => Draft::policy(&row.name, &held.session, &gateway, &text(random, 128)),
-        Sort::Termination => Draft::termination(&row.name, &held.session, &gateway, &label),
+        Sort::Termination => {
+            let label = typed(&label, random);
+            Draft::termination(&row.name, &held.session, &gateway, &label)
+        }
     };
     let roams = sort != Sort::Open || row.entries.iter().all(|e| e.flags & MAY_ROAM != 0);
     if roams && random.once_in(2) {
@@ -277,7 +283,7 @@ pub fn entries(random: &mut Random) -> Vec<Entry> {
             random.below(spare + 1)
         };
         spare -= more;
-        let mut label = text(random, 99);
+        let mut label = typed(&text(random, 99), random);
         label.push(b'A' + index as u8);
         entries.push(Entry {
             label,

@@ -1,6 +1,7 @@
 //! Every way in which a sound row can be spoilt.
 
 use crate::cases::{Case, access, entries};
+use crate::either_case::typed;
 use crate::random::Random;
 use crate::reading_a_message::USER_NAME;
 use crate::the_table::{
@@ -52,7 +53,7 @@ fn damage_meaning(row: &mut Row, way: usize, random: &mut Random) {
         5 => any_access(row, random, |a, _| a.policy = Some(Vec::new())),
         6 => any_access(row, random, |a, _| a.session.clear()),
         7 => any_access(row, random, |a, _| a.host.clear()),
-        8 => same_label(row),
+        8 => label_twice(row, random),
         9 => limits_of_nine(row),
         10 => over_limit(row, random),
         11 => row.entries[entry].label.clear(),
@@ -109,11 +110,12 @@ fn same_session(row: &mut Row, random: &mut Random) {
     }
 }
 
-fn same_label(row: &mut Row) {
+/// The last label is the first, half the time in another case.
+fn label_twice(row: &mut Row, random: &mut Random) {
     if let Some((first, rest)) = row.entries.split_first_mut()
         && let Some(last) = rest.last_mut()
     {
-        last.label = first.label.clone();
+        last.label = typed(&first.label, random);
     }
 }
 

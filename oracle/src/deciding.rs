@@ -4,7 +4,7 @@ use crate::reading_a_message::{
     AA, ORIGIN_HOST, ROUTING_POLICY, Request, SESSION_ID, USER_NAME, VISITED_NETWORK, W_APN,
 };
 use crate::rules::Rules;
-use crate::the_table::{Access, BARRED, MAY_ROAM, PLACES, Row, row_at, sound};
+use crate::the_table::{Access, BARRED, MAY_ROAM, PLACES, Row, row_at, same_label, sound};
 use crate::{Code, SUCCESS, experimental, plain};
 
 /// Numbers of TS 29.229 and of TS 29.234, 10.3.1.
@@ -132,7 +132,7 @@ pub fn terminate(row: &mut Row, request: &Request) -> Result<(), Code> {
     let place = row.place_of(request.text(SESSION_ID));
     let place = place.ok_or(W_APN_UNUSED_BY_USER)?;
     let entry = row.access(place).and_then(|a| row.entry(a.entry));
-    if entry.is_none_or(|e| e.label != request.text(W_APN)) {
+    if entry.is_none_or(|e| !same_label(&e.label, request.text(W_APN))) {
         return Err(W_APN_UNUSED_BY_USER);
     }
     row.free(place);

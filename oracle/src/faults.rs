@@ -8,7 +8,7 @@ use crate::reading_a_message::{
     AA, Field, Form, LIST_BOTH, Name, Needed, SESSION_ID, TERMINATION, USER_NAME, VISITED_NETWORK,
     W_APN, list,
 };
-use crate::the_table::{BARRED, MAY_ROAM, ROW};
+use crate::the_table::{BARRED, MAY_ROAM, ROW, same_label};
 
 #[derive(Clone, Debug)]
 pub enum Fault {
@@ -353,7 +353,8 @@ fn hold_session(case: &mut Case, random: &mut Random) {
 fn other_label(case: &mut Case, random: &mut Random) {
     let old = case.draft.avp(W_APN).map(|avp| avp.value.clone());
     let others = case.row.entries.iter().map(|e| e.label.clone());
-    let others: Vec<_> = others.filter(|label| Some(label) != old.as_ref()).collect();
+    let other = |label: &Vec<u8>| !old.as_ref().is_some_and(|old| same_label(label, old));
+    let others: Vec<_> = others.filter(other).collect();
     let label = match case.sort {
         Sort::Termination if !others.is_empty() => random.pick(&others).clone(),
         _ => b"not entered".to_vec(),
@@ -361,9 +362,13 @@ fn other_label(case: &mut Case, random: &mut Random) {
     set(&mut case.draft, W_APN, &label);
 }
 
-fn other_case(letter: &mut u8) {
-    if letter.is_ascii_alphabetic() {
-        *letter ^= 0x20;
+/// What makes the two cases of a letter, done to a byte that is none. A label that another fault emptied stays so.
+fn like_a_case(label: &mut [u8]) {
+    let place = label.iter().position(|byte| !byte.is_ascii_alphabetic());
+    match (place, label.first_mut()) {
+        (Some(place), _) => label[place] ^= 0x20,
+        (None, Some(first)) => *first ^= 0x80,
+        (None, None) => {}
     }
 }
 
@@ -373,7 +378,7 @@ fn near_label(case: &mut Case, random: &mut Random) {
         return;
     };
     match random.below(3) {
-        0 => avp.value.iter_mut().for_each(other_case),
+        0 => like_a_case(&mut avp.value),
         1 => drop(avp.value.pop()),
         _ => avp.value.insert(0, b'.'),
     }

@@ -4,6 +4,7 @@
 use crate::cases::{Case, SORTS, Sort, digits, garnish, sound_row, text};
 use crate::damages::{DAMAGES, damage, odd_row, some_entry};
 use crate::drafts::{Draft, DraftAvp};
+use crate::either_case::{PAIRS, either_case, typed};
 use crate::faults::{Fault, checks, deciding_checks, own_checks};
 use crate::program::{Operation, Room};
 use crate::random::Random;
@@ -38,6 +39,7 @@ struct Decks {
     singles: Deck<(Sort, Fault)>,
     pairs: Deck<Pair>,
     damages: Deck<usize>,
+    pairs_of_bytes: Deck<(u8, u8)>,
 }
 
 /// The calls of a script.
@@ -48,6 +50,7 @@ pub fn generate(seed: u64, calls: usize) -> Recorder {
         singles: Deck::new(all_singles()),
         pairs: Deck::new(all_pairs()),
         damages: Deck::new((0..DAMAGES).collect()),
+        pairs_of_bytes: Deck::new(PAIRS.to_vec()),
     };
     for turn in 0.. {
         if recorder.is_full() {
@@ -93,10 +96,11 @@ fn round(recorder: &mut Recorder, decks: &mut Decks, random: &mut Random) {
     edges(recorder, random);
     set_up(recorder, random);
     adding(recorder, random);
+    either_case(recorder, *decks.pairs_of_bytes.draw(random), random);
     sequence(recorder, random);
 }
 
-fn record(recorder: &mut Recorder, case: &Case) {
+pub fn record(recorder: &mut Recorder, case: &Case) {
     recorder.set_table(&case.table);
     recorder.call(case.operation(), false);
 }
@@ -331,7 +335,7 @@ fn adding(recorder: &mut Recorder, random: &mut Random) {
     let name = digits(random);
     let row = sound_row(&name, random);
     recorder.set_table(&encode(&DOCUMENT_01, &row));
-    let known = random.pick(&row.entries).label.clone();
+    let known = typed(&random.pick(&row.entries).label, random);
     for label in [known, text(random, 100), vec![b'n'; 101], text(random, 100)] {
         let limit = *random.pick(&[1, 1, 2, 8, 9]);
         let flags = *random.pick(&[0, 1, 2, 3, 3, 4]);
@@ -356,7 +360,7 @@ fn odd_add(name: &[u8], random: &mut Random) -> Operation {
     let label = match random.below(8) {
         0 => vec![b'l'; long],
         1 => text(random, 100),
-        n => vec![b'a' + n as u8 % 5],
+        n => typed(&[b'a' + n as u8 % 5], random),
     };
     let limit = *random.pick(&[1, 1, 1, 1, 1, 1, 2, 2, 3, 4, 8, 0, 9, 255]);
     let flags = *random.pick(&[0, 1, 2, 3, 0, 1, 2, 3, 0, 1, 2, 3, 4, 255]);

@@ -1,4 +1,4 @@
-//! A second reading of document 01: the Wm side of a tunnel access server, written
+//! A second reading of documents 01 and 02: the Wm side of a tunnel access server, written
 //! to be held beside the paper and compared with another program call by call.
 //!
 //! The first modules bear the names of the paper's headings; the others make calls
@@ -15,6 +15,7 @@ pub mod writing_the_answer;
 pub mod cases;
 pub mod damages;
 pub mod drafts;
+pub mod either_case;
 pub mod faults;
 pub mod framing;
 pub mod generator;

@@ -3,9 +3,11 @@
 use std::collections::BTreeMap;
 use std::fmt;
 
+use crate::either_case::{PAIRS, PLACES_OF_LABELS, Texts, pair_key, signs};
 use crate::program::{Operation, Seen};
 use crate::reading_a_message::{
-    AA, HEADER, SESSION_REQUEST_TYPE, TERMINATION, USER_NAME, header, is, number, walk_tests,
+    AA, HEADER, SESSION_ID, SESSION_REQUEST_TYPE, TERMINATION, USER_NAME, W_APN, header, is,
+    number, walk_tests,
 };
 use crate::the_table::{Row, decode, find, row_at};
 
@@ -52,8 +54,28 @@ fn wanted() -> Vec<String> {
     all.extend((1..=8).map(|place| format!("cut from line position {place}")));
     all.extend((1..=4).map(|entry| format!("cut of entry {entry}")));
     all.extend([RETAKEN.to_string(), LOWER.to_string()]);
+    for place in PLACES_OF_LABELS {
+        all.extend(PAIRS.map(|pair| pair_key(pair, place)));
+    }
+    all.extend(CASES_OF_LETTERS.map(str::to_string));
     all
 }
+
+/// What has to be asked in another case than it is held in, and what comes of it.
+const CASES_OF_LETTERS: [&str; 12] = [
+    "label in another case, 265 type 0: 2001",
+    "label in another case, 265 type 0: 5003",
+    "label in another case, 265 type 0: E5004",
+    "label in another case, 275: 2001",
+    "label in another case, add: number 15",
+    "label twice but for case, 265 type 0: 5012",
+    "label twice but for case, 275: 5012",
+    "label twice but for case, add: number 13",
+    "Session-Id in another case, 265 type 0: 2001",
+    "Session-Id in another case, 265 type 1: 5012",
+    "Session-Id in another case, 275: E5042",
+    "name in another case, 265 type 0: E5001",
+];
 
 const RETAKEN: &str = "cut, the freed place taken again";
 const LOWER: &str = "cut, a lower place taken";
@@ -81,6 +103,14 @@ impl Report {
                 format!("{}: {mark}{code}", sort(&asked.message))
             }
         };
+        for sign in signs(&texts(operation), table) {
+            let of_bytes = sign.starts_with("bytes");
+            self.add(if of_bytes {
+                sign
+            } else {
+                format!("{sign}, {key}")
+            });
+        }
         self.add(key);
     }
 
@@ -150,6 +180,34 @@ fn sort(message: &[u8]) -> &'static str {
         (Some(AA), _) => "265 of no type",
         (Some(TERMINATION), _) => "275",
         _ => "other command",
+    }
+}
+
+/// The texts that a call brings and that are looked up in a row.
+fn texts(operation: &Operation) -> Texts<'_> {
+    match operation {
+        Operation::Add { name, label, .. } => Texts {
+            place: "adding",
+            name,
+            label,
+            session: &[],
+        },
+        Operation::Handle(asked) => {
+            let text = |name| readable(&asked.message, name).unwrap_or_default();
+            let place = match sort(&asked.message) {
+                "265 type 0" => "opening",
+                "275" => "termination",
+                _ => "",
+            };
+            let label = if place.is_empty() { &[] } else { text(W_APN) };
+            Texts {
+                place,
+                name: text(USER_NAME),
+                label,
+                session: text(SESSION_ID),
+            }
+        }
+        _ => Texts::default(),
     }
 }
 

@@ -1,4 +1,4 @@
-//! The decisions of document 01 that a program could take otherwise, each as one
+//! The decisions of the papers that a program could take otherwise, each as one
 //! field. `DOCUMENT_01` holds the right one everywhere, and the program proper knows
 //! no other. The tests build wrong programs by exchanging a single field.
 

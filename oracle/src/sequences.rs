@@ -3,6 +3,7 @@
 use crate::cases::{digits, entries, garnish, text};
 use crate::damages::odd_row;
 use crate::drafts::{Draft, DraftAvp};
+use crate::either_case::typed;
 use crate::generator::{add, request};
 use crate::program::Operation;
 use crate::random::Random;
@@ -67,7 +68,8 @@ fn next_request(row: &Row, ends: usize, random: &mut Random) -> (Draft, bool) {
     if let Some(access) = place.and_then(|&p| row.access(p)) {
         session = access.session.clone();
         let own = row.entry(access.entry).map(|e| e.label.clone());
-        label = own.filter(|_| !random.once_in(6)).unwrap_or(label);
+        let own = own.filter(|_| !random.once_in(6));
+        label = own.map_or(label, |own| typed(&own, random));
     }
     if random.once_in(ends) {
         return (Draft::termination(&row.name, &session, &host, &label), true);
@@ -76,10 +78,11 @@ fn next_request(row: &Row, ends: usize, random: &mut Random) -> (Draft, bool) {
     (draft, !random.once_in(5))
 }
 
-/// A Session-Id out of twenty, and one of the row's labels, seldom another one.
+/// A Session-Id out of twenty, which are ten but for their case, and one of the row's
+/// labels, seldom another one.
 fn new_access(row: &Row, random: &mut Random) -> (Vec<u8>, Vec<u8>) {
-    let session = [b's', b';', *random.pick(b"abcdefghijklmnopqrst")];
-    let label = random.pick(&row.entries).label.clone();
+    let session = [b's', b';', *random.pick(b"abcdefghijABCDEFGHIJ")];
+    let label = typed(&random.pick(&row.entries).label, random);
     let nowhere = random.once_in(20);
     let label = if nowhere { b"nowhere".to_vec() } else { label };
     (session.to_vec(), label)

@@ -69,11 +69,11 @@ impl Row {
         (1..=PLACES).find(|&p| self.access(p).is_some_and(|a| a.session == session))
     }
 
-    /// The number, counted from 1, of the entry with this label.
+    /// The number, counted from 1, of the first entry with this label.
     pub fn entry_of(&self, label: &[u8]) -> Option<u8> {
         (1..=PLACES)
             .zip(&self.entries)
-            .find(|(_, entry)| entry.label == label)
+            .find(|(_, entry)| same_label(&entry.label, label))
             .map(|(number, _)| number)
     }
 
@@ -94,6 +94,12 @@ impl Row {
             .get_mut(usize::from(place).checked_sub(1)?)?
             .take()
     }
+}
+
+/// Two labels are the same if their bytes are, an ASCII letter in either case (W3).
+/// Session-Ids, hosts and names are compared as they stand.
+pub fn same_label(one: &[u8], other: &[u8]) -> bool {
+    one.eq_ignore_ascii_case(other)
 }
 
 /// Fletcher-16 over a block's first 510 bytes, in the order in which it is stored.
@@ -248,7 +254,12 @@ fn limits_in_range(row: &Row) -> bool {
 }
 
 fn labels_differ(row: &Row) -> bool {
-    all_differ(row.entries.iter().map(|e| &e.label))
+    let labels = row.entries.iter().map(|e| &e.label).enumerate();
+    let held_before = |(n, label): (usize, &Vec<u8>)| {
+        let mut before = row.entries.iter().take(n);
+        before.any(|e| same_label(&e.label, label))
+    };
+    !labels.into_iter().any(held_before)
 }
 
 fn limits_fit(row: &Row) -> bool {

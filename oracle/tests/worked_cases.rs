@@ -218,7 +218,7 @@ fn case_6_termination() {
 }
 
 #[test]
-fn case_7_barring_roaming_and_no_subscription() {
+fn case_7_barring_roaming_and_a_label_in_another_case() {
     let mut bench = Bench::new();
     let before = bench.table.clone();
     assert_eq!(bench.send(&open(b'a', YARD, true)).code, plain(5003));
@@ -226,9 +226,17 @@ fn case_7_barring_roaming_and_no_subscription() {
         bench.send(&open(b'a', BOARD, true)).code,
         experimental(5004)
     );
-    let outcome = bench.send(&open(b'a', CAPITAL_BOARD, false));
-    assert_eq!(outcome.code, experimental(5044));
+    assert_eq!(
+        bench.send(&open(b'a', CAPITAL_BOARD, true)).code,
+        experimental(5004)
+    );
     assert_eq!(bench.table, before);
+    let outcome = bench.send(&open(b'a', CAPITAL_BOARD, false));
+    let mut other = Bench::new();
+    assert_eq!(outcome, other.send(&open(b'a', BOARD, false)));
+    assert_eq!((outcome.code, outcome.place), (plain(2001), 1));
+    assert_eq!(bench.table, other.table);
+    assert_eq!(bench.answer, other.answer);
 }
 
 #[test]

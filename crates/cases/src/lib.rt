@@ -1,4 +1,5 @@
 // The worked cases of document 01 on a table of one row, step by step: what was asked, what the server answered, and the order line after it.
+// In case 7 "Board" answers as "board" does: labels are compared without regard to case.
 use words::number;
 use words::octet;
 use words::say;
@@ -8,8 +9,8 @@ use words::say;
 // request (`case_requests`).
 fn sign(i: usize) -> u8 {
     let signs =
-        b"#01+..oab#02obb#03ocb#04odb<..+..oabobbocb#05obb#06tcbtab#07veyveboeB#08s..#09ofbr..#10ugbr..#11l8.l9.m6.m0.b..";
-    if i < 111 {
+        b"#01+..oab#02obb#03ocb#04odb<..+..oabobbocb#05obb#06tcbtab#07veyvebveBoeBteB#08s..#09ofbr..#10ugbr..#11l8.l9.m6.m0.b..";
+    if i < 117 {
         return signs[i];
     }
     0
@@ -133,7 +134,7 @@ pub fn step(
     notice: &mut [u8; 256],
     out: &mut [u8; 4096],
 ) -> usize {
-    if 36 < k {
+    if 38 < k {
         return 0;
     }
     let what = sign(3 * k);

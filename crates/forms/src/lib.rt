@@ -9,7 +9,7 @@ ghost use Rattle.octets.specs.Choice.{pick, within};
 ghost use Rattle.octets.specs.Texts.{part, same, allZero};
 ghost use Rattle.table.specs.TheTable.{places, readEntries, sums};
 ghost use Rattle.octets.specs.Lists.{every, distinct, sumOf, upTo0};
-ghost use Rattle.table.specs.Soundness.{zeroBehind, isDigit, isName, headForm, entryForm, entriesForm, sameLabel, labels, limits, accessForm};
+ghost use Rattle.table.specs.Soundness.{zeroBehind, isDigit, isName, headForm, entryForm, entriesForm, lowerCase, sameLabel, labels, limits, accessForm};
 ghost use Rattle.forms.specs.RowTests.{accessSound};
 
 // WHAT THE TESTS SHARE
@@ -174,11 +174,46 @@ pub fn limits_sum(room: &[u8], n: usize) -> u32
     sum
 }
 
-// When two labels are the same.
+// A letter A to Z in lower case; any other byte as it is.
+fn lower_case(x: u8) -> u8
+    ensures { λ r. ⌜ r ≡ lowerCase x ⌝ }
+{
+    if x < b'A' {
+        return x;
+    }
+    if b'Z' < x {
+        return x;
+    }
+    x + 32
+}
+
+// Whether two labels of the same length are the same, byte by byte.
+fn same_letters(a: &[u8], b: &[u8]) -> bool
+    requires { ⌜ length (now a) ≡ length (now b) ⌝ }
+    ensures { λ r. ⌜ r ≡ sameLabel (now (a .entry)) (now (b .entry)) ⌝ }
+{
+    let mut i: usize = 0;
+    while i < a.len() {
+        if lower_case(a[i]) != lower_case(b[i]) {
+            return false;
+        }
+        i += 1;
+    }
+    true
+}
+
+// When two labels are the same, a letter in either case. Most are typed alike: equal bytes are told by words, and only the others are
+// looked at byte by byte.
 pub fn same_label(a: &[u8], b: &[u8]) -> bool
     ensures { λ r. ⌜ r ≡ sameLabel (now (a .entry)) (now (b .entry)) ⌝ }
 {
-    octets::same_bytes(a, b)
+    if octets::same_bytes(a, b) {
+        return true;
+    }
+    if a.len() != b.len() {
+        return false;
+    }
+    same_letters(a, b)
 }
 
 // No label behind label i is the same.

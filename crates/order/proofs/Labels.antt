@@ -14,6 +14,7 @@ use Rattle.octets.proofs.Lists.{and-left, and-right, by-test, same-eq, same-ref
 use Rattle.table.specs.TheTable.{Access, Entry, Subscriber}
 use Rattle.table.specs.Soundness.{labels, onEntry, sameLabel}
 use Rattle.table.proofs.Good.{Good, goodAccess, standing}
+use Rattle.table.proofs.Labels.{label-refl}
 use Rattle.rules.specs.Deciding.{entryAt, entryFrom, entryNamed, noEntry}
 use Rattle.order.specs.OpenedFirst.{labelIn, onLabel, tunnelOf}
 
@@ -48,9 +49,8 @@ every-at f (e ∷ es) zero h l = and-left (f (e .label)) _ h
 every-at f (e ∷ es) (suc j) h l = every-at f es j (and-right (f (e .label)) _ h) (omega arith)
 
 other-label : (x y : List ℕ) → not (sameLabel x y) ≡ true → x ≡ y → ⊥
-unfolding sameLabel
 other-label x y n e =
-    let t : true ≡ false = sym (same-refl y) ∙ (rw e at (not-true (sameLabel x y) n)) in
+    let t : true ≡ false = sym (label-refl y) ∙ (rw e at (not-true (sameLabel x y) n)) in
     let z : _≡_ {A = ℕ} 0 1 = cc in omega arith
 
 one-entry : (es : List Entry) (i j : ℕ) → distinct sameLabel (labels es) ≡ true → i < length es → j < length es

@@ -7,8 +7,9 @@ use lib.ListN.{take, drop}
 use Rattle.setup.specs.SetUp.{add, clear, enter}
 use Rattle.message.specs.WorkedCases.{board, capitalBoard, case10, case9, endAt, gate, gateway, name, openAt, openVisited, ownHost, ownRealm, routeBy, session, yard}
 use Rattle.octets.specs.Lists.{counted}
-use Rattle.octets.specs.Texts.{filled, same, zeros}
-use Rattle.table.specs.TheTable.{orderLine}
+use Rattle.octets.specs.Texts.{filled, part, same, zeros}
+use Rattle.table.specs.TheTable.{Entry, orderLine, readRow, rowBytes}
+use Rattle.changes.specs.Changes.{withEntry}
 use Rattle.table.specs.WorkedCases.{case8}
 use Rattle.rules.specs.Calls.{Left, handle}
 
@@ -73,10 +74,10 @@ twelve =
     -- 6: after 3, termination of c on board; and of a, W-APN_UNUSED_BY_USER
     ∷ (granted (ask (c .table) (endAt (session 99) board)) 0 noCut (2 ∷ [])
     && denied (ask (c .table) (endAt (session 97) board)) (c .table) 5042 2)
-    -- 7: visited on yard, visited on board (ROAMING_NOT_ALLOWED), "Board" (USER_NO_W-APN_SUBSCRIPTION)
+    -- 7: visited on yard, visited on board (ROAMING_NOT_ALLOWED), and "Board", which answers as "board" does in 1
     ∷ denied (ask start (openVisited (session 97) yard)) start 5003 1
     ∷ denied (ask start (openVisited (session 97) board)) start 5004 2
-    ∷ denied (ask start (openAt (session 97) capitalBoard)) start 5044 2
+    ∷ granted (ask start (openAt (session 97) capitalBoard)) 1 noCut (1 ∷ [])
     -- 8 to 10: the sums, Result-Code 2001, USER_UNKNOWN
     ∷ case8
     ∷ case9
@@ -88,6 +89,17 @@ twelve =
 -- The same table, in which the subscriber has a third entry, "gate" (limit 1, may roam).
 unfoldable pub gated : List ℕ
 gated = withLabel start gate 2 1
+
+-- "Board" as an entry of its own, limit 1; a row in which it stands beside "board", which no set-up operation writes; and a
+-- subscriber who has it alone.
+unfoldable pub capitalEntry : Entry
+capitalEntry = record { label = capitalBoard; flags = 0; limit = 1 }
+
+unfoldable pub inBothCases : List ℕ
+inBothCases = rowBytes (withEntry capitalEntry (readRow start))
+
+unfoldable pub capitalOnly : List ℕ
+capitalOnly = withLabel ((enter (zeros 4608) name) .table) capitalBoard 0 1
 
 -- The gate's tunnel g is opened first, from a visited network, then a and b on board: g counts for the gate alone, so that
 -- b cuts nothing, and c cuts a, which is not the head of the line.
@@ -112,4 +124,14 @@ others =
     ∷ denied (ask (e .table) (routeBy (session 100) board)) (e .table) 5012 1
     -- a table without a subscriber: USER_UNKNOWN
     ∷ denied (ask (zeros 4608) (openAt (session 97) board)) (zeros 4608) 5001 2
+    -- "Board" is "board" from a visited network (ROAMING_NOT_ALLOWED) and in a termination
+    ∷ denied (ask start (openVisited (session 97) capitalBoard)) start 5004 2
+    ∷ granted (ask (c .table) (endAt (session 98) capitalBoard)) 0 noCut (1 ∷ 2 ∷ [])
+    -- beside "board" it can not be added: 15; a row that has both is unsound: 5012, and 13 on adding
+    ∷ eqb ((add start name capitalEntry) .number) 15
+    ∷ denied (ask inBothCases (openAt (session 97) board)) inBothCases 5012 1
+    ∷ eqb ((add inBothCases name capitalEntry) .number) 13
+    -- it is stored as entered, and "board" is granted on it
+    ∷ same (part capitalOnly 33 5) capitalBoard
+    ∷ granted (ask capitalOnly (openAt (session 97) board)) 1 noCut (1 ∷ [])
     ∷ []

@@ -7,3 +7,4 @@ pub mod Tests
 pub mod Entries
 pub mod WorkedCases
 pub mod Columns
+pub mod Labels

@@ -76,9 +76,13 @@ unfoldable pub lineExact : List ℕ → Bool
 lineExact r =
     every (within 1 8) (orderLine r) && (distinct eqb (orderLine r) && eqb (getD (block r 0) 17 0) (usedBits (orderLine r)))
 
--- When two labels are the same.
+-- The 26 ASCII letters A to Z (41 to 5A) in lower case (61 to 7A); any other byte as it is.
+unfoldable pub lowerCase : ℕ → ℕ
+lowerCase x = pick (within 65 90 x) (x + 32) x
+
+-- When two labels are the same: equal byte by byte, a letter in either case. Nothing else is compared so.
 unfoldable pub sameLabel : List ℕ → List ℕ → Bool
-sameLabel a b = same a b
+sameLabel a b = same (map lowerCase a) (map lowerCase b)
 
 unfoldable pub labels : List Entry → List (List ℕ)
 labels es = map (λ (e : Entry). e .label) es

@@ -53,39 +53,12 @@ fn held_but_cut(row: &Row, request: &Request) -> Result<u8, Code> {
     }
 }
 
-fn label_in_any_case(row: &Row, request: &Request) -> Result<u8, Code> {
-    let label = request.text(W_APN);
-    let alike = row
-        .entries
-        .iter()
-        .find(|e| e.label.eq_ignore_ascii_case(label));
-    let mut other = request.clone();
-    for (name, value) in &mut other.values {
-        if let (W_APN, Some(entry)) = (*name, alike) {
-            *value = entry.label.leak_copy();
-        }
-    }
-    may_open(row, &other)
-}
-
-/// Lets a text live for the rest of the test.
-trait LeakCopy {
-    fn leak_copy(&self) -> &'static [u8];
-}
-
-impl LeakCopy for Vec<u8> {
-    fn leak_copy(&self) -> &'static [u8] {
-        self.clone().leak()
-    }
-}
-
 pub fn programs() -> Vec<Wrong> {
     let mut all = wrong! {
         "tests roaming before barring": may_open = roaming_first;
         "tests the session before the label": may_open = session_first;
         "refuses a held session on its own label only": may_open = held_on_entry;
         "grants a held session that would be cut": may_open = held_but_cut;
-        "compares labels in any case": may_open = label_in_any_case;
         "does not test roaming": may_open = |row, q| may_open_without(row, q, VISITED_NETWORK);
         "does not test the session": may_open = |row, q| may_open_without(row, q, SESSION_ID);
         "lets roam who is not barred": may_open = |row, q| match may_open(row, q) {

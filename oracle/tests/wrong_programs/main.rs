@@ -10,6 +10,7 @@ macro_rules! wrong {
 
 mod calls;
 mod deciding;
+mod labels;
 mod lists;
 mod reading;
 mod table;
@@ -51,6 +52,7 @@ fn every_wrong_program_is_told_apart() {
         lists::programs_of_order(),
         table::programs(),
         deciding::programs(),
+        labels::programs(),
         writing::programs(),
     ]
     .concat();

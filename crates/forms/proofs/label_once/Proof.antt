@@ -7,7 +7,6 @@ use native.Mathlib.Omega.{arith}
 use lib.ListN.{drop, getD}
 use borrow.Author.Needs.{needs}
 use Rattle.octets.specs.Lists.{every}
-use Rattle.octets.specs.Texts.{same}
 use Rattle.table.specs.Soundness.{labels, sameLabel}
 use Rattle.table.specs.TheTable.{readEntries}
 use Rattle.table.proofs.Tests.{every-end, every-on-true, every-out}
@@ -94,7 +93,6 @@ same-label-requires : tie.Need-same-label-requires Inv-loop μ-loop
 same-label-requires c κs = search needs
 
 returns : tie.Need-returns Inv-loop μ-loop
-unfolding sameLabel
 returns c =
     let given = c .before .before .before .before .before .before .before .before .before .before .before .args in
     let same-label-was = c .before .same-label in
@@ -104,7 +102,7 @@ returns c =
     let long2-was = c .before .before .before .before .long2 in
     let test1 = c .if1 in
     let all : List (List ℕ) = labels (readEntries (given .n) (given .room .now)) in
-    let said : same-label-was .result ≡ same (getD all (given .i) []) (getD all (loop-was .j) []) = rw (label-lent (given .n) (given .i) (long-was .result) (given .room .now) (pre-was .2) (pre-was .3) (long-was .ensures .0), label-lent (given .n) (loop-was .j) (long2-was .result) (given .room .now) (omega arith) (pre-was .3) (long2-was .ensures .0)) at (same-label-was .ensures) in
+    let said : same-label-was .result ≡ sameLabel (getD all (given .i) []) (getD all (loop-was .j) []) = rw (label-lent (given .n) (given .i) (long-was .result) (given .room .now) (pre-was .2) (pre-was .3) (long-was .ensures .0), label-lent (given .n) (loop-was .j) (long2-was .result) (given .room .now) (omega arith) (pre-was .3) (long2-was .ensures .0)) at (same-label-was .ensures) in
     sym (every-out [] (λ y. not (sameLabel (getD all (given .i) []) y)) all (loop-was .j) (omega (arith, length-labels (given .n) (given .room .now))) (ap not (sym said ∙ test1 .taken))) ∙ loop-was .inv .2
 
 add-j-2 : tie.Need-add-j-2 Inv-loop μ-loop
@@ -114,7 +112,6 @@ loop-less : tie.Need-loop-less Inv-loop μ-loop
 loop-less c = search needs
 
 loop-again : tie.Need-loop-again Inv-loop μ-loop
-unfolding sameLabel
 loop-again c =
     let given = c .before .before .before .before .before .before .before .before .before .before .before .args in
     let same-label-was = c .before .same-label in
@@ -124,7 +121,7 @@ loop-again c =
     let long2-was = c .before .before .before .before .long2 in
     let test1 = c .if1 in
     let all : List (List ℕ) = labels (readEntries (given .n) (given .room .now)) in
-    let said : same-label-was .result ≡ same (getD all (given .i) []) (getD all (loop-was .j) []) = rw (label-lent (given .n) (given .i) (long-was .result) (given .room .now) (pre-was .2) (pre-was .3) (long-was .ensures .0), label-lent (given .n) (loop-was .j) (long2-was .result) (given .room .now) (omega arith) (pre-was .3) (long2-was .ensures .0)) at (same-label-was .ensures) in
+    let said : same-label-was .result ≡ sameLabel (getD all (given .i) []) (getD all (loop-was .j) []) = rw (label-lent (given .n) (given .i) (long-was .result) (given .room .now) (pre-was .2) (pre-was .3) (long-was .ensures .0), label-lent (given .n) (loop-was .j) (long2-was .result) (given .room .now) (omega arith) (pre-was .3) (long2-was .ensures .0)) at (same-label-was .ensures) in
     (omega arith, omega arith, every-on-true [] (λ y. not (sameLabel (getD all (given .i) []) y)) all (loop-was .j) (omega (arith, length-labels (given .n) (given .room .now))) (ap not (sym said ∙ test1 .left)) ∙ loop-was .inv .2)
 
 returns-2 : tie.Need-returns-2 Inv-loop μ-loop
