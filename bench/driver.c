@@ -191,10 +191,11 @@ static void wrong_length(void) {
     messages[0].bytes[3] ^= 4;
 }
 
-/* The last AVP that is asked for, the W-APN, has another vendor. */
+/* The last AVP that is asked for, the W-APN, has another vendor, and no M. */
 static void no_label(void) {
     cutting();
     messages[0].bytes[messages[0].length - 29] ^= 1;
+    messages[0].bytes[messages[0].length - 36] ^= 0x40;
 }
 
 static void bare(void) {
@@ -203,9 +204,25 @@ static void bare(void) {
     finish(&messages[0]);
 }
 
+/* An AVP without V and without a value. */
+static void put_bare(struct request *r, uint32_t code, uint32_t flags) {
+    put_number(r, 4, code);
+    put_number(r, 1, flags);
+    put_number(r, 3, 8);
+}
+
+/* AVPs that are not known, without M, as many as there is room for. */
 static void put_tiny(struct request *r) {
     while (r->length + 8 <= MESSAGE_MOST)
-        put_avp(r, 33, false, "", 0);
+        put_bare(r, 33, 0);
+    finish(r);
+}
+
+/* AVPs that no list names and that are known, with M, as many as there is room for. */
+static void put_known(struct request *r) {
+    static const uint16_t codes[] = {32, 4, 278, 25, 61, 5, 282, 30, 31, 276, 7, 12, 401};
+    for (size_t i = 0; r->length + 8 <= MESSAGE_MOST; i++)
+        put_bare(r, codes[i % (sizeof codes / sizeof *codes)], 0x40);
     finish(r);
 }
 
@@ -213,6 +230,18 @@ static void tiny_refused(void) {
     cutting();
     start(&messages[0], 0xC0, 265, 1, 0);
     put_tiny(&messages[0]);
+}
+
+/* The last one has M. */
+static void last_refused(void) {
+    tiny_refused();
+    messages[0].bytes[MESSAGE_MOST - 8] |= 0x40;
+}
+
+static void known_opened(void) {
+    cutting();
+    for (size_t i = 0; i < MESSAGES; i++)
+        put_known(&messages[i]);
 }
 
 static void tiny_opened(void) {
@@ -268,7 +297,9 @@ static const struct line lines[] = {
     {"refused: bare header", bare, 1, 1, false, {5005, 1, 0, 0, 0, 0, 0}},
     {"refused: no W-APN", no_label, 1, 1, false, {5005, 1, 0, 0, 0, 0, 0}},
     {"refused: 509 AVPs of 8 bytes", tiny_refused, 1, 1, false, {5005, 1, 0, 0, 0, 0, 0}},
+    {"refused: the last of 509 AVPs", last_refused, 1, 1, false, {5001, 1, 0, 0, 0, 0, 0}},
     {"opening with a cut, 463 more AVPs", tiny_opened, 1, MESSAGES, false, {2001, 1, 0, 0, 1, 72, 39}},
+    {"opening with a cut, 463 known AVPs with M", known_opened, 1, MESSAGES, false, {2001, 1, 0, 0, 1, 72, 39}},
     {"opening with a cut, 64 Proxy-Infos", many_proxies, 1, MESSAGES, false, {2001, 1, 0, 0, 1, 72, 39}},
     {"opening with a cut, 40 Proxy-Infos apart", proxies_apart, 1, MESSAGES, false, {2001, 1, 0, 0, 1, 72, 39}},
     {"unknown user, 1,024 rows", unknown, 1024, 1, false, {5001, 2, 0, 0, 0, 0, 0}},

@@ -102,12 +102,32 @@ static void value_field(struct request *r, uint32_t code, bool of_3gpp, uint32_t
     field(r, code, of_3gpp, value, 4);
 }
 
+/* An AVP that no list names: a known one with M, or one that is not known, mostly without. */
+static void stranger(struct request *r) {
+    static const uint16_t known[] = {282, 25, 32, 4, 278, 401, 402, 443, 444, 450, 578, 279, 298};
+    static const uint16_t unknown[] = {33, 280, 97, 408, 285, 100, 312, 600, 304, 26, 3, 579, 0};
+    size_t flags = r->length + 4, length = one_in(2) ? 17 : 0;
+    if (one_in(8))
+        put_avp(r, 304, true, "relay.example.org", length);
+    else if (one_in(2))
+        put_avp(r, known[below(sizeof known / sizeof *known)], false, "relay.example.org", length);
+    else {
+        if (one_in(3)) {
+            put_avp(r, one_in(2) ? 263 : known[below(4)], true, "relay.example.org", length);
+            r->bytes[flags + 7] ^= (uint8_t)below(2);
+        } else
+            put_avp(r, unknown[below(sizeof unknown / sizeof *unknown)], false, "relay.example.org", length);
+        if (!one_in(40))
+            r->bytes[flags] &= 0xBF;
+    }
+}
+
 static void other(struct request *r) {
     while (one_in(3) && r->length < 2000) {
         if (one_in(2))
             put_proxy_info(r);
         else
-            put_text(r, one_in(2) ? 282 : 33, one_in(2) ? "relay.example.org" : "");
+            stranger(r);
     }
 }
 
@@ -184,15 +204,15 @@ static void by_chance(struct request *r) {
         flags |= 0x80;
     start(r, flags, one_in(100) ? 272 + (decoded ? 2 : below(4)) : termination ? 275 : 265, one_in(60) ? below(3) : 1, below(9999));
     if (one_in(60))
-        put_text(r, 33, "before");
+        put_text(r, one_in(2) ? 25 : 33, "before");
     text_field(r, 263, false, PICK(sessions));
     fields(r, termination, one_in(4));
     other(r);
     if (one_in(100))
         while (r->length < MESSAGE_MOST - 8 + 4 * below(4))
-            put_avp(r, 33, false, "", 0);
+            put_avp(r, 25, false, "", 0);
     if (one_in(100)) {
-        put_text(r, 33, "");
+        put_text(r, one_in(2) ? 25 : 33, "");
         r->bytes[r->length - 4] |= 1;
     }
     finish(r);

@@ -342,14 +342,24 @@ enum slot {
     ROUTING_POLICY,
     CAUSE,
     PROXY_INFO,
-    SLOTS
+    SLOTS,
+    KNOWN = SLOTS
 };
 
-/* Codes without V. */
-static const uint8_t base_slot[297] = {[1] = USER_NAME,           [258] = AUTH_APPLICATION, [263] = SESSION_ID,
-                                       [264] = ORIGIN_HOST,       [274] = AUTH_TYPE,        [283] = DESTINATION_REALM,
-                                       [284] = PROXY_INFO,        [293] = DESTINATION_HOST, [295] = CAUSE,
-                                       [296] = ORIGIN_REALM};
+/* M in the word of flags and length. */
+enum { MANDATORY = 0x40000000 };
+
+/* Codes without V. KNOWN are those that no list asks for. */
+static const uint8_t base_slot[579] = {
+    [1] = USER_NAME,   [258] = AUTH_APPLICATION,  [263] = SESSION_ID, [264] = ORIGIN_HOST,
+    [274] = AUTH_TYPE, [283] = DESTINATION_REALM, [284] = PROXY_INFO, [293] = DESTINATION_HOST,
+    [295] = CAUSE,     [296] = ORIGIN_REALM,      [266] = KNOWN,      [268] = KNOWN,
+    [279] = KNOWN,     [297 ... 298] = KNOWN,     [443 ... 444] = KNOWN, [450] = KNOWN,
+    [2] = KNOWN,       [4 ... 9] = KNOWN,         [12 ... 14] = KNOWN, [19] = KNOWN,
+    [24 ... 25] = KNOWN, [30 ... 32] = KNOWN,     [34 ... 36] = KNOWN, [60 ... 63] = KNOWN,
+    [70] = KNOWN,      [73 ... 74] = KNOWN,       [77] = KNOWN,       [87] = KNOWN,
+    [94 ... 96] = KNOWN, [98] = KNOWN,            [276 ... 278] = KNOWN, [282] = KNOWN,
+    [291] = KNOWN,     [401 ... 402] = KNOWN,     [578] = KNOWN};
 
 /* What one walk gathers: bit s of `seen` and `twice` for slot s, where its value starts and how long it is (of the last one
  * where there are several: then only their number counts), and the stretch from the first Proxy-Info to the last one's end. */
@@ -374,6 +384,8 @@ static inline uint32_t vendor_slot(const uint8_t *avp) {
         return ROUTING_POLICY;
     case 600:
         return VISITED_NETWORK;
+    case 304:
+        return KNOWN;
     default:
         return OTHER;
     }
@@ -412,7 +424,10 @@ static APART uint32_t walk(const uint8_t *m, const uint8_t *end, struct avps *a)
                 return code;
             next = p + ((length + 3) & ~3u);
             slot = vendor_slot(p);
-            if (slot != OTHER)
+            if (slot == OTHER) {
+                if (flags_length & MANDATORY)
+                    return 5001;
+            } else if (slot != KNOWN)
                 gather(a, slot, p, 12, length, next);
         } else {
             next = p + ((length + 3) & ~3u);
@@ -420,7 +435,10 @@ static APART uint32_t walk(const uint8_t *m, const uint8_t *end, struct avps *a)
                 return 5014;
             slot = number(p);
             slot = slot < sizeof base_slot ? base_slot[slot] : OTHER;
-            if (slot != OTHER)
+            if (slot == OTHER) {
+                if (flags_length & MANDATORY)
+                    return 5001;
+            } else if (slot != KNOWN)
                 gather(a, slot, p, 8, length, next);
         }
     }

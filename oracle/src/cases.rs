@@ -2,6 +2,7 @@
 
 use crate::drafts::{Draft, DraftAvp};
 use crate::either_case::typed;
+use crate::known_avps::known_and_ignored;
 use crate::program::{Asked, Operation, Room};
 use crate::random::Random;
 use crate::reading_a_message::{
@@ -201,13 +202,21 @@ pub fn garnish(draft: &mut Draft, random: &mut Random) {
         let length = random.below(14);
         let mut avp = DraftAvp::new(stranger(random), &random.bytes(length));
         avp.padding = random.byte();
-        avp.flags = *random.pick(&[0, 0x20, 0x40, 0x60]);
+        let flags = [0, 0x20, 0x40, 0x60];
+        avp.flags = *random.pick(&flags[..flags_of(avp.name)]);
         draft.insert(random.below(20), avp);
     }
 }
 
-/// A name that is in no list: Proxy-Info, an AVP of no meaning here, or one that has
-/// only the code of a known one.
+/// How many of the flags 0, P, M, and M with P an AVP may have without being refused:
+/// none with M if it is not known.
+fn flags_of(name: Name) -> usize {
+    let known = name == PROXY_INFO || known_and_ignored().contains(&name);
+    if known { 4 } else { 2 }
+}
+
+/// A name that is in no list: Proxy-Info, an AVP that is known and ignored, one of no
+/// meaning here, or one that has only the code of a known one.
 fn stranger(random: &mut Random) -> Name {
     const VENDORS: [Option<u32>; 4] = [None, Some(0), Some(9), Some(10_415)];
     const CODES: [u32; 18] = [
@@ -215,6 +224,9 @@ fn stranger(random: &mut Random) -> Name {
     ];
     if random.once_in(2) {
         return PROXY_INFO;
+    }
+    if random.once_in(3) {
+        return *random.pick(&known_and_ignored());
     }
     loop {
         let vendor = *random.pick(&VENDORS);

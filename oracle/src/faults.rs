@@ -3,10 +3,11 @@
 use crate::cases::{Case, Sort, text};
 use crate::damages::{DAMAGES, damage};
 use crate::drafts::{Draft, DraftAvp};
+use crate::known_avps::UNKNOWN;
 use crate::random::Random;
 use crate::reading_a_message::{
-    AA, Field, Form, LIST_BOTH, Name, Needed, SESSION_ID, TERMINATION, USER_NAME, VISITED_NETWORK,
-    W_APN, list,
+    AA, Field, Form, LIST_BOTH, MANDATORY, Name, Needed, SESSION_ID, TERMINATION, USER_NAME,
+    VISITED_NETWORK, W_APN, list,
 };
 use crate::the_table::{BARRED, MAY_ROAM, ROW, same_label};
 
@@ -33,7 +34,11 @@ pub enum Fault {
     /// An AVP claims this length.
     Claim(u32),
     Absent(Name),
-    /// An AVP has another vendor, or none, and so is another AVP.
+    /// An AVP that is not known, with M: anywhere, as the first or as the last.
+    Unknown(Name),
+    UnknownFirst(Name),
+    UnknownLast(Name),
+    /// An AVP has another vendor, or none, and so is another AVP, not known and without M.
     Renamed(Name, Name),
     NotFirst,
     Twice(Field),
@@ -94,7 +99,7 @@ fn call_checks() -> Vec<Vec<Fault>> {
     ]
 }
 
-fn header_checks(sort: Sort) -> Vec<Vec<Fault>> {
+pub fn header_checks(sort: Sort) -> Vec<Vec<Fault>> {
     use Fault::*;
     let commands = [0, 257, 258, 264, 274, 276, 265 + (1 << 16), 0x00FF_FFFF];
     let mut applications = [0, 2, 10_415, 1 << 24, 257, u32::MAX]
@@ -114,6 +119,7 @@ fn header_checks(sort: Sort) -> Vec<Vec<Fault>> {
         [4_090, 1 << 16, 0x00FF_FFFF].map(Claim).to_vec(),
         vec![Tail(&[0, 0, 0, 25, 0x80, 0, 0, 8])],
         vec![Tail(&[0, 0, 0, 25, 0x80, 0, 0, 12])],
+        UNKNOWN.map(Unknown).to_vec(),
     ]
 }
 
@@ -233,8 +239,15 @@ impl Fault {
             Fault::Renamed(name, other) => {
                 for avp in draft.avps.iter_mut().filter(|avp| avp.name == *name) {
                     avp.name = *other;
+                    avp.flags &= !MANDATORY;
                 }
             }
+            Fault::Unknown(name) => {
+                let place = random.below(draft.avps.len() + 1);
+                unknown_avp(draft, place, *name, random);
+            }
+            Fault::UnknownFirst(name) => unknown_avp(draft, 0, *name, random),
+            Fault::UnknownLast(name) => unknown_avp(draft, draft.avps.len(), *name, random),
             Fault::NotFirst => not_first(draft, random),
             Fault::Twice(field) => twice(draft, field, random),
             Fault::Length(field, length) => {
@@ -297,6 +310,14 @@ fn twice(draft: &mut Draft, field: &Field, random: &mut Random) {
             return;
         }
     }
+}
+
+/// An AVP that is not known, with M, in this place.
+fn unknown_avp(draft: &mut Draft, place: usize, name: Name, random: &mut Random) {
+    let length = random.below(14);
+    let mut avp = DraftAvp::new(name, &random.bytes(length));
+    avp.flags = *random.pick(&[0x40, 0x60]);
+    draft.avps.insert(place, avp);
 }
 
 /// Another AVP before the Session-Id, which may stand there twice then.

@@ -5,7 +5,8 @@ use crate::cases::{Case, SORTS, Sort, digits, garnish, sound_row, text};
 use crate::damages::{DAMAGES, damage, odd_row, some_entry};
 use crate::drafts::{Draft, DraftAvp};
 use crate::either_case::{PAIRS, either_case, typed};
-use crate::faults::{Fault, checks, deciding_checks, own_checks};
+use crate::faults::{Fault, checks, deciding_checks, header_checks, own_checks};
+use crate::known_avps::{UNKNOWN, known_and_ignored};
 use crate::program::{Operation, Room};
 use crate::random::Random;
 use crate::reading_a_message::{Name, PROXY_INFO, VISITED_NETWORK};
@@ -40,6 +41,8 @@ struct Decks {
     pairs: Deck<Pair>,
     damages: Deck<usize>,
     pairs_of_bytes: Deck<(u8, u8)>,
+    known: Deck<Name>,
+    unknown: Deck<(Sort, Vec<Fault>)>,
 }
 
 /// The calls of a script.
@@ -51,6 +54,8 @@ pub fn generate(seed: u64, calls: usize) -> Recorder {
         pairs: Deck::new(all_pairs()),
         damages: Deck::new((0..DAMAGES).collect()),
         pairs_of_bytes: Deck::new(PAIRS.to_vec()),
+        known: Deck::new(known_and_ignored()),
+        unknown: Deck::new(all_unknown()),
     };
     for turn in 0.. {
         if recorder.is_full() {
@@ -91,6 +96,13 @@ fn round(recorder: &mut Recorder, decks: &mut Decks, random: &mut Random) {
         let way = *decks.damages.draw(random);
         damaged(recorder, way, random);
     }
+    for sort in SORTS {
+        known_with_m(recorder, decks, sort, random);
+    }
+    for _ in 0..6 {
+        let (sort, faults) = decks.unknown.draw(random).clone();
+        faulty(recorder, sort, &faults, random);
+    }
     duplicates(recorder, random);
     noise(recorder, random);
     edges(recorder, random);
@@ -111,6 +123,35 @@ fn all_singles() -> Vec<(Sort, Fault)> {
         all.extend(checks(sort).concat().into_iter().map(|fault| (sort, fault)));
     }
     all
+}
+
+/// For each sort, every AVP that is not known by itself, and one before and one behind
+/// each failure of header and walk.
+fn all_unknown() -> Vec<(Sort, Vec<Fault>)> {
+    let mut all = Vec::new();
+    for sort in SORTS {
+        let alone = UNKNOWN.map(|name| (sort, vec![Fault::Unknown(name)]));
+        all.extend(alone);
+        for (turn, failure) in header_checks(sort).iter().enumerate() {
+            let name = UNKNOWN[turn % UNKNOWN.len()];
+            for unknown in [Fault::UnknownFirst(name), Fault::UnknownLast(name)] {
+                all.push((sort, vec![failure[0].clone(), unknown]));
+            }
+        }
+    }
+    all
+}
+
+/// A request that is granted in spite of AVPs with M that no list names: they are known.
+fn known_with_m(recorder: &mut Recorder, decks: &mut Decks, sort: Sort, random: &mut Random) {
+    let mut case = Case::good(sort, random);
+    for _ in 0..3 {
+        let length = random.below(14);
+        let name = *decks.known.draw(random);
+        let avp = DraftAvp::new(name, &random.bytes(length));
+        case.draft.insert(random.below(20), avp);
+    }
+    record(recorder, &case);
 }
 
 /// For each sort, one of the faults that only deciding can find.

@@ -6,6 +6,7 @@
 
 pub mod deciding;
 pub mod handling;
+pub mod known_avps;
 pub mod reading_a_message;
 pub mod rules;
 pub mod set_up;

@@ -18,6 +18,7 @@ pub const HEADER_RESERVED: u8 = 0x0F;
 
 /// AVP flags: V M P and five reserved bits.
 pub const VENDOR: u8 = 0x80;
+pub const MANDATORY: u8 = 0x40;
 pub const AVP_RESERVED: u8 = 0x1F;
 
 /// What the tests look at in the 20 bytes of the header.
@@ -69,6 +70,7 @@ pub fn header_tests(header: &Header) -> Result<(), Code> {
 pub struct Avp<'m> {
     pub code: u32,
     pub vendor: Option<u32>,
+    pub mandatory: bool,
     pub value: &'m [u8],
     pub whole: &'m [u8],
 }
@@ -94,17 +96,20 @@ pub fn walk_tests(rest: &[u8]) -> Result<Avp<'_>, Code> {
     Ok(Avp {
         code: number(&rest[..4]),
         vendor: (start == 12).then(|| number(&rest[8..12])),
+        mandatory: flags & MANDATORY != 0,
         value: &rest[start..length],
         whole: &rest[..end],
     })
 }
 
-/// All AVPs, one after another; the first that fails a test gives the code.
+/// All AVPs, one after another; the first that fails a test gives the code. Behind the
+/// four tests of an AVP, and before the next one, comes the fifth (W1).
 pub fn walk<'m>(rules: &Rules, message: &'m [u8]) -> Result<Vec<Avp<'m>>, Code> {
     let mut avps = Vec::new();
     let mut rest = message.get(HEADER..).unwrap_or_default();
     while !(rules.walk_is_over)(rest) {
         let avp = (rules.walk_tests)(rest)?;
+        (rules.supported)(&avp)?;
         rest = rest.get(avp.whole.len()..).unwrap_or_default();
         avps.push(avp);
     }
@@ -123,11 +128,11 @@ pub struct Name {
     pub vendor: Option<u32>,
 }
 
-const fn base(code: u32) -> Name {
+pub const fn base(code: u32) -> Name {
     Name { code, vendor: None }
 }
 
-const fn of_3gpp(code: u32) -> Name {
+pub const fn of_3gpp(code: u32) -> Name {
     let vendor = Some(VENDOR_3GPP);
     Name { code, vendor }
 }

@@ -4,10 +4,11 @@ use std::collections::BTreeMap;
 use std::fmt;
 
 use crate::either_case::{PAIRS, PLACES_OF_LABELS, Texts, pair_key, signs};
+use crate::known_avps::{UNKNOWN, known_and_ignored, supported};
 use crate::program::{Operation, Seen};
 use crate::reading_a_message::{
-    AA, HEADER, SESSION_ID, SESSION_REQUEST_TYPE, TERMINATION, USER_NAME, W_APN, header, is,
-    number, walk_tests,
+    AA, Avp, HEADER, MANDATORY, Name, SESSION_ID, SESSION_REQUEST_TYPE, TERMINATION, USER_NAME,
+    VENDOR, W_APN, header, is, number, walk_tests,
 };
 use crate::the_table::{Row, decode, find, row_at};
 
@@ -20,15 +21,15 @@ pub struct Report {
 const WANTED: [(&str, &str); 4] = [
     (
         "265 type 0",
-        "2001 3007 3008 3009 5003 5004 5005 5009 5012 5013 5014 E5001 E5004 E5044",
+        "2001 3007 3008 3009 5001 5003 5004 5005 5009 5012 5013 5014 E5001 E5004 E5044",
     ),
     (
         "265 type 1",
-        "2001 3007 3008 3009 5004 5005 5009 5012 5013 5014 E5001",
+        "2001 3007 3008 3009 5001 5004 5005 5009 5012 5013 5014 E5001",
     ),
     (
         "275",
-        "2001 3007 3008 3009 5004 5005 5009 5012 5013 5014 E5001 E5042",
+        "2001 3007 3008 3009 5001 5004 5005 5009 5012 5013 5014 E5001 E5042",
     ),
     ("other command", "3001 3008 5013"),
 ];
@@ -58,6 +59,10 @@ fn wanted() -> Vec<String> {
         all.extend(PAIRS.map(|pair| pair_key(pair, place)));
     }
     all.extend(CASES_OF_LETTERS.map(str::to_string));
+    all.extend(known_and_ignored().into_iter().map(known_key));
+    all.extend(UNKNOWN.into_iter().map(unknown_key));
+    all.extend([AT_FIRST, LATER, BEFORE_BROKEN, BEHIND_BROKEN].map(str::to_string));
+    all.extend([3001, 3007, 3008, 5013].map(beside_key));
     all
 }
 
@@ -80,6 +85,30 @@ const CASES_OF_LETTERS: [&str; 12] = [
 const RETAKEN: &str = "cut, the freed place taken again";
 const LOWER: &str = "cut, a lower place taken";
 
+const AT_FIRST: &str = "5001 for the first AVP";
+const LATER: &str = "5001 for a later AVP";
+const BEFORE_BROKEN: &str = "5001 before a broken AVP";
+const BEHIND_BROKEN: &str = "3009 before an AVP that is not known";
+
+fn known_key(name: Name) -> String {
+    format!("2001 with M on {}", name_key(name))
+}
+
+fn unknown_key(name: Name) -> String {
+    format!("5001 for {}", name_key(name))
+}
+
+fn beside_key(code: u32) -> String {
+    format!("{code} beside an AVP that is not known")
+}
+
+fn name_key(name: Name) -> String {
+    match name.vendor {
+        None => format!("AVP {}", name.code),
+        Some(vendor) => format!("AVP {} of vendor {vendor}", name.code),
+    }
+}
+
 fn number_key(operation: &str, number: u32) -> String {
     format!("{operation}: number {number}")
 }
@@ -99,6 +128,7 @@ impl Report {
             Operation::Handle(_) if seen.numbers[1] == 0 => number_key("handle", code),
             Operation::Handle(asked) => {
                 self.count_place(&asked.message, table, seen);
+                self.count_known(&asked.message, seen);
                 let mark = if seen.numbers[1] == 2 { "E" } else { "" };
                 format!("{}: {mark}{code}", sort(&asked.message))
             }
@@ -112,6 +142,35 @@ impl Report {
             });
         }
         self.add(key);
+    }
+
+    /// Which AVPs with M made no difference because they are known, and which did.
+    fn count_known(&mut self, message: &[u8], seen: &Seen) {
+        let (avps, broken) = loosely_read(message);
+        let with_m = avps.iter().filter(|avp| avp.mandatory);
+        let unknown = avps.iter().position(|avp| supported(avp).is_err());
+        match (&seen.numbers[..2], unknown) {
+            ([2001, 1], _) => {
+                let known = known_and_ignored().into_iter();
+                let there = known.filter(|name| with_m.clone().any(|avp| is(avp, *name)));
+                there.for_each(|name| self.add(known_key(name)));
+            }
+            ([5001, 1], Some(at)) => {
+                let known = UNKNOWN.into_iter().find(|name| is(&avps[at], *name));
+                known
+                    .into_iter()
+                    .for_each(|name| self.add(unknown_key(name)));
+                self.add(if at == 0 { AT_FIRST } else { LATER }.to_string());
+                if broken.is_some() {
+                    self.add(BEFORE_BROKEN.to_string());
+                }
+            }
+            ([code @ (3001 | 3007 | 3008 | 5013), 1], Some(_)) => self.add(beside_key(*code)),
+            ([3009, 1], Some(at)) if broken.is_some_and(|place| place < at) => {
+                self.add(BEHIND_BROKEN.to_string());
+            }
+            _ => (),
+        }
     }
 
     fn count_place(&mut self, message: &[u8], table: &[u8], seen: &Seen) {
@@ -159,8 +218,40 @@ impl fmt::Display for Report {
     }
 }
 
+/// The AVPs as far as lengths lead, and which of them or what behind them is broken;
+/// one with reserved bits is stepped over here.
+fn loosely_read(message: &[u8]) -> (Vec<Avp<'_>>, Option<usize>) {
+    let (mut avps, mut broken) = (Vec::new(), None);
+    let mut rest = message.get(HEADER..).unwrap_or_default();
+    while !rest.is_empty() {
+        if walk_tests(rest).is_err() {
+            broken = broken.or(Some(avps.len()));
+        }
+        let Some(avp) = by_length(rest) else {
+            break;
+        };
+        rest = &rest[avp.whole.len()..];
+        avps.push(avp);
+    }
+    (avps, broken)
+}
+
+/// The AVP at the front, whatever its reserved bits.
+fn by_length(rest: &[u8]) -> Option<Avp<'_>> {
+    let flags = *rest.get(4)?;
+    let start = if flags & VENDOR != 0 { 12 } else { 8 };
+    let length = number(rest.get(5..8)?) as usize;
+    Some(Avp {
+        code: number(&rest[..4]),
+        vendor: (start == 12).then(|| number(rest.get(8..12).unwrap_or_default())),
+        mandatory: flags & MANDATORY != 0,
+        value: rest.get(start..length)?,
+        whole: rest.get(..length.next_multiple_of(4))?,
+    })
+}
+
 /// The AVPs that can be read before one fails, by name and value.
-fn readable(message: &[u8], name: crate::reading_a_message::Name) -> Option<&[u8]> {
+fn readable(message: &[u8], name: Name) -> Option<&[u8]> {
     let mut rest = message.get(HEADER..)?;
     while let Ok(avp) = walk_tests(rest) {
         if is(&avp, name) {

@@ -3,6 +3,7 @@
 //! no other. The tests build wrong programs by exchanging a single field.
 
 use crate::handling::{Call, handle, no_answer};
+use crate::known_avps::supported;
 use crate::reading_a_message::{
     Avp, Field, Header, Name, Request, header_tests, is, list, read_field, read_list, walk_is_over,
     walk_tests,
@@ -35,6 +36,7 @@ pub struct Rules {
     pub header_tests: fn(&Header) -> Result<(), Code>,
     pub walk_is_over: fn(&[u8]) -> bool,
     pub walk_tests: fn(&[u8]) -> Result<Avp<'_>, Code>,
+    pub supported: fn(&Avp) -> Result<(), Code>,
     pub is: fn(&Avp, Name) -> bool,
     pub list: fn(u32) -> Vec<Field>,
     pub read_list: ReadList,
@@ -74,6 +76,7 @@ pub const DOCUMENT_01: Rules = Rules {
     header_tests,
     walk_is_over,
     walk_tests,
+    supported,
     is,
     list,
     read_list,

@@ -15,12 +15,13 @@ use Rattle.octets.specs.Texts.{part, put}
 use Rattle.octets.specs.Numbers.{net24, net32, up4}
 use Rattle.octets.proofs.Lists.{by-test, and-left, and-right, eqb-comm}
 use Rattle.octets.proofs.Texts.{length-part, length-put, put-then}
-use Rattle.message.specs.ReadingAMessage.{headerCode, sameName, Avp, Walk, behind, avpLength, avpCode, avpOf, avps, walkCode, having, present, proxyInfo}
+use Rattle.message.specs.ReadingAMessage.{headerCode, sameName, Avp, Walk, behind, avpLength, avpCode, avpOf, requestCode, avps, walkCode, having, present, proxyInfo}
 use Rattle.message.specs.WritingTheAnswer.{allBytes, proxyAvps}
 use Rattle.message.specs.Spans.{hasProxies}
 use Rattle.answers.specs.Answers.{Written}
 use Rattle.message.proofs.Heads.{net24-drop, net32-drop, name-v, name-base}
-use Rattle.message.proofs.Gathering.{walk-end, walk-bad, walk-one, next-on, having-is, having-not, ahead}
+use Rattle.message.proofs.Walks.{walk-end, walk-bad, walk-one, request-four}
+use Rattle.message.proofs.Gathering.{next-on, having-is, having-not, ahead}
 
 -- ONE AVP
 
@@ -68,7 +69,7 @@ proxies-start m e =
 
 pub proxies-end : (m : List ℕ) (from : ℕ) → length m ≤ from → proxiesFrom m from ≡ []
 unfolding proxiesFrom having keep allBytes
-proxies-end m from h = rw (walk-end (drop from m) (rw length-drop (omega arith)))
+proxies-end m from h = rw (walk-end requestCode request-four (drop from m) (rw length-drop (omega arith)))
 
 pub passed-start : (m : List ℕ) → true ≡ hasProxies m → (ahead m 20) .code ≡ 0
 unfolding hasProxies walkCode
@@ -81,20 +82,23 @@ some zero h = absurd (h refl)
 some (suc n) h = omega arith
 
 module _ (m : List ℕ) (from : ℕ) (h : from < length m) (c : (ahead m from) .code ≡ 0) where
-  passes-here : avpCode (drop from m) ≡ 0
-  passes-here =
-      by-test (eqb (avpCode (drop from m)) 0)
-      (λ t. eqb-true (avpCode (drop from m)) 0 t)
+  passes-all : requestCode (drop from m) ≡ 0
+  passes-all =
+      by-test (eqb (requestCode (drop from m)) 0)
+      (λ t. eqb-true (requestCode (drop from m)) 0 t)
       (λ t.
-      let n = eqb-false (avpCode (drop from m)) 0 t in
-      let w = walk-bad (drop from m) (rw length-drop (omega arith)) (some (avpCode (drop from m)) n) in
+      let n = eqb-false (requestCode (drop from m)) 0 t in
+      let w = walk-bad requestCode request-four (drop from m) (rw length-drop (omega arith)) (some (requestCode (drop from m)) n) in
       sym (ap (λ (x : Walk). x .code) w) ∙ c)
+
+  passes-here : avpCode (drop from m) ≡ 0
+  passes-here = request-four (drop from m) passes-all
 
   pub next-in : (from + 8 ≤ from + up4 (net24 m (from + 5))) × (from + up4 (net24 m (from + 5)) ≤ length m)
   next-in = rw (net24-drop from 5 m) at (next-on m from (omega arith) passes-here)
 
   ahead-is : ahead m from ≡ behind (avpOf (drop from m)) (ahead m (from + up4 (net24 m (from + 5))))
-  ahead-is = walk-one (drop from m) passes-here ∙ rw (drop-drop (up4 (avpLength (drop from m))) from m, net24-drop from 5 m)
+  ahead-is = walk-one requestCode request-four (drop from m) passes-all ∙ rw (drop-drop (up4 (avpLength (drop from m))) from m, net24-drop from 5 m)
 
   pub passed-on : (ahead m (from + up4 (net24 m (from + 5)))) .code ≡ 0
   unfolding behind

@@ -15,7 +15,7 @@ use Rattle.octets.specs.Numbers.{in24, in32, up4}
 use Rattle.octets.proofs.Lists.{by-test, and-left, and-right, within-high}
 use Rattle.octets.proofs.Texts.{length-zeros, length-part, length-put, put-then, put-nothing}
 use Rattle.message.specs.Codes.{Code, none, plain, experimental, numberOf}
-use Rattle.message.specs.ReadingAMessage.{command, headerCode, Name, sameName, behind, walkOne, walkUpTo, walk, avpLength, avpCode, avpOf, avps, walkCode, having, valueOf, sessionId, userName, proxyInfo}
+use Rattle.message.specs.ReadingAMessage.{command, headerCode, Name, sameName, behind, walkOne, walkUpTo, walkBy, avpLength, avpCode, avpOf, requestCode, avps, walkCode, having, valueOf, sessionId, userName, proxyInfo}
 use Rattle.message.specs.WritingTheAnswer.{avpBytes, sessionAvp, is3xxx, authAvps, resultAvp, subscriptionAvp, allBytes, proxyAvps, answerBody, answerFlags, answer, answerRoom}
 use Rattle.message.specs.declared.Span.{Span}
 use Rattle.message.specs.declared.Kind.{Kind}
@@ -23,7 +23,7 @@ use Rattle.message.specs.declared.Kind.the-variants.{NoAnswer, Plain, Experimen
 use Rattle.message.specs.Spans.{Holds}
 use Rattle.message.specs.Kinds.{codeFrom}
 use Rattle.answers.specs.Answers.{headBytes, answerHead, Written, Answerable, Answered}
-use Rattle.message.proofs.Walks.{Passed, passes, up4-least}
+use Rattle.message.proofs.Walks.{Passed, passes, up4-least, request-four}
 
 -- LENGTHS
 
@@ -174,25 +174,25 @@ bytes-length : (s : List ℕ) → Passed s → length ((avpOf s) .bytes) ≡ up4
 unfolding avpOf
 bytes-length s p = length-take-le (up4 (avpLength s)) s (p .whole)
 
-bytes-walk : (k : ℕ) (n : Name) (s : List ℕ) → length (allBytes (having n ((walkUpTo k s) .avps))) ≤ length s
+bytes-walk : (k : ℕ) (n : Name) (s : List ℕ) → length (allBytes (having n ((walkUpTo requestCode k s) .avps))) ≤ length s
 unfolding walkUpTo walkOne pick having keep allBytes behind
 bytes-walk zero n s = omega arith
 bytes-walk (suc k) n s =
     by-test (eqb (length s) 0)
     (λ z. rw z (omega arith))
     (λ z.
-    by-test (eqb (avpCode s) 0)
+    by-test (eqb (requestCode s) 0)
     (λ t.
-    let p : Passed s = passes s (eqb-true (avpCode s) 0 t) in
+    let p : Passed s = passes s (request-four s (eqb-true (requestCode s) 0 t)) in
     let r = bytes-walk k n (drop (up4 (avpLength s)) s) in
-    let r2 : length (allBytes (having n ((walkUpTo k (drop (up4 (avpLength s)) s)) .avps))) ≤ length s - up4 (avpLength s) = rw length-drop at r in
+    let r2 : length (allBytes (having n ((walkUpTo requestCode k (drop (up4 (avpLength s)) s)) .avps))) ≤ length s - up4 (avpLength s) = rw length-drop at r in
     by-test (sameName n ((avpOf s) .name))
     (λ u. rw (z, t, u) (rw (length-append, bytes-length s p) (omega (arith, p .whole))))
     (λ u. rw (z, t, u) (omega (arith, p .whole))))
     (λ t. rw (z, t) (omega arith)))
 
 pub proxies-most : (m : List ℕ) → 20 ≤ length m → length (proxyAvps m) ≤ length m - 20
-unfolding proxyAvps pick avps walk
+unfolding proxyAvps pick avps walkBy
 proxies-most m h =
     by-test (eqb (headerCode m) 0 && eqb (walkCode m) 0)
     (λ t. rw t (let b = bytes-walk (suc (length (drop 20 m))) proxyInfo (drop 20 m) in omega (arith, b, length-drop 20 m)))

@@ -52,6 +52,7 @@ fn reading(out: &mut [u8; 4096], at: usize, reason: Reason) -> usize {
         Reason::ReservedAvpBits(n) => at_byte(out, at, n, b" has reserved bits set"),
         Reason::ShortLength(n) => at_byte(out, at, n, b" is shorter than its header"),
         Reason::PastTheEnd(n) => at_byte(out, at, n, b" ends past the message"),
+        Reason::UnsupportedAvp(n) => at_byte(out, at, n, b" is not known and has M set"),
         Reason::SessionIdNotFirst => say(out, at, b": the first AVP is not Session-Id"),
         Reason::Absent(slot) => in_list(out, at, b": no ", slot),
         Reason::Twice(slot) => in_list(out, at, b": more than one ", slot),

@@ -57,6 +57,23 @@ fn group(m: &[u8], at: usize) {
     inner(&m[0..end], from);
 }
 
+// What comes of the AVP at a place, where the message is a request and it is not known. Those inside a group are not asked about.
+fn unknown(m: &[u8], at: usize) {
+    if m.len() < 20 {
+        return;
+    }
+    if m[4] < 128 {
+        return;
+    }
+    let step = reader::avp_at(m, at);
+    let Step::One(s) = step else {
+        return;
+    };
+    let mut out = [0u8; 4096];
+    let n = values::unknown(&mut out, b"    ", s);
+    files::print(&out, n);
+}
+
 // The AVPs of a message.
 fn outer(m: &[u8]) {
     let mut at: usize = 20;
@@ -64,6 +81,7 @@ fn outer(m: &[u8]) {
     while turns > 0 {
         turns -= 1;
         let next = one(m, at, b"  ");
+        unknown(m, at);
         group(m, at);
         at = next;
         if at == 0 {

@@ -14,7 +14,7 @@ use Rattle.octets.specs.Numbers.{up4}
 use Rattle.octets.proofs.Lists.{by-test, and-left, and-right, both, within-low, within-high, every-map, every-of}
 use Rattle.octets.proofs.Choice.{first-passes, passed}
 use Rattle.message.specs.CallsThatGetNoAnswer.{messageNumber}
-use Rattle.message.specs.ReadingAMessage.{headerCode, Avp, Field, behind, walkOne, walkUpTo, walk, avpLength, avpCode, avps, walkCode, having, testedAs, fieldCode, startsWith, fields, listCode, readingCode, sessionId, command, refused, read}
+use Rattle.message.specs.ReadingAMessage.{headerCode, Avp, Field, behind, walkOne, walkUpTo, walkBy, avpLength, avpCode, requestCode, avps, walkCode, having, testedAs, fieldCode, startsWith, fields, listCode, readingCode, sessionId, command, refused, read}
 
 -- THE MESSAGE
 
@@ -65,16 +65,20 @@ unfolding avpCode every other
 avp-other s =
     first-other _ (both (require-other _ 5014 refl) (both (require-other _ 3009 refl) (both (require-other _ 5014 refl) (both (require-other _ 5014 refl) refl))))
 
-walk-other : (k : ℕ) (s : List ℕ) → other ((walkUpTo k s) .code) ≡ true
+request-other : (s : List ℕ) → other (requestCode s) ≡ true
+unfolding requestCode every other
+request-other s = first-other _ (both (avp-other s) (both (require-other _ 5001 refl) refl))
+
+walk-other : (k : ℕ) (s : List ℕ) → other ((walkUpTo requestCode k s) .code) ≡ true
 unfolding walkUpTo walkOne pick behind other
 walk-other zero s = refl
 walk-other (suc k) s =
     by-test (eqb (length s) 0)
     (λ z. rw z)
     (λ z.
-    by-test (eqb (avpCode s) 0)
+    by-test (eqb (requestCode s) 0)
     (λ t. rw (z, t) (walk-other k (drop (up4 (avpLength s)) s)))
-    (λ t. rw (z, t) (avp-other s)))
+    (λ t. rw (z, t) (request-other s)))
 
 list-other : (c : ℕ) (xs : List Avp) → other (listCode c xs) ≡ true
 unfolding listCode every other
@@ -83,7 +87,7 @@ list-other c xs =
     (both (require-other (startsWith sessionId xs) 5005 refl) (rw every-map (every-of (λ f. other (fieldCode xs f)) (λ f. field-other xs f) (fields c xs))))
 
 reading-other : (m : List ℕ) → other (readingCode m) ≡ true
-unfolding readingCode every walkCode walk other
+unfolding readingCode every walkCode walkBy other
 reading-other m =
     first-other (headerCode m ∷ walkCode m ∷ listCode (command m) (avps m) ∷ [])
     (both (header-other m) (both (walk-other (suc (length (drop 20 m))) (drop 20 m)) (both (list-other (command m) (avps m)) refl)))

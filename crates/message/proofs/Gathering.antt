@@ -14,27 +14,11 @@ use Rattle.octets.specs.Texts.{zeros}
 use Rattle.octets.specs.Numbers.{net24, up4}
 use Rattle.octets.proofs.Lists.{by-test, and-left, and-right, both}
 use Rattle.octets.proofs.Texts.{length-zeros}
-use Rattle.message.specs.ReadingAMessage.{Name, base, vendor, sameName, Avp, Walk, behind, walkOne, walk, avpLength, avpCode, avpOf, avps, walkCode, having}
+use Rattle.message.specs.ReadingAMessage.{Name, base, vendor, sameName, namedIn01, codesOfAARequest, codesOfTermination, knownAvps, isOneOf, known, Avp, Walk, behind, requestWalk, avpLength, avpCode, avpOf, supported, requestCode, avps, walkCode, having}
 use Rattle.message.specs.declared.Spot.{Spot}
 use Rattle.message.specs.declared.Head.the-variants.{One, Bad}
 use Rattle.message.specs.Positions.{names, slotIn, slotOf, nameAt, spotAt, headAt, Often, absent, once, twice, howOften, slotSays, Stands, Gathered}
-use Rattle.message.proofs.Walks.{Passed, passes, head-least, up4-least, walk-is}
-
--- THE WALK, ONE AVP AT A TIME
-
-pub walk-end : (s : List ℕ) → length s ≡ 0 → walk s ≡ record { avps = []; code = 0 }
-unfolding walkOne pick
-walk-end s h = walk-is s ∙ rw (eq-eqb (length s) 0 h)
-
-pub walk-bad : (s : List ℕ) → 0 < length s → 0 < avpCode s → walk s ≡ record { avps = []; code = avpCode s }
-unfolding walkOne pick
-walk-bad s h k = walk-is s ∙ rw (ne-eqb (length s) 0 (λ z. omega arith), ne-eqb (avpCode s) 0 (λ z. omega arith))
-
-pub walk-one : (s : List ℕ) → avpCode s ≡ 0 → walk s ≡ behind (avpOf s) (walk (drop (up4 (avpLength s)) s))
-unfolding walkOne pick
-walk-one s h =
-    let e : 8 ≤ length s = (passes s h) .eight in
-    walk-is s ∙ rw (ne-eqb (length s) 0 (λ z. omega arith), eq-eqb (avpCode s) 0 h)
+use Rattle.message.proofs.Walks.{Passed, passes, head-least, up4-least, walk-end, walk-bad, walk-one, request-four, request-bad, request-passes, request-refuses}
 
 -- HEADS
 
@@ -113,22 +97,44 @@ counted-every f a (suc n) h (suc k) l =
     rw z (counted-every f (suc a) n (and-right (f a) (every f (counted (suc a) n)) h) k (omega arith))
 
 own-slots : every ownSlot (counted 0 14) ≡ true
-unfolding every counted ownSlot slotOf nameAt names slotIn sameName pick
+unfolding every counted ownSlot slotOf nameAt names slotIn sameName pick known knownAvps namedIn01 codesOfAARequest codesOfTermination isOneOf
 own-slots = refl
 
 pub own-slot : (k : ℕ) → k < 14 → slotOf (nameAt k) ≡ k
 unfolding ownSlot
 own-slot k h = let z : 0 + k ≡ k = omega arith in eqb-true (slotOf (nameAt k)) k (rw z at (counted-every ownSlot 0 14 own-slots k h))
 
+-- a slot under 15 is that of a known name, and its place; no other name has one
+pub slot-known : (n : Name) → (slotOf n ≡ 15 → ⊥) → known n ≡ true
+unfolding slotOf pick
+slot-known n h = by-test (known n) (λ t. t) (λ t. absurd (h (rw t)))
+
+pub slot-unknown : (n : Name) → slotOf n ≡ 15 → known n ≡ false
+unfolding slotOf pick names
+slot-unknown n h =
+    by-test (known n)
+    (λ t. let e = rw t at h in absurd (omega (arith, e, slot-most names n)))
+    (λ t. t)
+
+slot-place : (n : Name) → known n ≡ true → slotOf n ≡ slotIn names n
+unfolding slotOf pick
+slot-place n k = rw k
+
 pub slot-named : (n : Name) → slotOf n < 14 → sameName (nameAt (slotOf n)) n ≡ true
-unfolding slotOf nameAt names
-slot-named n h = slot-same names n (base 263) h
+unfolding nameAt names
+slot-named n h =
+    let p = slot-place n (slot-known n (λ z. omega arith)) in
+    rw p (slot-same names n (base 263) (omega (arith, p)))
 
 pub slot-other : (n : Name) (k : ℕ) → k < 14 → (k ≡ slotOf n → ⊥) → sameName (nameAt k) n ≡ false
 slot-other n k h d =
     by-test (sameName (nameAt k) n)
     (λ t. absurd (d (sym (own-slot k h) ∙ ap slotOf (same-name-eq (nameAt k) n t))))
     (λ t. t)
+
+pub slot-supported : (s : List ℕ) → (slotOf ((avpOf s) .name) ≡ 15 → ⊥) → supported (avpOf s) ≡ true
+unfolding supported
+slot-supported s h = rw (slot-known ((avpOf s) .name) h)
 
 -- HOW OFTEN
 
@@ -192,7 +198,7 @@ having-none n = refl
 
 -- the AVPs from a place on
 abbrev pub ahead : List ℕ → ℕ → Walk
-ahead m at = walk (drop at m)
+ahead m at = requestWalk (drop at m)
 
 pub record Walked (m index : List ℕ) (at : ℕ) : Type 0 where
   pub from : 20 ≤ at
@@ -228,22 +234,38 @@ ended m index at w e =
 
 pub at-end : (m index : List ℕ) (at : ℕ) → Walked m index at → length m ≤ at → (0 ≡ walkCode m) × Gathered m index
 at-end m index at w h =
-    let e : ahead m at ≡ record { avps = []; code = 0 } = walk-end (drop at m) (rw length-drop (omega arith)) in
+    let e : ahead m at ≡ record { avps = []; code = 0 } = walk-end requestCode request-four (drop at m) (rw length-drop (omega arith)) in
     (sym (ap (λ (x : Walk). x .code) e) ∙ w .code, ended m index at w (ap (λ (x : Walk). x .avps) e))
+
+-- the walk ends at an AVP whose tests give a code
+failed : (m index : List ℕ) (at c : ℕ) → Walked m index at → at < length m → requestCode (drop at m) ≡ c → 0 < c → (c ≡ walkCode m) × Gathered m index
+failed m index at c w h f k =
+    let e : ahead m at ≡ record { avps = []; code = requestCode (drop at m) } =
+    walk-bad requestCode request-four (drop at m) (rw length-drop (omega arith)) (omega (arith, f)) in
+    (sym f ∙ sym (ap (λ (x : Walk). x .code) e) ∙ w .code, ended m index at w (ap (λ (x : Walk). x .avps) e))
 
 pub at-bad : (m index : List ℕ) (at c : ℕ) → Walked m index at → at < length m → headAt m at ≡ Bad c → (c ≡ walkCode m) × Gathered m index
 at-bad m index at c w h b =
     let f = head-is-bad m at c b in
-    let e : ahead m at ≡ record { avps = []; code = avpCode (drop at m) } = walk-bad (drop at m) (rw length-drop (omega arith)) (omega (arith, f .0, f .1)) in
-    (sym (f .0) ∙ sym (ap (λ (x : Walk). x .code) e) ∙ w .code, ended m index at w (ap (λ (x : Walk). x .avps) e))
+    failed m index at c w h (request-bad (drop at m) (omega (arith, f .0, f .1)) ∙ f .0) (f .1)
+
+pub at-unsupported : (m index : List ℕ) (at : ℕ) (a : Spot) → Walked m index at → at < length m → headAt m at ≡ One a
+    → supported (avpOf (drop at m)) ≡ false → (5001 ≡ walkCode m) × Gathered m index
+at-unsupported m index at a w h o u =
+    failed m index at 5001 w h (request-refuses (drop at m) ((head-is-one m at a o) .0) u) (omega arith)
+
+pub slot-is : (m : List ℕ) (at : ℕ) (a : Spot) → headAt m at ≡ One a → a .slot ≡ slotOf ((avpOf (drop at m)) .name)
+unfolding spotAt
+slot-is m at a o = ap (λ (x : Spot). x .slot) ((head-is-one m at a o) .1)
 
 -- one AVP is behind: what is ahead of it
-module _ (m index : List ℕ) (at : ℕ) (a : Spot) (w : Walked m index at) (o : headAt m at ≡ One a) where
+module _ (m index : List ℕ) (at : ℕ) (a : Spot) (w : Walked m index at) (o : headAt m at ≡ One a)
+    (u : supported (avpOf (drop at m)) ≡ true) where
   ahead-is : ahead m at ≡ behind (avpOf (drop at m)) (ahead m (a .next))
   unfolding spotAt
   ahead-is =
       let p = head-is-one m at a o in
-      walk-one (drop at m) (p .0) ∙ rw (p .1, drop-drop (up4 (avpLength (drop at m))) at m)
+      walk-one requestCode request-four (drop at m) (request-passes (drop at m) (p .0) u) ∙ rw (p .1, drop-drop (up4 (avpLength (drop at m))) at m)
 
   ahead-avps : (ahead m at) .avps ≡ avpOf (drop at m) ∷ (ahead m (a .next)) .avps
   unfolding behind
@@ -253,10 +275,6 @@ module _ (m index : List ℕ) (at : ℕ) (a : Spot) (w : Walked m index at) (o :
   unfolding behind
   ahead-code = rw ahead-is
 
-  slot-is : a .slot ≡ slotOf ((avpOf (drop at m)) .name)
-  unfolding spotAt
-  slot-is = ap (λ (x : Spot). x .slot) ((head-is-one m at a o) .1)
-
   here : Stands m at
   here = record { behind = w .from; inside = w .inside; passes = (head-is-one m at a o) .0 }
 
@@ -264,7 +282,7 @@ module _ (m index : List ℕ) (at : ℕ) (a : Spot) (w : Walked m index at) (o :
   passed-by : (k : ℕ) → k < 14 → (k ≡ a .slot → ⊥) → having (nameAt k) ((ahead m at) .avps) ≡ having (nameAt k) ((ahead m (a .next)) .avps)
   passed-by k l d =
       ap (having (nameAt k)) ahead-avps
-      ∙ having-not (nameAt k) (avpOf (drop at m)) ((ahead m (a .next)) .avps) (slot-other ((avpOf (drop at m)) .name) k l (λ z. d (z ∙ sym slot-is)))
+      ∙ having-not (nameAt k) (avpOf (drop at m)) ((ahead m (a .next)) .avps) (slot-other ((avpOf (drop at m)) .name) k l (λ z. d (z ∙ sym (slot-is m at a o))))
 
   pub stepped-over : 14 ≤ a .slot → Walked m index (a .next)
   stepped-over s =
@@ -283,7 +301,7 @@ module _ (m index : List ℕ) (at : ℕ) (a : Spot) (w : Walked m index at) (o :
     named : having (nameAt (a .slot)) ((ahead m at) .avps) ≡ avpOf (drop at m) ∷ having (nameAt (a .slot)) ((ahead m (a .next)) .avps)
     named =
         let t : sameName (nameAt (a .slot)) ((avpOf (drop at m)) .name) ≡ true =
-        rw slot-is (slot-named ((avpOf (drop at m)) .name) (omega (arith, slot-is))) in
+        rw (slot-is m at a o) (slot-named ((avpOf (drop at m)) .name) (omega (arith, slot-is m at a o))) in
         ap (having (nameAt (a .slot))) ahead-avps ∙ having-is (nameAt (a .slot)) (avpOf (drop at m)) ((ahead m (a .next)) .avps) t
 
     -- the slots after this AVP: v in its own slot, whatever number says what was seen with it, and its length n, 14 places further on

@@ -1,6 +1,7 @@
 pub mod Walks
 pub mod Heads
 pub mod Gathering
+pub mod Known
 pub mod Readers
 pub mod Listing
 pub mod Lengths

@@ -15,7 +15,7 @@ use Rattle.octets.specs.Lists.{every}
 use Rattle.octets.specs.Numbers.{net32}
 use Rattle.octets.proofs.Lists.{by-test}
 use Rattle.octets.proofs.Choice.{first-passes, others-pass, passed}
-use Rattle.message.specs.ReadingAMessage.{flags, command, headerCode, Name, sameName, Avp, Walk, behind, Field, numberIn, textField, labelField, numberField, avpCode, avpOf, avps, walkCode, having, firstValue, valueOf, present, testedAs, fieldCode, startsWith, forBoth, for265, for275, fields, listCode, readingCode, sessionId, originHost, proxyInfo, userName, visitedNetwork, wlanApnId, routingPolicy, typeOf, Request, askOf, requestOf, request, read}
+use Rattle.message.specs.ReadingAMessage.{flags, command, headerCode, Name, sameName, Avp, Walk, behind, Field, numberIn, textField, labelField, numberField, avpCode, avpOf, requestCode, avps, walkCode, having, firstValue, valueOf, present, testedAs, fieldCode, startsWith, forBoth, for265, for275, fields, listCode, readingCode, sessionId, originHost, proxyInfo, userName, visitedNetwork, wlanApnId, routingPolicy, typeOf, Request, askOf, requestOf, request, read}
 use Rattle.message.specs.declared.Span.{Span}
 use Rattle.message.specs.declared.Got.{Got}
 use Rattle.message.specs.declared.Got.the-variants.{Found, Absent, Code}
@@ -27,7 +27,7 @@ use Rattle.message.proofs.Got.{the-type}
 use Rattle.message.specs.Positions.{names, nameAt, absent, howOften, slotSays, Gathered}
 use Rattle.message.specs.Spans.{codeOf, isFound, Holds, Reads, bothCode, failedWith, BothRead, restCode, tunnelCode, tunnelOf, policyCode, policyOf, bytesOf, asks, says, spansIn, spans, isInside, verdict, Listed, hasProxies, HeardOf}
 use Rattle.message.proofs.Heads.{code-few}
-use Rattle.message.proofs.Gathering.{walk-end, walk-bad, walk-one}
+use Rattle.message.proofs.Walks.{walk-end, walk-bad, walk-one, request-four, request-bad}
 
 -- TESTS IN ORDER
 
@@ -178,20 +178,21 @@ unfolding startsWith avps
 starts-few m h =
     let k : length (drop 20 m) < 8 = rw length-drop (omega arith) in
     by-test (eqb (length (drop 20 m)) 0)
-    (λ t. ap (λ (w : Walk). startsWith sessionId (w .avps)) (walk-end (drop 20 m) (eqb-true (length (drop 20 m)) 0 t)))
+    (λ t. ap (λ (w : Walk). startsWith sessionId (w .avps)) (walk-end requestCode request-four (drop 20 m) (eqb-true (length (drop 20 m)) 0 t)))
     (λ t.
     let p : 0 < length (drop 20 m) = above-zero (length (drop 20 m)) (eqb-false (length (drop 20 m)) 0 t) in
-    ap (λ (w : Walk). startsWith sessionId (w .avps)) (walk-bad (drop 20 m) p (omega (arith, code-few (drop 20 m) k))))
+    let f : 0 < avpCode (drop 20 m) = omega (arith, code-few (drop 20 m) k) in
+    ap (λ (w : Walk). startsWith sessionId (w .avps)) (walk-bad requestCode request-four (drop 20 m) p (omega (arith, request-bad (drop 20 m) f))))
 
 pub starts-one : (m : List ℕ) (n : Name) → 28 ≤ length m → walkCode m ≡ 0 → startsWith n (avps m) ≡ sameName n ((avpOf (drop 20 m)) .name)
 unfolding startsWith avps walkCode behind
 starts-one m n h w =
-    by-test (eqb (avpCode (drop 20 m)) 0)
-    (λ t. ap (λ (w : Walk). startsWith n (w .avps)) (walk-one (drop 20 m) (eqb-true (avpCode (drop 20 m)) 0 t)))
+    by-test (eqb (requestCode (drop 20 m)) 0)
+    (λ t. ap (λ (w : Walk). startsWith n (w .avps)) (walk-one requestCode request-four (drop 20 m) (eqb-true (requestCode (drop 20 m)) 0 t)))
     (λ t.
-    let p : 0 < avpCode (drop 20 m) = above-zero (avpCode (drop 20 m)) (eqb-false (avpCode (drop 20 m)) 0 t) in
+    let p : 0 < requestCode (drop 20 m) = above-zero (requestCode (drop 20 m)) (eqb-false (requestCode (drop 20 m)) 0 t) in
     let k : 0 < length (drop 20 m) = rw length-drop (omega arith) in
-    let e : avpCode (drop 20 m) ≡ 0 = sym (ap (λ (x : Walk). x .code) (walk-bad (drop 20 m) k p)) ∙ w in
+    let e : requestCode (drop 20 m) ≡ 0 = sym (ap (λ (x : Walk). x .code) (walk-bad requestCode request-four (drop 20 m) k p)) ∙ w in
     absurd (omega arith))
 
 -- PROXY-INFO

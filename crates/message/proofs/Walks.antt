@@ -1,16 +1,18 @@
--- The walk takes one AVP after another, to the end or to the first that fails: `walk-is`.
-use mathlib.Core.Path.{_≡_}
-use mathlib.Core.List.{List}
+-- A walk takes one AVP after another, to the end or to the first that fails: `walk-is`. A request's walk is that of the four tests,
+-- stopped at the first AVP that is not supported: `walks-agree`.
+use mathlib.Core.Path.{_≡_, refl, _∙_}
+use mathlib.Core.Bool.{true, false}
+use mathlib.Core.List.{List, []}
 use Prim.Native.Nat.{ℕ, zero, suc, _-_, _%_, _≤_, _<_}
 use native.Mathlib.Omega.{arith}
-use borrow.Author.Tests.{leb-true, eqb-true}
+use borrow.Author.Tests.{leb-true, eqb-true, eqb-false, eq-eqb, ne-eqb}
 use lib.Dec.{eqb, leb}
 use lib.ListN.{length, getD, drop, length-drop}
-use Rattle.octets.specs.Choice.{pick, require}
+use Rattle.octets.specs.Choice.{pick, require, firstOf}
 use Rattle.octets.specs.Numbers.{up4}
 use Rattle.octets.proofs.Lists.{by-test}
 use Rattle.octets.proofs.Choice.{first-passes, others-pass, passed}
-use Rattle.message.specs.ReadingAMessage.{Walk, headLength, avpLength, avpCode, walkOne, walkUpTo, walk}
+use Rattle.message.specs.ReadingAMessage.{Walk, headLength, avpLength, avpCode, avpOf, supported, requestCode, behind, walkOne, walkUpTo, walkBy, walk, requestWalk, stoppedIn, stopped}
 
 -- the four tests of an AVP that passed
 pub record Passed (s : List ℕ) : Type 0 where
@@ -46,25 +48,86 @@ rest-shorter s h =
     let p : Passed s = passes s h in
     rw length-drop (omega (arith, p .eight, p .head, p .whole, head-least s, up4-least (avpLength s)))
 
--- two ways on that agree behind the AVP
-one-same : (f g : List ℕ → Walk) (s : List ℕ) → (avpCode s ≡ 0 → f (drop (up4 (avpLength s)) s) ≡ g (drop (up4 (avpLength s)) s))
-    → walkOne f s ≡ walkOne g s
-unfolding walkOne pick
-one-same f g s h =
-    by-test (eqb (avpCode s) 0)
-    (λ e. rw (e, h (eqb-true (avpCode s) 0 e)))
+-- WALKS BY ANY TESTS THAT HAVE THE FOUR AMONG THEM
+
+module _ (tests : List ℕ → ℕ) (four : (s : List ℕ) → tests s ≡ 0 → avpCode s ≡ 0) where
+  -- two ways on that agree behind the AVP
+  one-same : (f g : List ℕ → Walk) (s : List ℕ) → (tests s ≡ 0 → f (drop (up4 (avpLength s)) s) ≡ g (drop (up4 (avpLength s)) s))
+      → walkOne tests f s ≡ walkOne tests g s
+  unfolding walkOne pick
+  one-same f g s h =
+      by-test (eqb (tests s) 0)
+      (λ e. rw (e, h (eqb-true (tests s) 0 e)))
+      (λ e. rw e)
+
+  enough : (m n : ℕ) (s : List ℕ) → length s < m → length s < n → walkUpTo tests m s ≡ walkUpTo tests n s
+  unfolding walkUpTo
+  enough zero n s h k = absurd (omega arith)
+  enough (suc m) zero s h k = absurd (omega arith)
+  enough (suc m) (suc n) s h k =
+      one-same (λ t. walkUpTo tests m t) (λ t. walkUpTo tests n t) s
+      (λ e. enough m n (drop (up4 (avpLength s)) s) (omega (arith, rest-shorter s (four s e))) (omega (arith, rest-shorter s (four s e))))
+
+  pub walk-is : (s : List ℕ) → walkBy tests s ≡ walkOne tests (walkBy tests) s
+  unfolding walkBy walkUpTo
+  walk-is s =
+      one-same (λ t. walkUpTo tests (length s) t) (λ t. walkUpTo tests (suc (length t)) t) s
+      (λ e. enough (length s) (suc (length (drop (up4 (avpLength s)) s))) (drop (up4 (avpLength s)) s) (rest-shorter s (four s e)) (omega arith))
+
+  -- one AVP at a time
+  pub walk-end : (s : List ℕ) → length s ≡ 0 → walkBy tests s ≡ record { avps = []; code = 0 }
+  unfolding walkOne pick
+  walk-end s h = walk-is s ∙ rw (eq-eqb (length s) 0 h)
+
+  pub walk-bad : (s : List ℕ) → 0 < length s → 0 < tests s → walkBy tests s ≡ record { avps = []; code = tests s }
+  unfolding walkOne pick
+  walk-bad s h k = walk-is s ∙ rw (ne-eqb (length s) 0 (λ z. omega arith), ne-eqb (tests s) 0 (λ z. omega arith))
+
+  pub walk-one : (s : List ℕ) → tests s ≡ 0 → walkBy tests s ≡ behind (avpOf s) (walkBy tests (drop (up4 (avpLength s)) s))
+  unfolding walkOne pick
+  walk-one s h =
+      let e : 8 ≤ length s = (passes s (four s h)) .eight in
+      walk-is s ∙ rw (ne-eqb (length s) 0 (λ z. omega arith), eq-eqb (tests s) 0 h)
+
+-- THE TESTS OF A REQUEST
+
+pub request-four : (s : List ℕ) → requestCode s ≡ 0 → avpCode s ≡ 0
+unfolding requestCode
+request-four s h = first-passes (avpCode s) _ h
+
+pub request-bad : (s : List ℕ) → 0 < avpCode s → requestCode s ≡ avpCode s
+unfolding requestCode firstOf pick
+request-bad s h = rw (ne-eqb (avpCode s) 0 (λ z. omega arith))
+
+pub request-passes : (s : List ℕ) → avpCode s ≡ 0 → supported (avpOf s) ≡ true → requestCode s ≡ 0
+unfolding requestCode firstOf pick require
+request-passes s h u = rw (h, u)
+
+pub request-refuses : (s : List ℕ) → avpCode s ≡ 0 → supported (avpOf s) ≡ false → requestCode s ≡ 5001
+unfolding requestCode firstOf pick require
+request-refuses s h u = rw (h, u)
+
+-- THE TWO WALKS
+
+agree : (n : ℕ) (s : List ℕ) → walkUpTo requestCode n s ≡ stopped (walkUpTo avpCode n s)
+unfolding walkUpTo walkOne pick stopped stoppedIn behind
+agree zero s = refl
+agree (suc n) s =
+    by-test (eqb (length s) 0)
     (λ e. rw e)
+    (λ e.
+    by-test (eqb (avpCode s) 0)
+    (λ f.
+    let z : avpCode s ≡ 0 = eqb-true (avpCode s) 0 f in
+    by-test (supported (avpOf s))
+    (λ u. rw (e, request-passes s z u, z, u, agree n (drop (up4 (avpLength s)) s)))
+    (λ u. rw (e, request-refuses s z u, z, u)))
+    (λ f. rw (e, request-bad s (above (avpCode s) (eqb-false (avpCode s) 0 f)), f)))
+  where
+    above : (n : ℕ) → (n ≡ 0 → ⊥) → 0 < n
+    above zero h = absurd (h refl)
+    above (suc n) h = omega arith
 
-enough : (m n : ℕ) (s : List ℕ) → length s < m → length s < n → walkUpTo m s ≡ walkUpTo n s
-unfolding walkUpTo
-enough zero n s h k = absurd (omega arith)
-enough (suc m) zero s h k = absurd (omega arith)
-enough (suc m) (suc n) s h k =
-    one-same (λ t. walkUpTo m t) (λ t. walkUpTo n t) s
-    (λ e. enough m n (drop (up4 (avpLength s)) s) (omega (arith, rest-shorter s e)) (omega (arith, rest-shorter s e)))
-
-pub walk-is : (s : List ℕ) → walk s ≡ walkOne walk s
-unfolding walk walkUpTo
-walk-is s =
-    one-same (λ t. walkUpTo (length s) t) (λ t. walkUpTo (suc (length t)) t) s
-    (λ e. enough (length s) (suc (length (drop (up4 (avpLength s)) s))) (drop (up4 (avpLength s)) s) (rest-shorter s e) (omega arith))
+pub walks-agree : (s : List ℕ) → requestWalk s ≡ stopped (walk s)
+unfolding walkBy
+walks-agree s = agree (suc (length s)) s

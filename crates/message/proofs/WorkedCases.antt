@@ -1,69 +1,94 @@
 -- Messages and answers worked by hand, each held by computing it.
 use mathlib.Core.Path.{_≡_, refl}
-use mathlib.Core.Bool.{true, false}
+use mathlib.Core.Bool.{Bool, true, false, _&&_}
 use mathlib.Core.List.{List, [], _∷_, _++_}
-use Prim.Native.Nat.{ℕ}
+use Prim.Native.Nat.{ℕ, _+_, _-_}
+use lib.Dec.{eqb}
+use lib.ListN.{getD, set}
 use Rattle.octets.specs.Choice.{pick, require, firstOf, within}
-use Rattle.octets.specs.Lists.{keep}
+use Rattle.octets.specs.Lists.{every, keep}
 use Rattle.octets.specs.Numbers.{net24, net32, in24, in32, up4}
 use Rattle.octets.specs.Texts.{zeros, same}
 use Rattle.message.specs.Codes.{plain, numberOf}
 use Rattle.message.specs.CallsThatGetNoAnswer.{messageNumber}
-use Rattle.message.specs.ReadingAMessage.{headerCode, sameName, headLength, avpCode, avpOf, behind, walkOne, walkUpTo, walk, avps, walkCode, having, firstValue, valueOf, present, anything, numberIn, textField, labelField, numberField, testedAs, fieldCode, startsWith, forBoth, for265, for275, fields, listCode, readingCode, tunnel, policy, termination, askOf, requestOf, refused, request, read}
+use Rattle.message.specs.ReadingAMessage.{headerCode, sameName, headLength, namedIn01, codesOfAARequest, codesOfTermination, knownAvps, isOneOf, known, avpCode, avpOf, supported, requestCode, behind, walkOne, walkUpTo, walkBy, avps, walkCode, having, firstValue, valueOf, present, anything, numberIn, textField, labelField, numberField, testedAs, fieldCode, startsWith, forBoth, for265, for275, fields, listCode, readingCode, tunnel, policy, termination, askOf, requestOf, refused, request, read}
 use Rattle.message.specs.WritingTheAnswer.{avpBytes, sessionAvp, is3xxx, authAvps, resultAvp, subscriptionAvp, allBytes, proxyAvps, answerBody, answerFlags, answer, answerRoom}
 use Rattle.message.specs.WorkedCases.{case9, case10, name, board, session, gateway, ownHost, ownRealm, vendorBytes, requestBytes, bothAvps, aaRequest, openAt, openVisited, routeBy, endAt}
 
 -- the paper's cases 9 and 10
 pub case9-holds : case9 ≡ true
-unfolding pick require firstOf within keep net24 net32 in24 in32 up4 zeros same numberOf headerCode sameName headLength avpCode avpOf behind walkOne walkUpTo walk avps walkCode having firstValue valueOf present anything numberIn textField labelField numberField testedAs fieldCode startsWith forBoth for265 for275 fields listCode readingCode askOf requestOf read messageNumber case9 case10 name board session gateway ownHost ownRealm vendorBytes requestBytes bothAvps aaRequest openAt openVisited routeBy endAt avpBytes sessionAvp is3xxx authAvps resultAvp subscriptionAvp allBytes proxyAvps answerBody answerFlags answer answerRoom
+unfolding pick require firstOf within keep net24 net32 in24 in32 up4 zeros same numberOf headerCode sameName headLength namedIn01 codesOfAARequest codesOfTermination knownAvps isOneOf known avpCode avpOf supported requestCode behind walkOne walkUpTo walkBy avps walkCode having firstValue valueOf present anything numberIn textField labelField numberField testedAs fieldCode startsWith forBoth for265 for275 fields listCode readingCode askOf requestOf read messageNumber case9 case10 name board session gateway ownHost ownRealm vendorBytes requestBytes bothAvps aaRequest openAt openVisited routeBy endAt avpBytes sessionAvp is3xxx authAvps resultAvp subscriptionAvp allBytes proxyAvps answerBody answerFlags answer answerRoom
 case9-holds = refl
 
 pub case10-holds : case10 ≡ true
-unfolding pick require firstOf within keep net24 net32 in24 in32 up4 zeros same numberOf headerCode sameName headLength avpCode avpOf behind walkOne walkUpTo walk avps walkCode having firstValue valueOf present anything numberIn textField labelField numberField testedAs fieldCode startsWith forBoth for265 for275 fields listCode readingCode askOf requestOf read messageNumber case9 case10 name board session gateway ownHost ownRealm vendorBytes requestBytes bothAvps aaRequest openAt openVisited routeBy endAt avpBytes sessionAvp is3xxx authAvps resultAvp subscriptionAvp allBytes proxyAvps answerBody answerFlags answer answerRoom
+unfolding pick require firstOf within keep net24 net32 in24 in32 up4 zeros same numberOf headerCode sameName headLength namedIn01 codesOfAARequest codesOfTermination knownAvps isOneOf known avpCode avpOf supported requestCode behind walkOne walkUpTo walkBy avps walkCode having firstValue valueOf present anything numberIn textField labelField numberField testedAs fieldCode startsWith forBoth for265 for275 fields listCode readingCode askOf requestOf read messageNumber case9 case10 name board session gateway ownHost ownRealm vendorBytes requestBytes bothAvps aaRequest openAt openVisited routeBy endAt avpBytes sessionAvp is3xxx authAvps resultAvp subscriptionAvp allBytes proxyAvps answerBody answerFlags answer answerRoom
 case10-holds = refl
 
 -- REQUESTS
 
 pub tunnel-read : read (openAt (session 97) board) ≡ request (record { user = name; ask = tunnel (session 97) gateway board false })
-unfolding pick require firstOf within keep net24 net32 in24 in32 up4 zeros same numberOf headerCode sameName headLength avpCode avpOf behind walkOne walkUpTo walk avps walkCode having firstValue valueOf present anything numberIn textField labelField numberField testedAs fieldCode startsWith forBoth for265 for275 fields listCode readingCode askOf requestOf read messageNumber case9 case10 name board session gateway ownHost ownRealm vendorBytes requestBytes bothAvps aaRequest openAt openVisited routeBy endAt avpBytes sessionAvp is3xxx authAvps resultAvp subscriptionAvp allBytes proxyAvps answerBody answerFlags answer answerRoom
+unfolding pick require firstOf within keep net24 net32 in24 in32 up4 zeros same numberOf headerCode sameName headLength namedIn01 codesOfAARequest codesOfTermination knownAvps isOneOf known avpCode avpOf supported requestCode behind walkOne walkUpTo walkBy avps walkCode having firstValue valueOf present anything numberIn textField labelField numberField testedAs fieldCode startsWith forBoth for265 for275 fields listCode readingCode askOf requestOf read messageNumber case9 case10 name board session gateway ownHost ownRealm vendorBytes requestBytes bothAvps aaRequest openAt openVisited routeBy endAt avpBytes sessionAvp is3xxx authAvps resultAvp subscriptionAvp allBytes proxyAvps answerBody answerFlags answer answerRoom
 tunnel-read = refl
 
 pub visited-read : read (openVisited (session 97) board) ≡ request (record { user = name; ask = tunnel (session 97) gateway board true })
-unfolding pick require firstOf within keep net24 net32 in24 in32 up4 zeros same numberOf headerCode sameName headLength avpCode avpOf behind walkOne walkUpTo walk avps walkCode having firstValue valueOf present anything numberIn textField labelField numberField testedAs fieldCode startsWith forBoth for265 for275 fields listCode readingCode askOf requestOf read messageNumber case9 case10 name board session gateway ownHost ownRealm vendorBytes requestBytes bothAvps aaRequest openAt openVisited routeBy endAt avpBytes sessionAvp is3xxx authAvps resultAvp subscriptionAvp allBytes proxyAvps answerBody answerFlags answer answerRoom
+unfolding pick require firstOf within keep net24 net32 in24 in32 up4 zeros same numberOf headerCode sameName headLength namedIn01 codesOfAARequest codesOfTermination knownAvps isOneOf known avpCode avpOf supported requestCode behind walkOne walkUpTo walkBy avps walkCode having firstValue valueOf present anything numberIn textField labelField numberField testedAs fieldCode startsWith forBoth for265 for275 fields listCode readingCode askOf requestOf read messageNumber case9 case10 name board session gateway ownHost ownRealm vendorBytes requestBytes bothAvps aaRequest openAt openVisited routeBy endAt avpBytes sessionAvp is3xxx authAvps resultAvp subscriptionAvp allBytes proxyAvps answerBody answerFlags answer answerRoom
 visited-read = refl
 
 pub policy-read : read (routeBy (session 97) board) ≡ request (record { user = name; ask = policy (session 97) board })
-unfolding pick require firstOf within keep net24 net32 in24 in32 up4 zeros same numberOf headerCode sameName headLength avpCode avpOf behind walkOne walkUpTo walk avps walkCode having firstValue valueOf present anything numberIn textField labelField numberField testedAs fieldCode startsWith forBoth for265 for275 fields listCode readingCode askOf requestOf read messageNumber case9 case10 name board session gateway ownHost ownRealm vendorBytes requestBytes bothAvps aaRequest openAt openVisited routeBy endAt avpBytes sessionAvp is3xxx authAvps resultAvp subscriptionAvp allBytes proxyAvps answerBody answerFlags answer answerRoom
+unfolding pick require firstOf within keep net24 net32 in24 in32 up4 zeros same numberOf headerCode sameName headLength namedIn01 codesOfAARequest codesOfTermination knownAvps isOneOf known avpCode avpOf supported requestCode behind walkOne walkUpTo walkBy avps walkCode having firstValue valueOf present anything numberIn textField labelField numberField testedAs fieldCode startsWith forBoth for265 for275 fields listCode readingCode askOf requestOf read messageNumber case9 case10 name board session gateway ownHost ownRealm vendorBytes requestBytes bothAvps aaRequest openAt openVisited routeBy endAt avpBytes sessionAvp is3xxx authAvps resultAvp subscriptionAvp allBytes proxyAvps answerBody answerFlags answer answerRoom
 policy-read = refl
 
 pub termination-read : read (endAt (session 97) board) ≡ request (record { user = name; ask = termination (session 97) board })
-unfolding pick require firstOf within keep net24 net32 in24 in32 up4 zeros same numberOf headerCode sameName headLength avpCode avpOf behind walkOne walkUpTo walk avps walkCode having firstValue valueOf present anything numberIn textField labelField numberField testedAs fieldCode startsWith forBoth for265 for275 fields listCode readingCode askOf requestOf read messageNumber case9 case10 name board session gateway ownHost ownRealm vendorBytes requestBytes bothAvps aaRequest openAt openVisited routeBy endAt avpBytes sessionAvp is3xxx authAvps resultAvp subscriptionAvp allBytes proxyAvps answerBody answerFlags answer answerRoom
+unfolding pick require firstOf within keep net24 net32 in24 in32 up4 zeros same numberOf headerCode sameName headLength namedIn01 codesOfAARequest codesOfTermination knownAvps isOneOf known avpCode avpOf supported requestCode behind walkOne walkUpTo walkBy avps walkCode having firstValue valueOf present anything numberIn textField labelField numberField testedAs fieldCode startsWith forBoth for265 for275 fields listCode readingCode askOf requestOf read messageNumber case9 case10 name board session gateway ownHost ownRealm vendorBytes requestBytes bothAvps aaRequest openAt openVisited routeBy endAt avpBytes sessionAvp is3xxx authAvps resultAvp subscriptionAvp allBytes proxyAvps answerBody answerFlags answer answerRoom
 termination-read = refl
 
--- AVPs that no list names: 600 without V, 100 of another vendor, 263 with V at vendor 0, and one of an odd length whose padding is not zero
+-- AVPs that are not known: 600 without V, 100 of another vendor, 263 with V at vendor 0; without M they are stepped over, and
+-- so is one of an odd length whose padding is not zero
+unfoldable pub clearM : List ℕ → List ℕ
+clearM s = set s 4 (getD s 4 0 - 64)
+
 unfoldable pub strangers : List ℕ
 strangers =
-    avpBytes 600 ownRealm
-    ++ (vendorBytes 9 100 gateway ++ (vendorBytes 0 263 gateway ++ (0x00 ∷ 0x00 ∷ 0x03 ∷ 0xE7 ∷ 0x00 ∷ 0x00 ∷ 0x00 ∷ 0x09 ∷ 0x41 ∷ 0x01 ∷ 0x02 ∷ 0x03 ∷ [])))
+    clearM (avpBytes 600 ownRealm)
+    ++ (clearM (vendorBytes 9 100 gateway) ++ (clearM (vendorBytes 0 263 gateway) ++ (0x00 ∷ 0x00 ∷ 0x03 ∷ 0xE7 ∷ 0x00 ∷ 0x00 ∷ 0x00 ∷ 0x09 ∷ 0x41 ∷ 0x01 ∷ 0x02 ∷ 0x03 ∷ [])))
 
 unfoldable pub amongStrangers : List ℕ
 amongStrangers = aaRequest name (session 97) 0 (strangers ++ vendorBytes 10415 100 board)
 
 pub strangers-read : read amongStrangers ≡ request (record { user = name; ask = tunnel (session 97) gateway board false })
-unfolding pick require firstOf within keep net24 net32 in24 in32 up4 zeros same numberOf headerCode sameName headLength avpCode avpOf behind walkOne walkUpTo walk avps walkCode having firstValue valueOf present anything numberIn textField labelField numberField testedAs fieldCode startsWith forBoth for265 for275 fields listCode readingCode askOf requestOf read messageNumber case9 case10 name board session gateway ownHost ownRealm vendorBytes requestBytes bothAvps aaRequest openAt openVisited routeBy endAt avpBytes sessionAvp is3xxx authAvps resultAvp subscriptionAvp allBytes proxyAvps answerBody answerFlags answer answerRoom strangers amongStrangers
+unfolding pick require firstOf within keep net24 net32 in24 in32 up4 zeros same numberOf headerCode sameName headLength namedIn01 codesOfAARequest codesOfTermination knownAvps isOneOf known avpCode avpOf supported requestCode behind walkOne walkUpTo walkBy avps walkCode having firstValue valueOf present anything numberIn textField labelField numberField testedAs fieldCode startsWith forBoth for265 for275 fields listCode readingCode askOf requestOf read messageNumber case9 case10 name board session gateway ownHost ownRealm vendorBytes requestBytes bothAvps aaRequest openAt openVisited routeBy endAt avpBytes sessionAvp is3xxx authAvps resultAvp subscriptionAvp allBytes proxyAvps answerBody answerFlags answer answerRoom strangers amongStrangers clearM
 strangers-read = refl
 
+-- with M each of them is refused, before what is behind it is looked at and after what is before it
+unfoldable pub refusedFor : List ℕ → Bool
+refusedFor a = eqb (readingCode (aaRequest name (session 97) 0 (a ++ (0xFF ∷ [])))) 5001 && eqb (readingCode (aaRequest name (session 97) 0 (set a 4 (getD a 4 0 + 1) ++ a))) 3009
+
+pub strangers-refused : every refusedFor (avpBytes 600 ownRealm ∷ vendorBytes 9 100 gateway ∷ vendorBytes 0 263 gateway ∷ avpBytes 100 board ∷ avpBytes 33 board ∷ avpBytes 280 gateway ∷ avpBytes 285 (in32 0) ∷ avpBytes 97 board ∷ avpBytes 408 (in32 1) ∷ []) ≡ true
+unfolding pick require firstOf within keep net24 net32 in24 in32 up4 zeros same numberOf headerCode sameName headLength namedIn01 codesOfAARequest codesOfTermination knownAvps isOneOf known avpCode avpOf supported requestCode behind walkOne walkUpTo walkBy avps walkCode having firstValue valueOf present anything numberIn textField labelField numberField testedAs fieldCode startsWith forBoth for265 for275 fields listCode readingCode askOf requestOf read messageNumber case9 case10 name board session gateway ownHost ownRealm vendorBytes requestBytes bothAvps aaRequest openAt openVisited routeBy endAt avpBytes sessionAvp is3xxx authAvps resultAvp subscriptionAvp allBytes proxyAvps answerBody answerFlags answer answerRoom refusedFor every
+strangers-refused = refl
+
+-- as the first AVP too
+pub stranger-first : read (requestBytes 265 (avpBytes 33 board)) ≡ refused 5001
+unfolding pick require firstOf within keep net24 net32 in24 in32 up4 zeros same numberOf headerCode sameName headLength namedIn01 codesOfAARequest codesOfTermination knownAvps isOneOf known avpCode avpOf supported requestCode behind walkOne walkUpTo walkBy avps walkCode having firstValue valueOf present anything numberIn textField labelField numberField testedAs fieldCode startsWith forBoth for265 for275 fields listCode readingCode askOf requestOf read messageNumber case9 case10 name board session gateway ownHost ownRealm vendorBytes requestBytes bothAvps aaRequest openAt openVisited routeBy endAt avpBytes sessionAvp is3xxx authAvps resultAvp subscriptionAvp allBytes proxyAvps answerBody answerFlags answer answerRoom
+stranger-first = refl
+
+-- known ones with M: of the AA-Request's grammar, of the termination's, and of answers
+pub known-read : read (aaRequest name (session 97) 0 (avpBytes 32 gateway ++ avpBytes 25 board ++ avpBytes 268 (in32 2001) ++ vendorBytes 10415 304 board ++ vendorBytes 10415 100 board))
+    ≡ request (record { user = name; ask = tunnel (session 97) gateway board false })
+unfolding pick require firstOf within keep net24 net32 in24 in32 up4 zeros same numberOf headerCode sameName headLength namedIn01 codesOfAARequest codesOfTermination knownAvps isOneOf known avpCode avpOf supported requestCode behind walkOne walkUpTo walkBy avps walkCode having firstValue valueOf present anything numberIn textField labelField numberField testedAs fieldCode startsWith forBoth for265 for275 fields listCode readingCode askOf requestOf read messageNumber case9 case10 name board session gateway ownHost ownRealm vendorBytes requestBytes bothAvps aaRequest openAt openVisited routeBy endAt avpBytes sessionAvp is3xxx authAvps resultAvp subscriptionAvp allBytes proxyAvps answerBody answerFlags answer answerRoom
+known-read = refl
+
 -- a W-APN without its vendor is none; one that stands twice; a bare header; a message that is an answer
-pub vendor-missed : read (aaRequest name (session 97) 0 (avpBytes 100 board)) ≡ refused 5005
-unfolding pick require firstOf within keep net24 net32 in24 in32 up4 zeros same numberOf headerCode sameName headLength avpCode avpOf behind walkOne walkUpTo walk avps walkCode having firstValue valueOf present anything numberIn textField labelField numberField testedAs fieldCode startsWith forBoth for265 for275 fields listCode readingCode askOf requestOf read messageNumber case9 case10 name board session gateway ownHost ownRealm vendorBytes requestBytes bothAvps aaRequest openAt openVisited routeBy endAt avpBytes sessionAvp is3xxx authAvps resultAvp subscriptionAvp allBytes proxyAvps answerBody answerFlags answer answerRoom
+pub vendor-missed : read (aaRequest name (session 97) 0 (clearM (avpBytes 100 board))) ≡ refused 5005
+unfolding pick require firstOf within keep net24 net32 in24 in32 up4 zeros same numberOf headerCode sameName headLength namedIn01 codesOfAARequest codesOfTermination knownAvps isOneOf known avpCode avpOf supported requestCode behind walkOne walkUpTo walkBy avps walkCode having firstValue valueOf present anything numberIn textField labelField numberField testedAs fieldCode startsWith forBoth for265 for275 fields listCode readingCode askOf requestOf read messageNumber case9 case10 name board session gateway ownHost ownRealm vendorBytes requestBytes bothAvps aaRequest openAt openVisited routeBy endAt avpBytes sessionAvp is3xxx authAvps resultAvp subscriptionAvp allBytes proxyAvps answerBody answerFlags answer answerRoom clearM
 vendor-missed = refl
 
 pub twice-seen : read (aaRequest name (session 97) 0 (vendorBytes 10415 100 board ++ vendorBytes 10415 100 board)) ≡ refused 5009
-unfolding pick require firstOf within keep net24 net32 in24 in32 up4 zeros same numberOf headerCode sameName headLength avpCode avpOf behind walkOne walkUpTo walk avps walkCode having firstValue valueOf present anything numberIn textField labelField numberField testedAs fieldCode startsWith forBoth for265 for275 fields listCode readingCode askOf requestOf read messageNumber case9 case10 name board session gateway ownHost ownRealm vendorBytes requestBytes bothAvps aaRequest openAt openVisited routeBy endAt avpBytes sessionAvp is3xxx authAvps resultAvp subscriptionAvp allBytes proxyAvps answerBody answerFlags answer answerRoom
+unfolding pick require firstOf within keep net24 net32 in24 in32 up4 zeros same numberOf headerCode sameName headLength namedIn01 codesOfAARequest codesOfTermination knownAvps isOneOf known avpCode avpOf supported requestCode behind walkOne walkUpTo walkBy avps walkCode having firstValue valueOf present anything numberIn textField labelField numberField testedAs fieldCode startsWith forBoth for265 for275 fields listCode readingCode askOf requestOf read messageNumber case9 case10 name board session gateway ownHost ownRealm vendorBytes requestBytes bothAvps aaRequest openAt openVisited routeBy endAt avpBytes sessionAvp is3xxx authAvps resultAvp subscriptionAvp allBytes proxyAvps answerBody answerFlags answer answerRoom
 twice-seen = refl
 
 pub bare-read : read (requestBytes 265 []) ≡ refused 5005
-unfolding pick require firstOf within keep net24 net32 in24 in32 up4 zeros same numberOf headerCode sameName headLength avpCode avpOf behind walkOne walkUpTo walk avps walkCode having firstValue valueOf present anything numberIn textField labelField numberField testedAs fieldCode startsWith forBoth for265 for275 fields listCode readingCode askOf requestOf read messageNumber case9 case10 name board session gateway ownHost ownRealm vendorBytes requestBytes bothAvps aaRequest openAt openVisited routeBy endAt avpBytes sessionAvp is3xxx authAvps resultAvp subscriptionAvp allBytes proxyAvps answerBody answerFlags answer answerRoom
+unfolding pick require firstOf within keep net24 net32 in24 in32 up4 zeros same numberOf headerCode sameName headLength namedIn01 codesOfAARequest codesOfTermination knownAvps isOneOf known avpCode avpOf supported requestCode behind walkOne walkUpTo walkBy avps walkCode having firstValue valueOf present anything numberIn textField labelField numberField testedAs fieldCode startsWith forBoth for265 for275 fields listCode readingCode askOf requestOf read messageNumber case9 case10 name board session gateway ownHost ownRealm vendorBytes requestBytes bothAvps aaRequest openAt openVisited routeBy endAt avpBytes sessionAvp is3xxx authAvps resultAvp subscriptionAvp allBytes proxyAvps answerBody answerFlags answer answerRoom
 bare-read = refl
 
 -- ANSWERS
@@ -86,7 +111,7 @@ granted =
     ∷ []
 
 pub granted-written : answer (openAt (session 97) board) ownHost ownRealm (plain 2001) ≡ granted
-unfolding pick require firstOf within keep net24 net32 in24 in32 up4 zeros same numberOf headerCode sameName headLength avpCode avpOf behind walkOne walkUpTo walk avps walkCode having firstValue valueOf present anything numberIn textField labelField numberField testedAs fieldCode startsWith forBoth for265 for275 fields listCode readingCode askOf requestOf read messageNumber case9 case10 name board session gateway ownHost ownRealm vendorBytes requestBytes bothAvps aaRequest openAt openVisited routeBy endAt avpBytes sessionAvp is3xxx authAvps resultAvp subscriptionAvp allBytes proxyAvps answerBody answerFlags answer answerRoom granted
+unfolding pick require firstOf within keep net24 net32 in24 in32 up4 zeros same numberOf headerCode sameName headLength namedIn01 codesOfAARequest codesOfTermination knownAvps isOneOf known avpCode avpOf supported requestCode behind walkOne walkUpTo walkBy avps walkCode having firstValue valueOf present anything numberIn textField labelField numberField testedAs fieldCode startsWith forBoth for265 for275 fields listCode readingCode askOf requestOf read messageNumber case9 case10 name board session gateway ownHost ownRealm vendorBytes requestBytes bothAvps aaRequest openAt openVisited routeBy endAt avpBytes sessionAvp is3xxx authAvps resultAvp subscriptionAvp allBytes proxyAvps answerBody answerFlags answer answerRoom granted
 granted-written = refl
 
 -- a Proxy-Info is copied with its own flags and padding
@@ -94,5 +119,5 @@ unfoldable pub proxied : List ℕ
 proxied = 0x00 ∷ 0x00 ∷ 0x01 ∷ 0x1C ∷ 0x00 ∷ 0x00 ∷ 0x00 ∷ 0x09 ∷ 0x41 ∷ 0x01 ∷ 0x02 ∷ 0x03 ∷ []
 
 pub proxies-copied : proxyAvps (aaRequest name (session 97) 0 (proxied ++ (strangers ++ proxied))) ≡ proxied ++ proxied
-unfolding pick require firstOf within keep net24 net32 in24 in32 up4 zeros same numberOf headerCode sameName headLength avpCode avpOf behind walkOne walkUpTo walk avps walkCode having firstValue valueOf present anything numberIn textField labelField numberField testedAs fieldCode startsWith forBoth for265 for275 fields listCode readingCode askOf requestOf read messageNumber case9 case10 name board session gateway ownHost ownRealm vendorBytes requestBytes bothAvps aaRequest openAt openVisited routeBy endAt avpBytes sessionAvp is3xxx authAvps resultAvp subscriptionAvp allBytes proxyAvps answerBody answerFlags answer answerRoom strangers proxied
+unfolding pick require firstOf within keep net24 net32 in24 in32 up4 zeros same numberOf headerCode sameName headLength namedIn01 codesOfAARequest codesOfTermination knownAvps isOneOf known avpCode avpOf supported requestCode behind walkOne walkUpTo walkBy avps walkCode having firstValue valueOf present anything numberIn textField labelField numberField testedAs fieldCode startsWith forBoth for265 for275 fields listCode readingCode askOf requestOf read messageNumber case9 case10 name board session gateway ownHost ownRealm vendorBytes requestBytes bothAvps aaRequest openAt openVisited routeBy endAt avpBytes sessionAvp is3xxx authAvps resultAvp subscriptionAvp allBytes proxyAvps answerBody answerFlags answer answerRoom strangers proxied clearM
 proxies-copied = refl

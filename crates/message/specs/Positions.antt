@@ -6,14 +6,14 @@ use lib.Dec.{eqb, ltb}
 use lib.ListN.{length, getD, drop}
 use Rattle.octets.specs.Choice.{pick}
 use Rattle.octets.specs.Numbers.{net24, up4}
-use Rattle.message.specs.ReadingAMessage.{Name, Avp, sameName, avps, having, avpLength, avpCode, avpOf, sessionId, authApplicationId, originHost, originRealm, destinationRealm, authRequestType, destinationHost, userName, terminationCause, proxyInfo, visitedNetwork, sessionRequestType, wlanApnId, routingPolicy}
+use Rattle.message.specs.ReadingAMessage.{Name, Avp, sameName, known, avps, having, avpLength, avpCode, avpOf, sessionId, authApplicationId, originHost, originRealm, destinationRealm, authRequestType, destinationHost, userName, terminationCause, proxyInfo, visitedNetwork, sessionRequestType, wlanApnId, routingPolicy}
 use Rattle.message.specs.declared.Spot.{Spot}
 use Rattle.message.specs.declared.Head.{Head}
 use Rattle.message.specs.declared.Head.the-variants.{One, Bad}
 
 -- SLOTS
 
--- The names that a list or the answer asks for. The slot of a name is its place here.
+-- The names that a list or the answer asks for.
 unfoldable pub names : List Name
 names =
     sessionId
@@ -37,8 +37,9 @@ unfoldable pub slotIn : List Name → Name → ℕ
 slotIn [] n = 0
 slotIn (x ∷ xs) n = pick (sameName x n) 0 (suc (slotIn xs n))
 
+-- The slot of a name is its place there: 14 for one that is known and not asked for. One that is not known has 15.
 unfoldable pub slotOf : Name → ℕ
-slotOf n = slotIn names n
+slotOf n = pick (known n) (slotIn names n) 15
 
 unfoldable pub nameAt : ℕ → Name
 nameAt k = getD names k sessionId

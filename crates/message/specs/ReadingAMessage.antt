@@ -33,7 +33,7 @@ headerCode m =
     ∷ require (eqb (application m) 1 || (eqb (command m) 275 && eqb (application m) 0)) 3007
     ∷ [])
 
--- ONE AVP
+-- THE NAMES
 
 -- What an AVP is known by: its code, its V bit and its vendor together.
 pub data Name : Type 0 where
@@ -47,83 +47,6 @@ sameName (base c) (base d) = eqb c d
 sameName (base c) (vendor w d) = false
 sameName (vendor v c) (base d) = false
 sameName (vendor v c) (vendor w d) = eqb v w && eqb c d
-
--- An AVP that was read: its name, its value, and all its bytes with the padding.
-pub record Avp : Type 0 where
-  pub name : Name
-  pub value : List ℕ
-  pub bytes : List ℕ
-
--- Of the bytes that are left, the first four hold the code, byte 4 the flags V M P and five reserved bits,
--- bytes 5 to 7 the length, which counts header and value and not the padding.
--- With V the vendor follows, and the header has 12 bytes, else 8.
-abbrev pub hasV : List ℕ → Bool
-hasV s = leb 128 (getD s 4 0)
-
-unfoldable pub headLength : List ℕ → ℕ
-headLength s = pick (hasV s) 12 8
-
-abbrev pub avpLength : List ℕ → ℕ
-avpLength s = net24 s 5
-
--- The four tests of an AVP, in order: at least 8 bytes are left, else 5014; no reserved bit is set, else 3009;
--- the length is no less than the header's, else 5014; its end, padded to 4, is not past the message, else 5014.
-unfoldable pub avpCode : List ℕ → ℕ
-avpCode s =
-    firstOf
-    (require (leb 8 (length s)) 5014
-    ∷ require (eqb (getD s 4 0 % 32) 0) 3009
-    ∷ require (leb (headLength s) (avpLength s)) 5014
-    ∷ require (leb (up4 (avpLength s)) (length s)) 5014
-    ∷ [])
-
--- The value starts where the header ends. The padding may hold anything.
-unfoldable pub avpOf : List ℕ → Avp
-avpOf s =
-    record {
-      name = pick (hasV s) (vendor (net32 s 8) (net32 s 0)) (base (net32 s 0));
-      value = part s (headLength s) (avpLength s - headLength s);
-      bytes = take (up4 (avpLength s)) s;
-    }
-
--- THE WALK
-
--- The AVPs up to the end or to the first that fails a test, and the code of that failure, 0 where all pass.
-pub record Walk : Type 0 where
-  pub avps : List Avp
-  pub code : ℕ
-
-unfoldable pub behind : Avp → Walk → Walk
-behind a w = record { avps = a ∷ w .avps; code = w .code }
-
--- One AVP after another: where no byte is left the walk is over; an AVP that fails ends it with its code;
--- any other stands before those that follow its padding. `onward` is the walk of the bytes behind it.
-unfoldable pub walkOne : (List ℕ → Walk) → List ℕ → Walk
-walkOne onward s =
-    let further : Walk = behind (avpOf s) (onward (drop (up4 (avpLength s)) s)) in
-    pick (eqb (length s) 0) (record { avps = []; code = 0 })
-    (pick (eqb (avpCode s) 0) further (record { avps = []; code = avpCode s }))
-
--- No more than n AVPs are walked. No bytes hold more AVPs than there are bytes, so that `walk` walks all:
--- `walk-is` of proofs/Walks.antt says walk s ≡ walkOne walk s.
-unfoldable pub walkUpTo : ℕ → List ℕ → Walk
-walkUpTo zero s = record { avps = []; code = 0 }
-walkUpTo (suc n) s = walkOne (λ t. walkUpTo n t) s
-
-unfoldable pub walk : List ℕ → Walk
-walk s = walkUpTo (suc (length s)) s
-
--- The message's AVPs stand behind its 20-byte header.
-abbrev pub body : List ℕ → List ℕ
-body m = drop 20 m
-
-unfoldable pub avps : List ℕ → List Avp
-avps m = (walk (body m)) .avps
-
-unfoldable pub walkCode : List ℕ → ℕ
-walkCode m = (walk (body m)) .code
-
--- THE NAMES
 
 -- Those of RFC 3588, and those of 3GPP, whose vendor is 10415.
 abbrev pub sessionId : Name
@@ -167,6 +90,204 @@ wlanApnId = vendor 10415 100
 
 abbrev pub routingPolicy : Name
 routingPolicy = vendor 10415 312
+
+-- KNOWN AVPS (W1)
+
+-- Those that document 01 names, in requests or in answers.
+unfoldable pub namedIn01 : List Name
+namedIn01 =
+    sessionId
+    ∷ authApplicationId
+    ∷ originHost
+    ∷ originRealm
+    ∷ destinationRealm
+    ∷ authRequestType
+    ∷ destinationHost
+    ∷ userName
+    ∷ terminationCause
+    ∷ proxyInfo
+    ∷ visitedNetwork
+    ∷ sessionRequestType
+    ∷ wlanApnId
+    ∷ routingPolicy
+    ∷ base 266  -- Vendor-Id
+    ∷ base 268  -- Result-Code
+    ∷ base 279  -- Failed-AVP
+    ∷ base 297  -- Experimental-Result
+    ∷ base 298  -- Experimental-Result-Code
+    ∷ base 443  -- Subscription-Id
+    ∷ base 444  -- Subscription-Id-Data
+    ∷ base 450  -- Subscription-Id-Type
+    ∷ vendor 10415 304  -- Charging-Data
+    ∷ []
+
+-- Those that the grammar of AA-Request for Wm has beside them, in its order, none with V.
+unfoldable pub codesOfAARequest : List ℕ
+codesOfAARequest =
+    578  -- QoS-Capability
+    ∷ 32  -- NAS-Identifier
+    ∷ 4  -- NAS-IP-Address
+    ∷ 95  -- NAS-IPv6-Address
+    ∷ 5  -- NAS-Port
+    ∷ 87  -- NAS-Port-Id
+    ∷ 61  -- NAS-Port-Type
+    ∷ 278  -- Origin-State-Id
+    ∷ 62  -- Port-Limit
+    ∷ 2  -- User-Password
+    ∷ 6  -- Service-Type
+    ∷ 24  -- State
+    ∷ 291  -- Authorization-Lifetime
+    ∷ 276  -- Auth-Grace-Period
+    ∷ 277  -- Auth-Session-State
+    ∷ 19  -- Callback-Number
+    ∷ 30  -- Called-Station-Id
+    ∷ 31  -- Calling-Station-Id
+    ∷ 94  -- Originating-Line-Info
+    ∷ 77  -- Connect-Info
+    ∷ 402  -- CHAP-Auth
+    ∷ 60  -- CHAP-Challenge
+    ∷ 13  -- Framed-Compression
+    ∷ 96  -- Framed-Interface-Id
+    ∷ 8  -- Framed-IP-Address
+    ∷ 9  -- Framed-IP-Netmask
+    ∷ 12  -- Framed-MTU
+    ∷ 7  -- Framed-Protocol
+    ∷ 70  -- ARAP-Password
+    ∷ 73  -- ARAP-Security
+    ∷ 74  -- ARAP-Security-Data
+    ∷ 14  -- Login-IP-Host
+    ∷ 98  -- Login-IPv6-Host
+    ∷ 36  -- Login-LAT-Group
+    ∷ 35  -- Login-LAT-Node
+    ∷ 63  -- Login-LAT-Port
+    ∷ 34  -- Login-LAT-Service
+    ∷ 401  -- Tunneling
+    ∷ 282  -- Route-Record
+    ∷ []
+
+-- The one that the grammar of Session-Termination-Request has beside all of these: Class.
+unfoldable pub codesOfTermination : List ℕ
+codesOfTermination =
+    25  -- Class
+    ∷ []
+
+unfoldable pub knownAvps : List Name
+knownAvps = namedIn01 ++ map base (codesOfAARequest ++ codesOfTermination)
+
+unfoldable pub isOneOf : List Name → Name → Bool
+isOneOf [] n = false
+isOneOf (k ∷ ks) n = sameName k n || isOneOf ks n
+
+-- One set for both commands. A known code with another V bit or another vendor is another name.
+unfoldable pub known : Name → Bool
+known n = isOneOf knownAvps n
+
+-- ONE AVP
+
+-- An AVP that was read: its name, whether its M bit is set, its value, and all its bytes with the padding.
+pub record Avp : Type 0 where
+  pub name : Name
+  pub mandatory : Bool
+  pub value : List ℕ
+  pub bytes : List ℕ
+
+-- Of the bytes that are left, the first four hold the code, byte 4 the flags V M P and five reserved bits,
+-- bytes 5 to 7 the length, which counts header and value and not the padding.
+-- With V the vendor follows, and the header has 12 bytes, else 8.
+abbrev pub hasV : List ℕ → Bool
+hasV s = leb 128 (getD s 4 0)
+
+abbrev pub hasM : List ℕ → Bool
+hasM s = eqb (getD s 4 0 / 64 % 2) 1
+
+unfoldable pub headLength : List ℕ → ℕ
+headLength s = pick (hasV s) 12 8
+
+abbrev pub avpLength : List ℕ → ℕ
+avpLength s = net24 s 5
+
+-- The four tests of an AVP, in order: at least 8 bytes are left, else 5014; no reserved bit is set, else 3009;
+-- the length is no less than the header's, else 5014; its end, padded to 4, is not past the message, else 5014.
+unfoldable pub avpCode : List ℕ → ℕ
+avpCode s =
+    firstOf
+    (require (leb 8 (length s)) 5014
+    ∷ require (eqb (getD s 4 0 % 32) 0) 3009
+    ∷ require (leb (headLength s) (avpLength s)) 5014
+    ∷ require (leb (up4 (avpLength s)) (length s)) 5014
+    ∷ [])
+
+-- The value starts where the header ends. The padding may hold anything.
+unfoldable pub avpOf : List ℕ → Avp
+avpOf s =
+    record {
+      name = pick (hasV s) (vendor (net32 s 8) (net32 s 0)) (base (net32 s 0));
+      mandatory = hasM s;
+      value = part s (headLength s) (avpLength s - headLength s);
+      bytes = take (up4 (avpLength s)) s;
+    }
+
+-- An AVP is supported if it is known; one that is not known is, if its M bit is clear.
+unfoldable pub supported : Avp → Bool
+supported a = known (a .name) || not (a .mandatory)
+
+-- The tests of an AVP of a request: the four, then that it is supported, else 5001 (W1).
+unfoldable pub requestCode : List ℕ → ℕ
+requestCode s = firstOf (avpCode s ∷ require (supported (avpOf s)) 5001 ∷ [])
+
+-- THE WALK
+
+-- The AVPs up to the end or to the first that fails a test, and the code of that failure, 0 where all pass.
+pub record Walk : Type 0 where
+  pub avps : List Avp
+  pub code : ℕ
+
+unfoldable pub behind : Avp → Walk → Walk
+behind a w = record { avps = a ∷ w .avps; code = w .code }
+
+-- One AVP after another: where no byte is left the walk is over; an AVP that fails ends it with its code;
+-- any other stands before those that follow its padding. `tests` gives the code of the first test that an AVP fails,
+-- `onward` is the walk of the bytes behind it.
+unfoldable pub walkOne : (tests : List ℕ → ℕ) → (onward : List ℕ → Walk) → List ℕ → Walk
+walkOne tests onward s =
+    let further : Walk = behind (avpOf s) (onward (drop (up4 (avpLength s)) s)) in
+    pick (eqb (length s) 0) (record { avps = []; code = 0 })
+    (pick (eqb (tests s) 0) further (record { avps = []; code = tests s }))
+
+-- No more than n AVPs are walked. No bytes hold more AVPs than there are bytes, so that `walkBy` walks all: where the four
+-- tests are among `tests`, `walk-is` of proofs/Walks.antt says walkBy tests s ≡ walkOne tests (walkBy tests) s.
+unfoldable pub walkUpTo : (tests : List ℕ → ℕ) → ℕ → List ℕ → Walk
+walkUpTo tests zero s = record { avps = []; code = 0 }
+walkUpTo tests (suc n) s = walkOne tests (λ t. walkUpTo tests n t) s
+
+unfoldable pub walkBy : (tests : List ℕ → ℕ) → List ℕ → Walk
+walkBy tests s = walkUpTo tests (suc (length s)) s
+
+-- The walk by the four tests alone, and the walk of a request.
+abbrev pub walk : List ℕ → Walk
+walk s = walkBy avpCode s
+
+abbrev pub requestWalk : List ℕ → Walk
+requestWalk s = walkBy requestCode s
+
+-- A walk that ends at its first AVP that is not supported, with 5001, if it has one.
+-- `walks-agree` of proofs/Walks.antt says requestWalk s ≡ stopped (walk s).
+unfoldable pub stoppedIn : List Avp → ℕ → Walk
+stoppedIn [] c = record { avps = []; code = c }
+stoppedIn (a ∷ xs) c = pick (supported a) (behind a (stoppedIn xs c)) (record { avps = []; code = 5001 })
+
+unfoldable pub stopped : Walk → Walk
+stopped w = stoppedIn (w .avps) (w .code)
+
+-- The message's AVPs stand behind its 20-byte header.
+abbrev pub body : List ℕ → List ℕ
+body m = drop 20 m
+
+unfoldable pub avps : List ℕ → List Avp
+avps m = (requestWalk (body m)) .avps
+
+unfoldable pub walkCode : List ℕ → ℕ
+walkCode m = (requestWalk (body m)) .code
 
 -- THE LISTS
 

@@ -2,11 +2,11 @@
 ghost use mathlib.Core.Path.{_≡_};
 ghost use mathlib.Core.Bool.{Bool, true};
 ghost use Prim.Native.Nat.{_+_, _*_, _≤_, _<_};
-ghost use lib.ListN.{length};
+ghost use lib.ListN.{length, drop};
 ghost use Rattle.octets.specs.Texts.{zeros};
 ghost use Rattle.octets.specs.Numbers.{net32};
 ghost use Rattle.message.specs.CallsThatGetNoAnswer.{messageNumber};
-ghost use Rattle.message.specs.ReadingAMessage.{base, vendor, command, headerCode, walkCode, numberField};
+ghost use Rattle.message.specs.ReadingAMessage.{base, vendor, avpOf, supported, command, headerCode, walkCode, numberField};
 ghost use Rattle.message.specs.Positions.{slotOf, nameAt, headOf, headAt, Gathered};
 ghost use Rattle.message.specs.Spans.{bytesField, codeOf, Reads};
 
@@ -78,7 +78,8 @@ pub fn header_code(m: &[u8]) -> u32
 
 // ONE AVP
 
-// An AVP that passes the four tests: the slot of its name, 14 where no list names it, and where the next one starts.
+// An AVP that passes the four tests: the slot of its name, 14 where it is known and no list names it, 15 where it is not known, and
+// where the next one starts.
 pub struct Spot {
     pub slot: usize,
     pub next: usize,
@@ -89,7 +90,8 @@ pub enum Head {
     Bad(u32),
 }
 
-// The slot of an AVP without V.
+// The slot of an AVP without V. Of the codes that no list names the even ones come first, then the odd ones: neighbours in one arm
+// would be lowered to tests of ranges, with a way out for each.
 fn base_slot(code: u32) -> usize
     ensures { λ r. ⌜ r ≡ slotOf (base code) ⌝ }
 {
@@ -104,7 +106,11 @@ fn base_slot(code: u32) -> usize
         1 => 7,
         295 => 8,
         284 => 9,
-        _ => 14,
+        2 | 4 | 6 | 8 | 12 | 14 | 24 | 30 | 32 | 34 | 36 | 60 | 62 => 14,
+        70 | 74 | 94 | 96 | 98 | 266 | 268 | 276 | 278 | 282 | 298 | 402 | 444 | 450 | 578 => 14,
+        5 | 7 | 9 | 13 | 19 | 25 | 31 | 35 | 61 | 63 | 73 | 77 => 14,
+        87 | 95 | 277 | 279 | 291 | 297 | 401 | 443 => 14,
+        _ => 15,
     }
 }
 
@@ -113,14 +119,15 @@ fn vendor_slot(id: u32, code: u32) -> usize
     ensures { λ r. ⌜ r ≡ slotOf (vendor id code) ⌝ }
 {
     if id != 10415 {
-        return 14;
+        return 15;
     }
     match code {
         600 => 10,
         311 => 11,
         100 => 12,
         312 => 13,
-        _ => 14,
+        304 => 14,
+        _ => 15,
     }
 }
 
@@ -164,12 +171,24 @@ pub fn head_at(m: &[u8], at: usize, left: usize) -> Head
     })
 }
 
+// Whether the AVP at a place, of this slot, is supported: known, or without M.
+fn is_supported(m: &[u8], at: usize, slot: usize) -> bool
+    requires { ⌜ (at + 8 ≤ length (now m)) × (slot ≡ slotOf ((avpOf (drop at (now m))) .name)) ⌝ }
+    ensures { λ r. ⌜ r ≡ supported (avpOf (drop at (now (m .entry)))) ⌝ }
+{
+    if slot != 15 {
+        return true;
+    }
+    m[at + 4] / 64 % 2 == 0
+}
+
 // THE WALK
 
 // One walk over all AVPs. It notes for each slot 0 where no AVP has its name, the place of the only one that has,
 // 1 where there are more, and 14 numbers further on that AVP's length; its result is the code of the first AVP that fails,
 // 0 where none does.
-// The inner loop steps over the AVPs that no list names; the end and a failing AVP leave both loops.
+// The inner loop steps over the AVPs that no list names, if they are supported, as those that a list names are; the end and
+// a failing AVP leave both loops.
 pub fn gather(m: &[u8], index: &mut [usize]) -> u32
     requires { ⌜ (20 ≤ length (now m)) × (now index ≡ zeros 28) ⌝ }
     ensures { λ r. ⌜ (r ≡ walkCode (now (m .entry))) × Gathered (now (m .entry)) (now (index .exit)) ⌝ }
@@ -187,6 +206,9 @@ pub fn gather(m: &[u8], index: &mut [usize]) -> u32
                 Head::One(a) => {
                     if a.slot < 14 {
                         break a;
+                    }
+                    if !is_supported(m, at, a.slot) {
+                        break 'walk 5001;
                     }
                     left -= a.next - at;
                     at = a.next;

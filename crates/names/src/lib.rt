@@ -9,6 +9,7 @@ pub fn result(out: &mut [u8; 4096], at: usize, code: u32) -> usize {
         3007 => say(out, at, b"DIAMETER_APPLICATION_UNSUPPORTED"),
         3008 => say(out, at, b"DIAMETER_INVALID_HDR_BITS"),
         3009 => say(out, at, b"DIAMETER_INVALID_AVP_BITS"),
+        5001 => say(out, at, b"DIAMETER_AVP_UNSUPPORTED"),
         5003 => say(out, at, b"DIAMETER_AUTHORIZATION_REJECTED"),
         5004 => say(out, at, b"DIAMETER_INVALID_AVP_VALUE"),
         5005 => say(out, at, b"DIAMETER_MISSING_AVP"),

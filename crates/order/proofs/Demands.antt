@@ -1,6 +1,6 @@
 -- The demands, each a statement of specs/ with its proof, which stands in the file that is cited.
 use Rattle.order.specs.Demand2.{FirstFailingCheck, SuccessExactly, RefusedChangesNothing, UnansweredLeaves, RefusedLeaves, CutExactly, OneToCut, SuccessReply, SuccessFindsRow, SuccessReplacesRow, OtherRowsStay, SoundStaysSound, SoundStaysInList}
-use Rattle.order.specs.ChecksInOrder.{TellsTheByte}
+use Rattle.order.specs.ChecksInOrder.{TellsTheByte, TellsTheUnknown}
 use Rattle.order.specs.Demand3.{OneReplyEach, EachInTurn, LastTable, RepliesAlone, RecordAlone, LookupStays, BroughtDecides, RoomsAfter, SameTable, SameReplies, SameRecord, NobodysReply, NobodyChangesNothing, NobodysReplies, SubjectCounts, SenderCounts, NoSender, RepliesAloneBy, RecordAloneBy, SameTableBy, SameRepliesBy, SameRecordBy}
 use Rattle.order.specs.OpenedFirst.{LineIsHistory, EntriesStay, CutOpenedFirst, SecondRowStays, UnsoundRowStays}
 use Rattle.order.specs.OpenedAgain.{OpenedAgainStandsLast}
@@ -40,6 +40,9 @@ first-failing-check = Checks.first-failing-check
 -- and a failing AVP is told with the byte at which it starts
 pub tells-the-byte : TellsTheByte
 tells-the-byte = Read.tells-the-byte
+
+pub tells-the-unknown : TellsTheUnknown
+tells-the-unknown = Read.tells-the-unknown
 
 -- success is given exactly when none fails
 pub success-exactly : SuccessExactly

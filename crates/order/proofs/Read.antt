@@ -14,14 +14,14 @@ use Rattle.octets.specs.Numbers.{net24, net32, up4}
 use Rattle.octets.proofs.Lists.{and-left, and-right, both, by-test}
 use Rattle.message.specs.Codes.{plain}
 use Rattle.message.specs.CallsThatGetNoAnswer.{messageNumber}
-use Rattle.message.specs.ReadingAMessage.{Avp, Field, flags, command, application, headerCode, headLength, avpLength, avpCode, behind, walk, body, avps, walkCode, sessionId, having, startsWith, testedAs, fieldCode, fields, listCode, readingCode, requestOf, request, read}
-use Rattle.message.proofs.Walks.{rest-shorter}
-use Rattle.message.proofs.Gathering.{walk-end, walk-bad, walk-one, next-on}
+use Rattle.message.specs.ReadingAMessage.{Avp, Field, flags, command, application, headerCode, sameName, namedIn01, codesOfAARequest, codesOfTermination, knownAvps, isOneOf, known, headLength, avpLength, avpCode, avpOf, supported, requestCode, behind, requestWalk, body, avps, walkCode, sessionId, having, startsWith, testedAs, fieldCode, fields, listCode, readingCode, requestOf, request, read}
+use Rattle.message.proofs.Walks.{rest-shorter, walk-end, walk-bad, walk-one, request-four}
+use Rattle.message.proofs.Gathering.{next-on}
 use Rattle.table.specs.TheTable.{tableNumber}
 use Rattle.rules.specs.Calls.{Call, callNumber}
 use Rattle.decision.proofs.Answered.{request-fits}
 use Rattle.deciding.specs.Plans.{fitting}
-use Rattle.order.specs.ChecksInOrder.{Failure, sessionIdNotFirst, Check, pass, fail, check, firstFailed, noneFails, headerChecks, avpChecks, walkFrom, walkChecks, fieldChecks, listChecks, readingChecks, shortSecond, TellsTheByte}
+use Rattle.order.specs.ChecksInOrder.{Failure, sessionIdNotFirst, Check, pass, fail, check, firstFailed, noneFails, headerChecks, avpChecks, walkFrom, walkChecks, fieldChecks, listChecks, readingChecks, shortSecond, TellsTheByte, unknownSecond, TellsTheUnknown}
 
 -- CHECKS BEFORE OTHERS
 
@@ -80,14 +80,16 @@ header-gives m =
     (λ b. rw (a, b) (fails _ refl refl refl)))
     (λ a. rw a (fails _ refl refl refl))
 
-pub avp-gives : (at : ℕ) (s : List ℕ) → Gives (avpCode s) (avpChecks at s)
-unfolding avpCode avpChecks headLength firstOf require check firstFailed pick
+pub avp-gives : (at : ℕ) (s : List ℕ) → Gives (requestCode s) (avpChecks at s)
+unfolding requestCode avpCode avpChecks headLength firstOf require check firstFailed pick
 avp-gives at s =
     by-test (leb 8 (length s))
     (λ a. by-test (eqb (getD s 4 0 % 32) 0)
     (λ b. by-test (leb (headLength s) (avpLength s))
     (λ c. by-test (leb (up4 (avpLength s)) (length s))
-    (λ d. rw (a, b, c, d) (passes refl refl))
+    (λ d. by-test (supported (avpOf s))
+    (λ e. rw (a, b, c, d, e) (passes refl refl))
+    (λ e. rw (a, b, c, d, e) (fails _ refl refl refl)))
     (λ d. rw (a, b, c, d) (fails _ refl refl refl)))
     (λ c. rw (a, b, c) (fails _ refl refl refl)))
     (λ b. rw (a, b) (fails _ refl refl refl)))
@@ -111,18 +113,18 @@ walk-next at (b ∷ s) h =
     rw (z, d) (ap (λ (cs : List Check). avpChecks at (b ∷ s) ++ cs) (walk-skips (suc at) (up4 (avpLength (b ∷ s)) - 1) s))
 
 walked-one : (at b : ℕ) (s : List ℕ)
-    → (avpCode (b ∷ s) ≡ 0 → Gives ((walk (drop (up4 (avpLength (b ∷ s))) (b ∷ s))) .code) (walkFrom (at + up4 (avpLength (b ∷ s))) 0 (drop (up4 (avpLength (b ∷ s))) (b ∷ s))))
-    → Gives (avpCode (b ∷ s)) (avpChecks at (b ∷ s)) → Gives ((walk (b ∷ s)) .code) (walkFrom at 0 (b ∷ s))
+    → (requestCode (b ∷ s) ≡ 0 → Gives ((requestWalk (drop (up4 (avpLength (b ∷ s))) (b ∷ s))) .code) (walkFrom (at + up4 (avpLength (b ∷ s))) 0 (drop (up4 (avpLength (b ∷ s))) (b ∷ s))))
+    → Gives (requestCode (b ∷ s)) (avpChecks at (b ∷ s)) → Gives ((requestWalk (b ∷ s)) .code) (walkFrom at 0 (b ∷ s))
 unfolding walkFrom firstFailed behind
-walked-one at b s onward (passes z p) = rw (walk-one (b ∷ s) z, walk-next at (b ∷ s) z) (past _ (avpChecks at (b ∷ s)) _ p (onward z))
+walked-one at b s onward (passes z p) = rw (walk-one requestCode request-four (b ∷ s) z, walk-next at (b ∷ s) (request-four (b ∷ s) z)) (past _ (avpChecks at (b ∷ s)) _ p (onward z))
 walked-one at b s onward (fails what z o p) =
-    rw (walk-bad (b ∷ s) (omega arith) (omega (arith, eqb-false (avpCode (b ∷ s)) 0 z))) (fails what z o (first-of (avpChecks at (b ∷ s)) _ ∙ rw p))
+    rw (walk-bad requestCode request-four (b ∷ s) (omega arith) (omega (arith, eqb-false (requestCode (b ∷ s)) 0 z))) (fails what z o (first-of (avpChecks at (b ∷ s)) _ ∙ rw p))
 
-walked : (n at : ℕ) (s : List ℕ) → length s < n → Gives ((walk s) .code) (walkFrom at 0 s)
+walked : (n at : ℕ) (s : List ℕ) → length s < n → Gives ((requestWalk s) .code) (walkFrom at 0 s)
 unfolding walkFrom firstFailed
 walked zero at s h = absurd (omega arith)
-walked (suc n) at [] h = rw (walk-end [] refl) (passes refl refl)
-walked (suc n) at (b ∷ s) h = walked-one at b s (λ z. walked n _ _ (omega (arith, rest-shorter (b ∷ s) z))) (avp-gives at (b ∷ s))
+walked (suc n) at [] h = rw (walk-end requestCode request-four [] refl) (passes refl refl)
+walked (suc n) at (b ∷ s) h = walked-one at b s (λ z. walked n _ _ (omega (arith, rest-shorter (b ∷ s) (request-four (b ∷ s) z)))) (avp-gives at (b ∷ s))
 
 pub walk-gives : (m : List ℕ) → Gives (walkCode m) (walkChecks m)
 unfolding walkCode walkChecks
@@ -170,8 +172,12 @@ reading-gives m =
 
 -- the byte where an AVP starts that fails, in a case
 pub tells-the-byte : TellsTheByte
-unfolding readingChecks headerChecks walkChecks walkFrom avpChecks check firstFailed shortSecond pick net24 net32 up4
+unfolding readingChecks headerChecks walkChecks walkFrom avpChecks check firstFailed shortSecond pick net24 net32 up4 avpOf supported known isOneOf knownAvps namedIn01 codesOfAARequest codesOfTermination sameName
 tells-the-byte = refl
+
+pub tells-the-unknown : TellsTheUnknown
+unfolding readingChecks headerChecks walkChecks walkFrom avpChecks check firstFailed unknownSecond pick net24 net32 up4 avpOf supported known isOneOf knownAvps namedIn01 codesOfAARequest codesOfTermination sameName
+tells-the-unknown = refl
 
 -- NO NUMBER IS 2001
 

@@ -9,7 +9,7 @@ use Rattle.octets.specs.Choice.{pick, within}
 use Rattle.octets.specs.Lists.{every}
 use Rattle.octets.specs.Numbers.{up4}
 use Rattle.message.specs.Codes.{Code, plain, noSubscription, roamingNotAllowed, unusedByUser}
-use Rattle.message.specs.ReadingAMessage.{Name, Avp, Field, Ask, tunnel, policy, termination, flags, command, application, hasV, avpLength, body, avps, sessionId, having, startsWith, fields}
+use Rattle.message.specs.ReadingAMessage.{Name, Avp, Field, Ask, tunnel, policy, termination, flags, command, application, hasV, avpLength, avpOf, supported, body, avps, sessionId, having, startsWith, fields}
 use Rattle.table.specs.TheTable.{Subscriber, barred, mayRoam}
 use Rattle.table.specs.Soundness.{onEntry}
 use Rattle.rules.specs.Deciding.{entryNamed, entryAt, withSession, none}
@@ -28,6 +28,7 @@ pub data Failure : Type 0 where
   reservedAvpBits : (at : ℕ) → Failure
   shortLength : (at : ℕ) → Failure
   pastTheEnd : (at : ℕ) → Failure
+  unsupported : (at : ℕ) → Failure
   -- the lists: Session-Id is not the first AVP; the AVP of this name
   sessionIdNotFirst : Failure
   absent : Name → Failure
@@ -90,13 +91,15 @@ headerChecks m =
     ∷ []
 
 -- An AVP that starts at a byte of the message, by the bytes that are left from there on: 8 or more are left; none of the low
--- five flag bits; the length is 8 or more, 12 or more with V; its end, padded to 4, is not past the message.
+-- five flag bits; the length is 8 or more, 12 or more with V; its end, padded to 4, is not past the message; it is known, or its M
+-- bit is clear (W1).
 unfoldable pub avpChecks : (at : ℕ) → List ℕ → List Check
 avpChecks at s =
     check (fewBytesLeft at) (leb 8 (length s)) (plain 5014)
     ∷ check (reservedAvpBits at) (eqb (getD s 4 0 % 32) 0) (plain 3009)
     ∷ check (shortLength at) (leb (pick (hasV s) 12 8) (avpLength s)) (plain 5014)
     ∷ check (pastTheEnd at) (leb (up4 (avpLength s)) (length s)) (plain 5014)
+    ∷ check (unsupported at) (supported (avpOf s)) (plain 5001)
     ∷ []
 
 -- One AVP after another, byte by byte from a byte of the message on: `left` bytes still belong to the AVP before, with its
@@ -155,3 +158,13 @@ shortSecond =
 
 abbrev pub TellsTheByte : Type 0
 TellsTheByte = firstFailed (readingChecks shortSecond) ≡ fail (shortLength 32) (plain 5014)
+
+-- Another: the second of three AVPs is not known and has M set; the third gives its length as 4.
+unfoldable pub unknownSecond : List ℕ
+unknownSecond =
+    (1 ∷ 0 ∷ 0 ∷ 48 ∷ 128 ∷ 0 ∷ 1 ∷ 9 ∷ 0 ∷ 0 ∷ 0 ∷ 1 ∷ 0 ∷ 0 ∷ 0 ∷ 1 ∷ 0 ∷ 0 ∷ 0 ∷ 1 ∷ [])
+    ++ ((0 ∷ 0 ∷ 1 ∷ 7 ∷ 64 ∷ 0 ∷ 0 ∷ 9 ∷ 97 ∷ 0 ∷ 0 ∷ 0 ∷ [])
+    ++ ((0 ∷ 0 ∷ 0 ∷ 33 ∷ 64 ∷ 0 ∷ 0 ∷ 8 ∷ []) ++ (0 ∷ 0 ∷ 1 ∷ 2 ∷ 64 ∷ 0 ∷ 0 ∷ 4 ∷ [])))
+
+abbrev pub TellsTheUnknown : Type 0
+TellsTheUnknown = firstFailed (readingChecks unknownSecond) ≡ fail (unsupported 32) (plain 5001)

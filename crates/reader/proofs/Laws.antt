@@ -1,6 +1,6 @@
 -- One step of the walk: a law for each way out of the tests, and that the message's walk is such steps, one after another.
 use mathlib.Core.Path.{_≡_, sym, ap, _∙_}
-use mathlib.Core.Bool.{true, false}
+use mathlib.Core.Bool.{true, false, not}
 use mathlib.Core.List.{List}
 use Prim.Native.Nat.{ℕ, _+_, _-_, _%_, _≤_, _<_}
 use native.Mathlib.Omega.{arith}
@@ -11,10 +11,11 @@ use lib.Seq.{getD-drop, drop-drop}
 use Rattle.octets.specs.Choice.{pick, require, firstOf}
 use Rattle.octets.specs.Numbers.{net24, net32, up4}
 use Rattle.octets.proofs.Lists.{by-test}
-use Rattle.message.specs.ReadingAMessage.{headLength, avpLength, avpCode, avpOf, behind, walk}
-use Rattle.message.proofs.Walks.{Passed, passes, head-least, up4-least}
+use Rattle.message.specs.ReadingAMessage.{Name, known, headLength, avpLength, avpCode, avpOf, behind, walk}
+use Rattle.message.proofs.Walks.{Passed, passes, head-least, up4-least, walk-end, walk-bad, walk-one}
 use Rattle.message.proofs.Heads.{net24-drop, net32-drop, head-v, head-base}
-use Rattle.message.proofs.Gathering.{next-on, walk-end, walk-bad, walk-one}
+use Rattle.message.proofs.Gathering.{next-on, slot-known, slot-unknown}
+use Rattle.message.specs.Positions.{slotOf}
 use Rattle.reader.specs.Steps.{faultOf, seenAt, stepAt, faultCode, seenName, seenAvp, onward}
 use Rattle.reader.specs.declared.Seen.{Seen}
 use Rattle.reader.specs.declared.Fault.the-variants.{Few, Bits, Short, Past}
@@ -73,7 +74,7 @@ long-enough m at e = rw net24-drop at ((passes (drop at m) e) .head)
 
 module _ (m : List ℕ) (at : ℕ) where
   pub seen-v : 128 ≤ getD m (at + 4) 0
-      → seenAt m at ≡ record { code = net32 m at; flags = getD m (at + 4) 0; vendor = net32 m (at + 8); value = at + 12; len = net24 m (at + 5) - 12; next = at + up4 (avpLength (drop at m)) }
+      → seenAt m at ≡ record { code = net32 m at; flags = getD m (at + 4) 0; vendor = net32 m (at + 8); known = known ((avpOf (drop at m)) .name); value = at + 12; len = net24 m (at + 5) - 12; next = at + up4 (avpLength (drop at m)) }
   unfolding seenAt pick
   seen-v v =
       let z : at + 0 ≡ at = omega arith in
@@ -81,12 +82,19 @@ module _ (m : List ℕ) (at : ℕ) where
       rw (head-12 m at v, t, getD-drop at m 4 0, net24-drop at 5 m, net32-drop at 8 m, net32-drop at 0 m, z)
 
   pub seen-base : getD m (at + 4) 0 < 128
-      → seenAt m at ≡ record { code = net32 m at; flags = getD m (at + 4) 0; vendor = 0; value = at + 8; len = net24 m (at + 5) - 8; next = at + up4 (avpLength (drop at m)) }
+      → seenAt m at ≡ record { code = net32 m at; flags = getD m (at + 4) 0; vendor = 0; known = known ((avpOf (drop at m)) .name); value = at + 8; len = net24 m (at + 5) - 8; next = at + up4 (avpLength (drop at m)) }
   unfolding seenAt pick
   seen-base v =
       let z : at + 0 ≡ at = omega arith in
       let t : leb 128 (getD (drop at m) 4 0) ≡ false = lt-leb 128 (getD (drop at m) 4 0) (rw getD-drop v) in
       rw (head-8 m at v, t, getD-drop at m 4 0, net24-drop at 5 m, net32-drop at 0 m, z)
+
+-- a slot says whether the name is known
+pub slot-says : (n : Name) → not (eqb (slotOf n) 15) ≡ known n
+slot-says n =
+    by-test (eqb (slotOf n) 15)
+    (λ e. rw (e, slot-unknown n (eqb-true (slotOf n) 15 e)))
+    (λ e. rw (e, slot-known n (eqb-false (slotOf n) 15 e)))
 
 -- THE STEP
 
@@ -140,13 +148,13 @@ walk-steps m at =
     let s : List ℕ = drop at m in
     by-test (leb (length m) at)
     (λ l. let h : length m ≤ at = leb-true (length m) at l in
-    walk-end s (rw length-drop (omega arith)) ∙ ap (onward m at) (sym (step-end m at h)))
+    walk-end avpCode (λ s e. e) s (rw length-drop (omega arith)) ∙ ap (onward m at) (sym (step-end m at h)))
     (λ l. let h : at < length m = leb-false (length m) at l in
     by-test (eqb (avpCode s) 0)
     (λ e. let k : avpCode s ≡ 0 = eqb-true (avpCode s) 0 e in
-    walk-one s k ∙ rw (← seen-is m at, drop-drop (up4 (avpLength s)) at m) (ap (onward m at) (sym (step-one m at h k))))
+    walk-one avpCode (λ s e. e) s k ∙ rw (← seen-is m at, drop-drop (up4 (avpLength s)) at m) (ap (onward m at) (sym (step-one m at h k))))
     (λ e. let k : 0 < avpCode s = positive (avpCode s) e in
-    walk-bad s (rw length-drop (omega arith)) k ∙ rw (← fault-code s k) (ap (onward m at) (sym (step-bad m at h k)))))
+    walk-bad avpCode (λ s e. e) s (rw length-drop (omega arith)) k ∙ rw (← fault-code s k) (ap (onward m at) (sym (step-bad m at h k)))))
 
 -- FOR CALLERS
 

@@ -5,14 +5,16 @@ ghost use mathlib.Core.Path.{_≡_};
 ghost use Prim.Native.Nat.{_+_, _≤_};
 ghost use lib.ListN.{length, drop};
 ghost use Rattle.octets.specs.Numbers.{up4};
-ghost use Rattle.message.specs.ReadingAMessage.{avpLength, avpCode};
+ghost use Rattle.message.specs.ReadingAMessage.{known as isKnown, avpLength, avpCode, avpOf};
 ghost use Rattle.reader.specs.Steps.{faultOf, seenAt, stepAt};
 
 // An AVP that passes the four tests. Its vendor is 0 without V; its value and the next AVP are places of the message.
+// A request with one that has M and is not known is refused.
 pub struct Seen {
     pub code: u32,
     pub flags: u8,
     pub vendor: u32,
+    pub known: bool,
     pub value: usize,
     pub len: usize,
     pub next: usize,
@@ -60,8 +62,8 @@ fn fault_at(m: &[u8], at: usize) -> Fault
 }
 
 // The AVP at a place, where it passes the four tests.
-fn seen_at(m: &[u8], at: usize, next: usize) -> Seen
-    requires { ⌜ (at ≤ length (now m)) × (avpCode (drop at (now m)) ≡ 0) × (next ≡ at + up4 (avpLength (drop at (now m)))) ⌝ }
+fn seen_at(m: &[u8], at: usize, next: usize, known: bool) -> Seen
+    requires { ⌜ (at ≤ length (now m)) × (avpCode (drop at (now m)) ≡ 0) × (next ≡ at + up4 (avpLength (drop at (now m)))) × (known ≡ isKnown ((avpOf (drop at (now m))) .name)) ⌝ }
     ensures { λ r. ⌜ r ≡ seenAt (now (m .entry)) at ⌝ }
 {
     let flags = m[at + 4];
@@ -72,6 +74,7 @@ fn seen_at(m: &[u8], at: usize, next: usize) -> Seen
             code,
             flags,
             vendor: 0,
+            known,
             value: at + 8,
             len: n - 8,
             next,
@@ -82,6 +85,7 @@ fn seen_at(m: &[u8], at: usize, next: usize) -> Seen
         code,
         flags,
         vendor,
+        known,
         value: at + 12,
         len: n - 12,
         next,
@@ -99,7 +103,7 @@ fn step_at(m: &[u8], at: usize) -> Step
     let h = message::head_at(m, at, left);
     match h {
         Head::Bad(_) => Step::Bad(fault_at(m, at)),
-        Head::One(a) => Step::One(seen_at(m, at, a.next)),
+        Head::One(a) => Step::One(seen_at(m, at, a.next, a.slot != 15)),
     }
 }
 

@@ -1,6 +1,6 @@
 -- The first check of reading that fails: header, walk and lists, with a law for each way out of the code.
 use mathlib.Core.Path.{_≡_, refl, sym, ap, _∙_}
-use mathlib.Core.Bool.{true, false, _&&_, _||_}
+use mathlib.Core.Bool.{true, false, _&&_, _||_, not}
 use mathlib.Core.List.{List, [], _∷_, _++_, append-assoc, flatMap}
 use Prim.Native.Nat.{ℕ, _+_, _/_, _%_, _≤_, _<_}
 use native.Mathlib.Omega.{arith}
@@ -13,7 +13,8 @@ use Rattle.octets.specs.Lists.{every}
 use Rattle.octets.specs.Numbers.{up4}
 use Rattle.octets.proofs.Lists.{by-test}
 use Rattle.message.specs.Codes.{plain}
-use Rattle.message.specs.ReadingAMessage.{Name, Avp, Field, flags, command, application, headerCode, headLength, avpLength, avpCode, avps, walkCode, sessionId, having, startsWith, testedAs, fieldCode, forBoth, for265, for275, fields}
+use Rattle.message.specs.ReadingAMessage.{Name, Avp, Field, flags, command, application, headerCode, headLength, avpLength, avpCode, avpOf, supported, requestCode, avps, walkCode, sessionId, having, startsWith, testedAs, fieldCode, forBoth, for265, for275, fields}
+use Rattle.message.proofs.Walks.{Passed, passes as passed, request-four, request-passes, request-refuses}
 use Rattle.message.proofs.Listing.{above-zero}
 use Rattle.reader.specs.Steps.{faultOf, seenAt, stepAt}
 use Rattle.reader.specs.declared.Seen.{Seen}
@@ -21,7 +22,7 @@ use Rattle.reader.specs.declared.Fault.{Fault}
 use Rattle.reader.specs.declared.Fault.the-variants.{Few, Bits, Short, Past}
 use Rattle.reader.specs.declared.Step.the-variants.{One, End, Bad}
 use Rattle.reader.proofs.Laws.{step-end, step-bad, step-one}
-use Rattle.order.specs.ChecksInOrder.{Check, pass, fail, reservedBits, errorBit, unknownCommand, wrongApplication, fewBytesLeft, reservedAvpBits, shortLength, pastTheEnd, sessionIdNotFirst, absent, twice, wrongLength, wrongValue, check, firstFailed, headerChecks, avpChecks, walkFrom, walkChecks, fieldChecks, listChecks, readingChecks}
+use Rattle.order.specs.ChecksInOrder.{Check, pass, fail, reservedBits, errorBit, unknownCommand, wrongApplication, fewBytesLeft, reservedAvpBits, shortLength, pastTheEnd, unsupported, sessionIdNotFirst, absent, twice, wrongLength, wrongValue, check, firstFailed, headerChecks, avpChecks, walkFrom, walkChecks, fieldChecks, listChecks, readingChecks}
 use Rattle.order.proofs.Read.{first-of, Gives, passes, fails, header-gives, avp-gives, walk-next, walk-gives, there-is, field-gives}
 use Rattle.reasons.specs.Parts.{firstOfFields}
 
@@ -75,6 +76,13 @@ fault-entry at s bad =
     (λ b. rw (a, b)))
     (λ a. rw a)
 
+-- one that passes the four tests fails the last one if it is not supported
+unsupported-entry : (at : ℕ) (s : List ℕ) → avpCode s ≡ 0 → supported (avpOf s) ≡ false → fail (unsupported at) (plain 5001) ≡ firstFailed (avpChecks at s)
+unfolding avpChecks headLength check firstFailed
+unsupported-entry at s h u =
+    let p : Passed s = passed s h in
+    rw (le-leb 8 (length s) (p .eight), eq-eqb (getD s 4 0 % 32) 0 (p .clear), le-leb (headLength s) (avpLength s) (p .head), le-leb (up4 (avpLength s)) (length s) (p .whole), u)
+
 -- checks of which none fails leave it to those behind them; a failing one is the first
 past : (cs ds : List Check) → firstFailed cs ≡ pass → firstFailed (cs ++ ds) ≡ firstFailed ds
 unfolding firstFailed
@@ -97,10 +105,10 @@ empty [] e = refl
 empty (b ∷ s) e = absurd (omega arith)
 
 -- checks of bytes of which there are some begin with those of an AVP
-some-first : (at : ℕ) (s : List ℕ) → 0 < length s → (avpCode s ≡ 0 → ⊥) → firstFailed (avpChecks at s) ≡ firstFailed (walkFrom at 0 s)
+some-first : (at : ℕ) (s : List ℕ) → 0 < length s → (requestCode s ≡ 0 → ⊥) → firstFailed (avpChecks at s) ≡ firstFailed (walkFrom at 0 s)
 unfolding walkFrom
 some-first at [] l bad = absurd (omega arith)
-some-first at (b ∷ s) l bad = gives-first (avpCode (b ∷ s)) (avpChecks at (b ∷ s)) _ bad (avp-gives at (b ∷ s))
+some-first at (b ∷ s) l bad = gives-first (requestCode (b ∷ s)) (avpChecks at (b ∷ s)) _ bad (avp-gives at (b ∷ s))
 
 module _ (m : List ℕ) (at : ℕ) where
   -- the step at a byte: the end, an AVP that passes, or one that fails
@@ -138,7 +146,7 @@ module _ (m : List ℕ) (at : ℕ) where
       (λ h f. let g : One (seenAt m at) ≡ Bad fault = sym f ∙ e in let z : _≡_ {A = ℕ} 0 1 = cc in absurd (omega arith))
       (λ l h f. let g : Bad (faultOf (drop at m)) ≡ Bad fault = sym f ∙ e in
       let w : faultOf (drop at m) ≡ fault = cc in
-      record { bad = h; which = w; first = some-first at (drop at m) (rw length-drop (omega arith)) h })
+      record { bad = h; which = w; first = some-first at (drop at m) (rw length-drop (omega arith)) (λ z. h (request-four (drop at m) z)) })
 
   -- an AVP that passes the four tests, as it was seen
   seen : (a : Seen) → stepAt m at ≡ One a → (avpCode (drop at m) ≡ 0) × (seenAt m at ≡ a)
@@ -149,15 +157,28 @@ module _ (m : List ℕ) (at : ℕ) where
       (λ l h f. let g : Bad (faultOf (drop at m)) ≡ One a = sym f ∙ e in let z : _≡_ {A = ℕ} 0 1 = cc in absurd (omega arith))
 
   module _ (a : Seen) (e : stepAt m at ≡ One a) where
-    -- behind it the first to fail is the same
-    pub walk-goes : firstFailed (walkFrom (a .next) 0 (drop (a .next) m)) ≡ firstFailed (walkFrom at 0 (drop at m))
+    seen-supported : supported (avpOf (drop at m)) ≡ (a .known || not (eqb (a .flags / 64 % 2) 1))
+    unfolding seenAt avpOf supported
+    seen-supported = ap (λ (x : Seen). x .known || not (eqb (x .flags / 64 % 2) 1)) ((seen a e) .1)
+
+    -- one that is not supported is the first to fail
+    pub walk-refuses : (a .known || not (eqb (a .flags / 64 % 2) 1)) ≡ false → fail (unsupported at) (plain 5001) ≡ firstFailed (walkFrom at 0 (drop at m))
+    walk-refuses u =
+        let s : List ℕ = drop at m in
+        let h : avpCode s ≡ 0 = (seen a e) .0 in
+        let v : supported (avpOf s) ≡ false = seen-supported ∙ u in
+        unsupported-entry at s h v
+        ∙ some-first at s (omega (arith, (passed s h) .eight)) (λ z. let w : _≡_ {A = ℕ} 0 5001 = sym z ∙ request-refuses s h v in absurd (omega arith))
+
+    -- behind one that is, the first to fail is the same
+    pub walk-goes : (a .known || not (eqb (a .flags / 64 % 2) 1)) ≡ true → firstFailed (walkFrom (a .next) 0 (drop (a .next) m)) ≡ firstFailed (walkFrom at 0 (drop at m))
     unfolding seenAt
-    walk-goes =
+    walk-goes u =
         let s : List ℕ = drop at m in
         let h : avpCode s ≡ 0 = (seen a e) .0 in
         let w : seenAt m at ≡ a = (seen a e) .1 in
         let d : drop (at + up4 (avpLength s)) m ≡ drop (up4 (avpLength s)) s = sym (drop-drop (up4 (avpLength s)) at m) in
-        rw (← w, walk-next at s h) (rw d (gives-past (avpCode s) (avpChecks at s) _ h (avp-gives at s)))
+        rw (← w, walk-next at s h) (rw d (gives-past (requestCode s) (avpChecks at s) _ (request-passes s h (seen-supported ∙ u)) (avp-gives at s)))
 
 -- ONE FIELD
 

@@ -8,10 +8,10 @@ use Rattle.octets.specs.Choice.{pick}
 use Rattle.message.specs.Codes.{Code, none, plain, userUnknown, noSubscription, roamingNotAllowed, unusedByUser}
 use Rattle.message.specs.Positions.{nameAt}
 use Rattle.rules.specs.Calls.{Call, callNumber, handle}
-use Rattle.order.specs.ChecksInOrder.{Check, pass, fail, reservedBits, errorBit, unknownCommand, wrongApplication, fewBytesLeft, reservedAvpBits, shortLength, pastTheEnd, sessionIdNotFirst, absent, twice, wrongLength, wrongValue, noRow, unsoundRow, notEntered, entryBarred, mayNotRoam, sessionHeld, noAccess, gatewaySaysNo, unused, firstFailed, codeGiven}
+use Rattle.order.specs.ChecksInOrder.{Check, pass, fail, reservedBits, errorBit, unknownCommand, wrongApplication, fewBytesLeft, reservedAvpBits, shortLength, pastTheEnd, unsupported, sessionIdNotFirst, absent, twice, wrongLength, wrongValue, noRow, unsoundRow, notEntered, entryBarred, mayNotRoam, sessionHeld, noAccess, gatewaySaysNo, unused, firstFailed, codeGiven}
 use Rattle.order.specs.Demand2.{checks, CodeOf}
 use Rattle.reasons.specs.declared.Reason.{Reason}
-use Rattle.reasons.specs.declared.Reason.the-variants.{Passes, ReservedBits, ErrorBit, UnknownCommand, WrongApplication, FewBytesLeft, ReservedAvpBits, ShortLength, PastTheEnd, SessionIdNotFirst, Absent, Twice, WrongLength, WrongValue, NoRow, UnsoundRow, NotEntered, EntryBarred, MayNotRoam, SessionHeld, NoAccess, GatewaySaysNo, Unused}
+use Rattle.reasons.specs.declared.Reason.the-variants.{Passes, ReservedBits, ErrorBit, UnknownCommand, WrongApplication, FewBytesLeft, ReservedAvpBits, ShortLength, PastTheEnd, UnsupportedAvp, SessionIdNotFirst, Absent, Twice, WrongLength, WrongValue, NoRow, UnsoundRow, NotEntered, EntryBarred, MayNotRoam, SessionHeld, NoAccess, GatewaySaysNo, Unused}
 use Rattle.reasons.specs.declared.Why.{Why}
 use Rattle.reasons.specs.declared.Why.the-variants.{Unanswered, Answered}
 
@@ -27,6 +27,7 @@ checkNamed (FewBytesLeft at) = fail (fewBytesLeft at) (plain 5014)
 checkNamed (ReservedAvpBits at) = fail (reservedAvpBits at) (plain 3009)
 checkNamed (ShortLength at) = fail (shortLength at) (plain 5014)
 checkNamed (PastTheEnd at) = fail (pastTheEnd at) (plain 5014)
+checkNamed (UnsupportedAvp at) = fail (unsupported at) (plain 5001)
 checkNamed SessionIdNotFirst = fail sessionIdNotFirst (plain 5005)
 checkNamed (Absent slot) = fail (absent (nameAt slot)) (plain 5005)
 checkNamed (Twice slot) = fail (twice (nameAt slot)) (plain 5009)

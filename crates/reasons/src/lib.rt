@@ -8,9 +8,10 @@ use reader::Fault;
 use reader::Step;
 use table::RowFound;
 ghost use mathlib.Core.Path.{_≡_};
-ghost use mathlib.Core.Bool.{Bool, true};
+ghost use mathlib.Core.Bool.{Bool, true, _||_, not};
 ghost use mathlib.Core.List.{List, [], _∷_};
-ghost use Prim.Native.Nat.{ℕ, _≤_, _<_};
+ghost use Prim.Native.Nat.{ℕ, _/_, _%_, _≤_, _<_};
+ghost use lib.Dec.{eqb};
 ghost use lib.ListN.{length};
 ghost use Rattle.octets.specs.Lists.{every};
 ghost use Rattle.message.specs.ReadingAMessage.{Avp, Field, avpCode, avps, for265, for275, forBoth, numberField, policy, termination, testedAs, tunnel, walkCode};
@@ -38,6 +39,7 @@ pub enum Reason {
     ReservedAvpBits(usize),
     ShortLength(usize),
     PastTheEnd(usize),
+    UnsupportedAvp(usize),
     // the lists; the AVP by the slot of its name
     SessionIdNotFirst,
     Absent(usize),
@@ -93,7 +95,17 @@ fn avp_failed(fault: Fault, at: usize) -> Reason
     }
 }
 
-// One AVP after another, up to the end or to the first that fails.
+// Whether an AVP is supported, by whether it is known and by its flags: known, or without M (W1).
+fn is_supported(known: bool, flags: u8) -> bool
+    ensures { λ r. ⌜ r ≡ known || not (eqb (flags / 64 % 2) 1) ⌝ }
+{
+    if known {
+        return true;
+    }
+    flags / 64 % 2 != 1
+}
+
+// One AVP after another, up to the end or to the first that fails: one of the four tests, or that it is supported.
 fn walk_failed(m: &[u8]) -> Reason
     requires { ⌜ 20 ≤ length (now m) ⌝ }
     ensures { λ r. ⌜ checkNamed r ≡ firstFailed (walkChecks (now (m .entry))) ⌝ }
@@ -105,6 +117,9 @@ fn walk_failed(m: &[u8]) -> Reason
             Step::End => return Reason::Passes,
             Step::Bad(fault) => return avp_failed(fault, at),
             Step::One(a) => {
+                if !is_supported(a.known, a.flags) {
+                    return Reason::UnsupportedAvp(at);
+                }
                 at = a.next;
             }
         }

@@ -157,7 +157,7 @@ pub fn ending(room: &mut [u8], session: &[u8], user: &[u8], label: &[u8]) -> usi
     e
 }
 
-// The request of `n` bytes made as long as the room, by an AVP of an unknown code.
+// The request of `n` bytes made as long as the room, by a Class: known, and no list asks for it.
 pub fn lengthen(room: &mut [u8], n: usize) -> usize
     requires { ⌜ (20 ≤ length (now room)) × (length (now room) ≤ 4100) × (n ≤ length (now room)) ⌝ }
     ensures { λ r. ⌜ r ≤ length (now (room .exit)) ⌝ }
@@ -168,7 +168,7 @@ pub fn lengthen(room: &mut [u8], n: usize) -> usize
         return n;
     }
     let k = all - n - 8;
-    let e = put_avp(room, n, 9999, &zeros[0..k]);
+    let e = put_avp(room, n, 25, &zeros[0..k]);
     put_header(room, e, 265);
     e
 }

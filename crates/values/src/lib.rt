@@ -87,6 +87,20 @@ pub fn avp(out: &mut [u8; 4096], margin: &[u8], m: &[u8], s: Seen) -> usize {
     say(out, d, b"\n")
 }
 
+// What comes of an AVP of a request that is not known; nothing is said of one that is.
+pub fn unknown(out: &mut [u8; 4096], margin: &[u8], s: Seen) -> usize {
+    if s.known {
+        return 0;
+    }
+    let a = say(out, 0, margin);
+    if s.flags / 64 % 2 == 1 {
+        let b = say(out, a, b"not known, with M: the request is refused, 5001 ");
+        let c = names::result(out, b, 5001);
+        return say(out, c, b"\n");
+    }
+    say(out, a, b"not known, without M: stepped over\n")
+}
+
 // Whether an AVP is a group, whose AVPs have lines of their own.
 pub fn is_group(s: Seen) -> bool {
     let form = avps::form_of(s.code, s.flags, s.vendor);

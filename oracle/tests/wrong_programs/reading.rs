@@ -1,5 +1,6 @@
 //! Wrong programs that differ in the header tests, the walk, or in how AVPs are known.
 
+use oracle::known_avps::{AA_REQUEST, supported};
 use oracle::reading_a_message::*;
 use oracle::rules::Rules;
 use oracle::{Code, plain};
@@ -75,6 +76,7 @@ pub fn programs() -> Vec<Wrong> {
             Ok(Avp {
                 code: number(&rest[..4]),
                 vendor: (start == 12).then(|| number(&rest[8..12])),
+                mandatory: rest[4] & MANDATORY != 0,
                 value: &rest[start..start + length],
                 whole: &rest[..(start + length).next_multiple_of(4)],
             })
@@ -97,7 +99,7 @@ pub fn programs() -> Vec<Wrong> {
         "lets a length under 12 pass with V": walk_tests = |rest| match walk_tests(rest) {
             Err(_) if rest.len() >= 8 && rest[4] == VENDOR && (8..12).contains(&number(&rest[5..8])) => {
                 let whole = &rest[..number(&rest[5..8]).next_multiple_of(4).min(8) as usize];
-                Ok(Avp { code: number(&rest[..4]), vendor: Some(0), value: &[], whole })
+                Ok(Avp { code: number(&rest[..4]), vendor: Some(0), mandatory: false, value: &[], whole })
             }
             other => other,
         };
@@ -124,5 +126,75 @@ pub fn programs() -> Vec<Wrong> {
             is(avp, name) || name.vendor.is_some() && avp.code == name.code && avp.vendor.is_some()
         };
     });
+    all.extend(of_known_avps());
     all
+}
+
+/// W1: what is known, and what comes of an AVP that is not.
+fn of_known_avps() -> Vec<Wrong> {
+    wrong! {
+        "steps over every unknown AVP": supported = |_| Ok(());
+        "refuses an unknown AVP without M": supported = |avp| {
+            supported(&Avp { mandatory: true, ..*avp })
+        };
+        "refuses an unknown AVP only behind the whole walk": supported = |_| Ok(()), read_list = |r, command, avps| {
+            avps.iter().try_for_each(supported)?;
+            read_list(r, command, avps)
+        };
+        "refuses an unknown AVP only behind the lists": supported = |_| Ok(()), read_list = |r, command, avps| {
+            let request = read_list(r, command, avps)?;
+            avps.iter().try_for_each(supported)?;
+            Ok(request)
+        };
+        "refuses an unknown AVP before its four tests": walk_tests = |rest| match rest.get(..8) {
+            Some(head) if walk_tests(rest).is_err() && !head[4] & MANDATORY == 0 => {
+                let avp = Avp { code: number(&head[..4]), vendor: None, mandatory: true, value: &[], whole: head };
+                if head[4] & VENDOR == 0 { supported(&avp)? }
+                walk_tests(rest)
+            }
+            _ => walk_tests(rest),
+        };
+        "gives an Experimental-Result for an unknown AVP": supported = |avp| {
+            supported(avp).map_err(|_| oracle::experimental(5001))
+        };
+        "lets the first AVP be unknown": supported = |_| Ok(()), read_list = |r, command, avps| {
+            avps.iter().skip(1).try_for_each(supported)?;
+            read_list(r, command, avps)
+        };
+        "knows every AVP by its code alone": supported = |avp| {
+            let base = supported(&Avp { vendor: None, ..*avp });
+            base.or(supported(&Avp { vendor: Some(VENDOR_3GPP), ..*avp }))
+        };
+        "does not know Class": supported = |avp| match avp.code {
+            25 if avp.mandatory => Err(plain(5001)),
+            _ => supported(avp),
+        };
+        "does not know what stands in answers alone": supported = |avp| match avp.code {
+            268 | 279 | 443 if avp.mandatory => Err(plain(5001)),
+            _ => supported(avp),
+        };
+        "knows what stands inside Proxy-Info": supported = |avp| match avp.code {
+            33 | 280 => Ok(()),
+            _ => supported(avp),
+        };
+        "knows Re-Auth-Request-Type": supported = |avp| match avp.code {
+            285 => Ok(()),
+            _ => supported(avp),
+        };
+        "knows the grammar of RFC 4005 too": supported = |avp| match avp.code {
+            97 | 408 => Ok(()),
+            _ => supported(avp),
+        };
+        "knows PDG-Charging-Id": supported = |avp| match avp.code {
+            896 => Ok(()),
+            _ => supported(avp),
+        };
+        "knows the AA-Request's AVPs only in a 265": supported = |_| Ok(()), read_list = |r, command, avps| {
+            let foreign = |avp: &&Avp| command == TERMINATION && AA_REQUEST.contains(&avp.code) && avp.vendor.is_none();
+            match avps.iter().find(|avp| avp.mandatory && foreign(avp)) {
+                Some(_) => Err(plain(5001)),
+                None => avps.iter().try_for_each(supported).and_then(|_| read_list(r, command, avps)),
+            }
+        };
+    }
 }

@@ -17,6 +17,19 @@ fn unless(left_out: bool, part: Vec<u8>) -> Vec<u8> {
 
 pub fn programs() -> Vec<Wrong> {
     let mut all = wrong! {
+        "no Session-Id for an unknown AVP": session_part = |r| {
+            unless(r.code == plain(5001), session_part(r))
+        };
+        "sets E for an unknown AVP": answer_flags = |asked, code| {
+            answer_flags(asked, code) | if code == plain(5001) { ERROR } else { 0 }
+        };
+        "Proxy-Info for an unknown AVP": proxy_part = |r| {
+            if r.code == plain(5001) {
+                let all = walk(&Rules { supported: |_| Ok(()), ..RIGHT }, r.message);
+                return proxy_part(&Reply { avps: &all.unwrap_or_default(), ..*r });
+            }
+            proxy_part(r)
+        };
         "sets E for 5013": answer_flags = |asked, code| {
             answer_flags(asked, code) | if code == plain(5013) { ERROR } else { 0 }
         };

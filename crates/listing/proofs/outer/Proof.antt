@@ -22,6 +22,9 @@ slice-aggregate-one c = search needs
 one-requires : tie.Need-one-requires Inv-loop μ-loop
 one-requires c κs = search needs
 
+unknown-requires : tie.Need-unknown-requires Inv-loop μ-loop
+unknown-requires c κs = search needs
+
 group-requires : tie.Need-group-requires Inv-loop μ-loop
 group-requires c κs = search needs
 
@@ -47,6 +50,7 @@ outer-spec =
     sub-turns
     slice-aggregate-one
     one-requires
+    unknown-requires
     group-requires
     returns
     loop-less

@@ -1,15 +1,18 @@
 -- Both loops keep `Walked`: the slots so far with the AVPs ahead say what the whole message says; and what is left ends with the message.
 -- Each step is a law of Gathering.
 use mathlib.Core.Path.{_≡_, sym, ap, _∙_}
+use mathlib.Core.Bool.{true, false}
 use mathlib.Core.Logic.{⊎-elim}
 use Prim.Native.Nat.{_+_, _≤_}
 use native.Mathlib.Omega.{arith}
-use lib.ListN.{length, length-set}
+use lib.ListN.{length, drop, length-set}
+use borrow.Author.Tests.{not-true, not-false}
 use borrow.Author.Needs.{needs}
+use Rattle.message.specs.ReadingAMessage.{avpOf, supported}
 use Rattle.message.specs.Positions.{headAt}
 use Rattle.octets.proofs.Texts.{length-zeros}
 use Rattle.message.specs.declared.Head.the-variants.{One}
-use Rattle.message.proofs.Gathering.{Walked, started, at-end, at-bad, stepped-over, noted-first, noted-again, next-place}
+use Rattle.message.proofs.Gathering.{Walked, started, at-end, at-bad, at-unsupported, slot-is, slot-supported, stepped-over, noted-first, noted-again, next-place}
 use Rattle.message.proofs.gather.Statement.{statement}
 use Rattle.message.proofs.gather.Tie as tie
 
@@ -45,41 +48,51 @@ enum-known-h c = search needs
 enum-known-h-2 : tie.Need-enum-known-h-2 Inv-loop μ-loop Inv-walk μ-walk
 enum-known-h-2 c = search needs
 
+is-supported-requires : tie.Need-is-supported-requires Inv-loop μ-loop Inv-walk μ-walk
+is-supported-requires c κs =
+    let l = c .before .before .before .before .before .before .before in
+    let m = c .before .before .before .before .before .before .before .before .before .before .before .args .m .now in
+    let a = c .before .before .before .h2 .given .0 .0 in
+    let o : headAt m (l .loop .at) ≡ One a = sym (c .before .before .before .before .before .head-at .ensures) ∙ c .before .before .before .h2 .given .1 in
+    let n = next-place m (l .loop .at) a (l .loop .inv .1 .inside) o in
+    (omega (arith, n .0, n .1), slot-is m (l .loop .at) a o)
+
 sub-left-2 : tie.Need-sub-left-2 Inv-loop μ-loop Inv-walk μ-walk
 sub-left-2 c =
-    let l = c .before .before .before .before .before .before .before .before in
-    let m = c .before .before .before .before .before .before .before .before .before .before .before .before .args .m .now in
-    let a = c .before .before .before .before .h2 .given .0 .0 in
-    let o : headAt m (l .loop .at) ≡ One a = sym (c .before .before .before .before .before .before .head-at .ensures) ∙ c .before .before .before .before .h2 .given .1 in
+    let l = c .before .before .before .before .before .before .before .before .before .before in
+    let m = c .before .before .before .before .before .before .before .before .before .before .before .before .before .before .args .m .now in
+    let a = c .before .before .before .before .before .before .h2 .given .0 .0 in
+    let o : headAt m (l .loop .at) ≡ One a = sym (c .before .before .before .before .before .before .before .before .head-at .ensures) ∙ c .before .before .before .before .before .before .h2 .given .1 in
     let n = next-place m (l .loop .at) a (l .loop .inv .1 .inside) o in
     omega (arith, n .0)
 
 sub-left-3 : tie.Need-sub-left-3 Inv-loop μ-loop Inv-walk μ-walk
 sub-left-3 c =
-    let l = c .before .before .before .before .before .before .before .before in
-    let m = c .before .before .before .before .before .before .before .before .before .before .before .before .args .m .now in
-    let a = c .before .before .before .before .h2 .given .0 .0 in
-    let o : headAt m (l .loop .at) ≡ One a = sym (c .before .before .before .before .before .before .head-at .ensures) ∙ c .before .before .before .before .h2 .given .1 in
+    let l = c .before .before .before .before .before .before .before .before .before .before in
+    let m = c .before .before .before .before .before .before .before .before .before .before .before .before .before .before .args .m .now in
+    let a = c .before .before .before .before .before .before .h2 .given .0 .0 in
+    let o : headAt m (l .loop .at) ≡ One a = sym (c .before .before .before .before .before .before .before .before .head-at .ensures) ∙ c .before .before .before .before .before .before .h2 .given .1 in
     let n = next-place m (l .loop .at) a (l .loop .inv .1 .inside) o in
     omega (arith, n .0, n .1, l .loop .inv .2)
 
 loop-less : tie.Need-loop-less Inv-loop μ-loop Inv-walk μ-walk
 loop-less c =
-    let l = c .before .before .before .before .before .before .before .before in
-    let m = c .before .before .before .before .before .before .before .before .before .before .before .before .args .m .now in
-    let a = c .before .before .before .before .h2 .given .0 .0 in
-    let o : headAt m (l .loop .at) ≡ One a = sym (c .before .before .before .before .before .before .head-at .ensures) ∙ c .before .before .before .before .h2 .given .1 in
+    let l = c .before .before .before .before .before .before .before .before .before .before in
+    let m = c .before .before .before .before .before .before .before .before .before .before .before .before .before .before .args .m .now in
+    let a = c .before .before .before .before .before .before .h2 .given .0 .0 in
+    let o : headAt m (l .loop .at) ≡ One a = sym (c .before .before .before .before .before .before .before .before .head-at .ensures) ∙ c .before .before .before .before .before .before .h2 .given .1 in
     let n = next-place m (l .loop .at) a (l .loop .inv .1 .inside) o in
     omega (arith, n .0, n .1, l .loop .inv .2)
 
 loop-again : tie.Need-loop-again Inv-loop μ-loop Inv-walk μ-walk
 loop-again c =
-    let l = c .before .before .before .before .before .before .before .before in
-    let m = c .before .before .before .before .before .before .before .before .before .before .before .before .args .m .now in
-    let a = c .before .before .before .before .h2 .given .0 .0 in
-    let o : headAt m (l .loop .at) ≡ One a = sym (c .before .before .before .before .before .before .head-at .ensures) ∙ c .before .before .before .before .h2 .given .1 in
+    let l = c .before .before .before .before .before .before .before .before .before .before in
+    let m = c .before .before .before .before .before .before .before .before .before .before .before .before .before .before .args .m .now in
+    let a = c .before .before .before .before .before .before .h2 .given .0 .0 in
+    let o : headAt m (l .loop .at) ≡ One a = sym (c .before .before .before .before .before .before .before .before .head-at .ensures) ∙ c .before .before .before .before .before .before .h2 .given .1 in
     let n = next-place m (l .loop .at) a (l .loop .inv .1 .inside) o in
-    (omega (arith, n .0, l .loop .inv .0), stepped-over m (l .before .walk .index) (l .loop .at) a (l .loop .inv .1) o (c .before .if2 .left), omega (arith, n .0, n .1, l .loop .inv .2))
+    let u : supported (avpOf (drop (l .loop .at) m)) ≡ true = sym (c .before .before .is-supported .ensures) ∙ not-false _ (c .before .if3 .left) in
+    (omega (arith, n .0, l .loop .inv .0), stepped-over m (l .before .walk .index) (l .loop .at) a (l .loop .inv .1) o u (c .before .before .before .if2 .left), omega (arith, n .0, n .1, l .loop .inv .2))
 
 mul-seen : tie.Need-mul-seen Inv-loop μ-loop Inv-walk μ-walk
 mul-seen c = omega (arith, c .before .before .before .before .before .before .before .loop .inv .1 .size, c .if2 .taken)
@@ -161,11 +174,12 @@ walk-again c =
     let o : headAt m (l .loop .at) ≡ One a = sym (c .before .before .before .before .before .before .before .before .before .head-at .ensures) ∙ c .before .before .before .before .before .before .before .h2 .given .1 in
     let n = next-place m (l .loop .at) a (l .loop .inv .1 .inside) o in
     let r = c .before .before .read24 in
-    let s = c .before .before .before .before .if2 .taken in (
+    let s = c .before .before .before .before .if2 .taken in
+    let u = slot-supported (drop (l .loop .at) m) (λ z. omega (arith, z, s, slot-is m (l .loop .at) a o)) in (
       ⊎-elim
-          (λ w. rw (w .1) (noted-first m (l .before .walk .index) (l .loop .at) a (l .loop .inv .1) o s (r .result) (r .ensures .0) (w .0 .taken)))
-          (λ w. rw (w .1) (noted-again m (l .before .walk .index) (l .loop .at) a (l .loop .inv .1) o s (r .result) (r .ensures .0) (w .0 .left)))
-          (c .before .if3 .came),
+          (λ w. rw (w .1) (noted-first m (l .before .walk .index) (l .loop .at) a (l .loop .inv .1) o u s (r .result) (r .ensures .0) (w .0 .taken)))
+          (λ w. rw (w .1) (noted-again m (l .before .walk .index) (l .loop .at) a (l .loop .inv .1) o u s (r .result) (r .ensures .0) (w .0 .left)))
+          (c .before .if4 .came),
       omega (arith, n .0, n .1, l .loop .inv .2),
     )
 
@@ -183,6 +197,18 @@ returns-2 c =
     at-bad (c .before .before .before .before .before .before .before .before .before .args .m .now) (c .before .before .before .before .before .before .walk .index) (c .before .before .before .before .before .loop .at) (c .before .h .given .0 .0) (c .before .before .before .before .before .loop .inv .1) (omega (arith, c .before .before .before .before .if1 .left, c .before .before .before .before .before .loop .inv .2))
     (sym (c .before .before .before .head-at .ensures) ∙ c .before .h .given .1)
 
+same-length-3 : tie.Need-same-length-3 Inv-loop μ-loop Inv-walk μ-walk
+same-length-3 c = omega (arith, c .before .before .before .before .before .before .before .before .before .loop .inv .1 .size, ap length (c .before .before .before .before .before .before .before .before .before .before .before .before .before .pre .1), length-zeros 28)
+
+returns-3 : tie.Need-returns-3 Inv-loop μ-loop Inv-walk μ-walk
+returns-3 c =
+    let l = c .before .before .before .before .before .before .before .before .before in
+    let m = c .before .before .before .before .before .before .before .before .before .before .before .before .before .args .m .now in
+    let a = c .before .before .before .before .before .h2 .given .0 .0 in
+    let o : headAt m (l .loop .at) ≡ One a = sym (c .before .before .before .before .before .before .before .head-at .ensures) ∙ c .before .before .before .before .before .h2 .given .1 in
+    let u : supported (avpOf (drop (l .loop .at) m)) ≡ false = sym (c .before .is-supported .ensures) ∙ not-true _ (c .if3 .taken) in
+    at-unsupported m (l .before .walk .index) (l .loop .at) a (l .loop .inv .1) (omega (arith, c .before .before .before .before .before .before .before .before .if1 .left, l .loop .inv .2)) o u
+
 pub gather-spec : {M : Type 1} → statement M
 gather-spec =
     tie.close
@@ -197,6 +223,7 @@ gather-spec =
     head-at-requires
     enum-known-h
     enum-known-h-2
+    is-supported-requires
     sub-left-2
     sub-left-3
     loop-less
@@ -219,4 +246,6 @@ gather-spec =
     same-length
     returns
     same-length-2
-    returns-2)
+    returns-2
+    same-length-3
+    returns-3)

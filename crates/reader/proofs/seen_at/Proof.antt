@@ -30,11 +30,11 @@ read24-requires c κs =
     let p = c .before .before .before .pre in
     omega (arith, inside-8 (a .m .now) (a .at) (p .0) (p .1))
 
-add-t12 : tie.Need-add-t12
-add-t12 c = search needs
+add-t13 : tie.Need-add-t13
+add-t13 c = search needs
 
-sub-t13 : tie.Need-sub-t13
-sub-t13 c =
+sub-t14 : tie.Need-sub-t14
+sub-t14 c =
     let a = c .before .before .before .before .before .args in
     let p = c .before .before .before .before .before .pre in
     omega (arith, long-enough (a .m .now) (a .at) (p .1), head-8 (a .m .now) (a .at) (c .if1 .taken))
@@ -43,7 +43,7 @@ returns : tie.Need-returns
 returns c =
     let a = c .before .before .before .before .before .args in
     let p = c .before .before .before .before .before .pre in
-    sym (seen-base (a .m .now) (a .at) (c .if1 .taken) ∙ rw (← c .before .before .read32 .ensures, ← c .before .read24 .ensures .0, ← p .2))
+    sym (seen-base (a .m .now) (a .at) (c .if1 .taken) ∙ rw (← c .before .before .read32 .ensures, ← c .before .read24 .ensures .0, ← p .2, ← p .3))
 
 add-read32 : tie.Need-add-read32
 add-read32 c = search needs
@@ -54,11 +54,11 @@ read32-requires-2 c κs =
     let p = c .before .before .before .before .before .pre in
     omega (arith, inside (a .m .now) (a .at) (p .0) (p .1), head-12 (a .m .now) (a .at) (c .if1 .left))
 
-add-t8 : tie.Need-add-t8
-add-t8 c = search needs
+add-t9 : tie.Need-add-t9
+add-t9 c = search needs
 
-sub-t14 : tie.Need-sub-t14
-sub-t14 c =
+sub-t15 : tie.Need-sub-t15
+sub-t15 c =
     let a = c .before .before .before .before .before .before .args in
     let p = c .before .before .before .before .before .before .pre in
     omega (arith, long-enough (a .m .now) (a .at) (p .1), head-12 (a .m .now) (a .at) (c .before .if1 .left))
@@ -67,7 +67,7 @@ returns-2 : tie.Need-returns-2
 returns-2 c =
     let a = c .before .before .before .before .before .before .args in
     let p = c .before .before .before .before .before .before .pre in
-    sym (seen-v (a .m .now) (a .at) (c .before .if1 .left) ∙ rw (← c .before .before .before .read32 .ensures, ← c .before .before .read24 .ensures .0, ← c .read322 .ensures, ← p .2))
+    sym (seen-v (a .m .now) (a .at) (c .before .if1 .left) ∙ rw (← c .before .before .before .read32 .ensures, ← c .before .before .read24 .ensures .0, ← c .read322 .ensures, ← p .2, ← p .3))
 
 pub seen-at-spec : {M : Type 1} → statement M
 seen-at-spec =
@@ -78,11 +78,11 @@ seen-at-spec =
     read32-requires
     add-read24
     read24-requires
-    add-t12
-    sub-t13
+    add-t13
+    sub-t14
     returns
     add-read32
     read32-requires-2
-    add-t8
-    sub-t14
+    add-t9
+    sub-t15
     returns-2)

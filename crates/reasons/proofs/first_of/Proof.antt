@@ -5,7 +5,7 @@ use types.Run.{OneOf, miss}
 use denote.Enum.Declared.{tagOf}
 use Rattle.order.specs.ChecksInOrder.{Check, firstFailed}
 use Rattle.reasons.specs.declared.Reason.{Reason}
-use Rattle.reasons.specs.declared.Reason.the-variants.{Passes, ReservedBits, ErrorBit, UnknownCommand, WrongApplication, FewBytesLeft, ReservedAvpBits, ShortLength, PastTheEnd, SessionIdNotFirst, Absent, Twice, WrongLength, WrongValue, NoRow, UnsoundRow, NotEntered, EntryBarred, MayNotRoam, SessionHeld, NoAccess, GatewaySaysNo, Unused}
+use Rattle.reasons.specs.declared.Reason.the-variants.{Passes, ReservedBits, ErrorBit, UnknownCommand, WrongApplication, FewBytesLeft, ReservedAvpBits, ShortLength, PastTheEnd, UnsupportedAvp, SessionIdNotFirst, Absent, Twice, WrongLength, WrongValue, NoRow, UnsoundRow, NotEntered, EntryBarred, MayNotRoam, SessionHeld, NoAccess, GatewaySaysNo, Unused}
 use Rattle.reasons.specs.Reasons.{checkNamed}
 use Rattle.reasons.proofs.Reason.{the-type}
 use Rattle.reasons.proofs.Laws.{only}
@@ -14,9 +14,9 @@ use Rattle.reasons.proofs.first_of.Statement.{statement}
 use Rattle.reasons.proofs.first_of.Tie as tie
 
 -- every reason but the first names a check that fails
-fails-first : (r : Reason) (x : Check) → OneOf (1 ∷ 2 ∷ 3 ∷ 4 ∷ 5 ∷ 6 ∷ 7 ∷ 8 ∷ 9 ∷ 10 ∷ 11 ∷ 12 ∷ 13 ∷ 14 ∷ 15 ∷ 16 ∷ 17 ∷ 18 ∷ 19 ∷ 20 ∷ 21 ∷ 22 ∷ []) (tagOf the-type r) → checkNamed r ≡ firstFailed (checkNamed r ∷ x ∷ [])
+fails-first : (r : Reason) (x : Check) → OneOf (1 ∷ 2 ∷ 3 ∷ 4 ∷ 5 ∷ 6 ∷ 7 ∷ 8 ∷ 9 ∷ 10 ∷ 11 ∷ 12 ∷ 13 ∷ 14 ∷ 15 ∷ 16 ∷ 17 ∷ 18 ∷ 19 ∷ 20 ∷ 21 ∷ 22 ∷ 23 ∷ []) (tagOf the-type r) → checkNamed r ≡ firstFailed (checkNamed r ∷ x ∷ [])
 unfolding checkNamed firstFailed
-fails-first Passes x o = absurd (miss (1 ∷ 2 ∷ 3 ∷ 4 ∷ 5 ∷ 6 ∷ 7 ∷ 8 ∷ 9 ∷ 10 ∷ 11 ∷ 12 ∷ 13 ∷ 14 ∷ 15 ∷ 16 ∷ 17 ∷ 18 ∷ 19 ∷ 20 ∷ 21 ∷ 22 ∷ []) 0 tt o)
+fails-first Passes x o = absurd (miss (1 ∷ 2 ∷ 3 ∷ 4 ∷ 5 ∷ 6 ∷ 7 ∷ 8 ∷ 9 ∷ 10 ∷ 11 ∷ 12 ∷ 13 ∷ 14 ∷ 15 ∷ 16 ∷ 17 ∷ 18 ∷ 19 ∷ 20 ∷ 21 ∷ 22 ∷ 23 ∷ []) 0 tt o)
 fails-first ReservedBits x o = refl
 fails-first ErrorBit x o = refl
 fails-first UnknownCommand x o = refl
@@ -25,6 +25,7 @@ fails-first (FewBytesLeft n) x o = refl
 fails-first (ReservedAvpBits n) x o = refl
 fails-first (ShortLength n) x o = refl
 fails-first (PastTheEnd n) x o = refl
+fails-first (UnsupportedAvp n) x o = refl
 fails-first SessionIdNotFirst x o = refl
 fails-first (Absent n) x o = refl
 fails-first (Twice n) x o = refl

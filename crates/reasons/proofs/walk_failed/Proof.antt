@@ -1,14 +1,15 @@
--- What is left to walk has the same first failing check: `walk-goes` of Laws.
+-- What is left to walk has the same first failing check: `walk-goes` of Laws; an AVP that is not supported is that check: `walk-refuses`.
 use mathlib.Core.Path.{_≡_, refl, sym, _∙_}
 use Prim.Native.Nat.{_-_, _≤_}
 use native.Mathlib.Omega.{arith}
+use borrow.Author.Tests.{not-true, not-false}
 use lib.ListN.{length, drop}
 use Rattle.reader.specs.Steps.{stepAt}
 use Rattle.reader.specs.declared.Step.the-variants.{One}
 use Rattle.reader.proofs.Laws.{placed}
 use Rattle.order.specs.ChecksInOrder.{firstFailed, walkFrom, walkChecks}
 use Rattle.reasons.specs.Reasons.{checkNamed}
-use Rattle.reasons.proofs.Laws.{walk-ends, walk-stops, walk-goes}
+use Rattle.reasons.proofs.Laws.{walk-ends, walk-stops, walk-refuses, walk-goes}
 use borrow.Author.Needs.{needs}
 use Rattle.reasons.proofs.walk_failed.Statement.{statement}
 use Rattle.reasons.proofs.walk_failed.Tie as tie
@@ -53,21 +54,35 @@ returns-2 c =
 enum-known-step-2 : tie.Need-enum-known-step-2 Inv-loop μ-loop
 enum-known-step-2 c = search needs
 
+is-supported-requires : tie.Need-is-supported-requires Inv-loop μ-loop
+is-supported-requires c κs = search needs
+
+returns-3 : tie.Need-returns-3 Inv-loop μ-loop
+unfolding checkNamed
+returns-3 c =
+    let m = c .before .before .before .before .before .before .before .before .args .m .now in
+    let l = c .before .before .before .before .before .before .loop in
+    let a = c .before .before .before .step2 .given .0 .0 in
+    let e : stepAt m (l .at) ≡ One a = sym (c .before .before .before .before .before .avp-at .ensures) ∙ c .before .before .before .step2 .given .1 in
+    let s = c .before .is-supported in
+    walk-refuses m (l .at) a e (sym (s .ensures) ∙ not-true (s .result) (c .if1 .taken)) ∙ l .inv .1
+
 loop-less : tie.Need-loop-less Inv-loop μ-loop
 loop-less c =
-    let m = c .before .before .before .before .before .before .args .m .now in
-    let l = c .before .before .before .before .loop in
-    let a = c .before .step2 .given .0 .0 in
-    let p = placed m (l .at) a (sym (c .before .before .before .avp-at .ensures) ∙ c .before .step2 .given .1) in
+    let m = c .before .before .before .before .before .before .before .before .args .m .now in
+    let l = c .before .before .before .before .before .before .loop in
+    let a = c .before .before .before .step2 .given .0 .0 in
+    let p = placed m (l .at) a (sym (c .before .before .before .before .before .avp-at .ensures) ∙ c .before .before .before .step2 .given .1) in
     omega (arith, p .on, p .inside)
 
 loop-again : tie.Need-loop-again Inv-loop μ-loop
 loop-again c =
-    let m = c .before .before .before .before .before .before .args .m .now in
-    let l = c .before .before .before .before .loop in
-    let a = c .before .step2 .given .0 .0 in
-    let e : stepAt m (l .at) ≡ One a = sym (c .before .before .before .avp-at .ensures) ∙ c .before .step2 .given .1 in
-    ((placed m (l .at) a e) .inside, walk-goes m (l .at) a e ∙ l .inv .1)
+    let m = c .before .before .before .before .before .before .before .before .args .m .now in
+    let l = c .before .before .before .before .before .before .loop in
+    let a = c .before .before .before .step2 .given .0 .0 in
+    let e : stepAt m (l .at) ≡ One a = sym (c .before .before .before .before .before .avp-at .ensures) ∙ c .before .before .before .step2 .given .1 in
+    let s = c .before .is-supported in
+    ((placed m (l .at) a e) .inside, walk-goes m (l .at) a e (sym (s .ensures) ∙ not-false (s .result) (c .if1 .left)) ∙ l .inv .1)
 
 pub walk-failed-spec : {M : Type 1} → statement M
 walk-failed-spec =
@@ -83,5 +98,7 @@ walk-failed-spec =
     avp-failed-requires
     returns-2
     enum-known-step-2
+    is-supported-requires
+    returns-3
     loop-less
     loop-again)
