@@ -2,25 +2,25 @@
 use mathlib.Core.Path.{_≡_, refl, sym, ap, _∙_}
 use mathlib.Core.Bool.{Bool, true, false, not}
 use mathlib.Core.List.{List, [], _∷_, _++_, map, append-assoc}
-use Prim.Native.Nat.{ℕ, _+_, _-_, _*_, _≤_, _<_}
+use Prim.Native.Nat.{ℕ, _≤_}
 use native.Mathlib.Omega.{arith}
 use borrow.Author.Tests.{eqb-true, not-true}
 use lib.Dec.{eqb}
-use lib.ListN.{length, getD, take, drop, length-append}
-use lib.Seq.{take-at, drop-drop, getD-take, getD-drop}
+use lib.ListN.{length, take, length-append}
+use lib.Seq.{take-at}
 use Rattle.octets.specs.Choice.{pick, within}
 use Rattle.octets.specs.Lists.{distinct, every, isOn, keep}
 use Rattle.octets.specs.Texts.{filled, part, put, zeros}
 use Rattle.table.specs.Soundness.{sound}
-use Rattle.table.specs.TheTable.{Access, accessBytes, block, held, orderLine, readAccess, readRow, rowAt, sealed, sumsFrom}
+use Rattle.table.specs.TheTable.{Access, accessBytes, block, held, orderLine, readAccess, readRow, sealed, sumsFrom}
 use Rattle.changes.proofs.Steps.{keep-map}
 use Rattle.rules.specs.Calls.{noticeRoom}
 use Rattle.rules.specs.Deciding.{atPlace}
 use Rattle.octets.proofs.Lists.{and-left, and-right, by-test, eqb-comm, every-imp, on-cons, on-none, within-high}
-use Rattle.octets.proofs.Texts.{length-filled, length-part}
+use Rattle.octets.proofs.Texts.{length-filled}
 use Rattle.table.proofs.Bytes.{block-place}
-use Rattle.table.proofs.Form.{every-on, length-block, part-take, place-read}
-use Rattle.table.proofs.Sound.{Formed, clauses, formed-on, row-is}
+use Rattle.table.proofs.Form.{every-on, place-read}
+use Rattle.table.proofs.Sound.{clauses, row-is}
 
 -- THE ACCESS AT A PLACE
 
@@ -75,21 +75,6 @@ module _ (r : List ℕ) (h : sound r ≡ true) (k : ℕ) (o : isOn (orderLine r)
   pub texts-are : part (block r k) 8 256 ≡ filled ((readAccess k (block r k)) .session) 128 ++ filled ((readAccess k (block r k)) .host) 128
   texts-are = ap (λ (b : List ℕ). part b 8 256) block-is ∙ both-texts (readAccess k (block r k))
 
-  -- their lengths stand in bytes 2 and 3
-  form : Formed (block r k)
-  form = formed-on r (clauses r h) k place-is o
-
-  long : length (block r k) ≡ 512
-  long = length-block r k ((clauses r h) .size) (within-high 1 8 k place-is)
-
-  pub session-long : length ((readAccess k (block r k)) .session) ≡ getD (block r k) 2 0
-  unfolding readAccess
-  session-long = length-part (block r k) 8 (getD (block r k) 2 0) (omega (arith, long, within-high 1 128 _ (form .session-in)))
-
-  pub host-long : length ((readAccess k (block r k)) .host) ≡ getD (block r k) 3 0
-  unfolding readAccess
-  host-long = length-part (block r k) 136 (getD (block r k) 3 0) (omega (arith, long, within-high 1 128 _ (form .host-in)))
-
 -- THE NOTICE
 
 pub notice-is : (a : Access) (room : List ℕ) → put room 0 (filled (a .session) 128 ++ filled (a .host) 128) ≡ noticeRoom (a ∷ []) room
@@ -97,23 +82,6 @@ unfolding put noticeRoom
 notice-is a room =
     let l : length (filled (a .session) 128 ++ filled (a .host) 128) ≡ 256 = length-append (filled (a .session) 128) (filled (a .host) 128) ∙ omega (arith, length-filled (a .session) 128, length-filled (a .host) 128) in
     rw l (simp append-assoc)
-
--- bytes of a place of row i, as bytes of the table
-pub byte-in : (t : List ℕ) (i k j : ℕ) → k ≤ 8 → j < 512 → getD (block (rowAt t i) k) j 0 ≡ getD t (4608 * i + 512 * k + j) 0
-unfolding rowAt
-byte-in t i k j hk hj =
-    let q : 4608 * i + (512 * k + j) ≡ 4608 * i + 512 * k + j = omega arith in
-    getD-take 512 (drop (512 * k) (rowAt t i)) j 0 hj ∙ getD-drop (512 * k) (rowAt t i) j 0
-    ∙ getD-take 4608 (drop (4608 * i) t) (512 * k + j) 0 (omega arith) ∙ getD-drop (4608 * i) t (512 * k + j) 0
-    ∙ ap (λ (n : ℕ). getD t n 0) q
-
-pub part-in : (t : List ℕ) (i k j n : ℕ) → k ≤ 8 → j + n ≤ 512 → part (block (rowAt t i) k) j n ≡ part t (4608 * i + 512 * k + j) n
-unfolding rowAt
-part-in t i k j n hk hj =
-    let q : 4608 * i + (512 * k + j) ≡ 4608 * i + 512 * k + j = omega arith in
-    part-take 512 j n (drop (512 * k) (rowAt t i)) hj ∙ ap (take n) (drop-drop j (512 * k) (rowAt t i))
-    ∙ part-take 4608 (512 * k + j) n (drop (4608 * i) t) (omega arith) ∙ ap (take n) (drop-drop (512 * k + j) (4608 * i) t)
-    ∙ ap (λ (m : ℕ). part t m n) q
 
 pub at-most : (r : List ℕ) (k : ℕ) → sound r ≡ true → isOn (orderLine r) k ≡ true → k ≤ 8
 at-most r k h o = within-high 1 8 k (place-is r h k o)

@@ -5,7 +5,7 @@ ghost use mathlib.Core.Bool.{true};
 ghost use Prim.Native.Nat.{ℕ, _+_, _*_, _≤_};
 ghost use lib.ListN.{length};
 ghost use Rattle.octets.specs.Lists.{isOn};
-ghost use Rattle.table.specs.TheTable.{orderLine, readRow, rowAt, rowBytes, withRow};
+ghost use Rattle.table.specs.TheTable.{orderLine, readRow, rowAt, rowBytes, rowLength, withRow};
 ghost use Rattle.table.specs.Soundness.{sound};
 ghost use Rattle.changes.specs.Changes.{freed, lowestFree, opened};
 ghost use Rattle.rules.specs.Deciding.{atPlace};
@@ -28,16 +28,16 @@ pub struct Done {
 // The notice of the access at place k. In a sound row the two texts stand side by side in rooms of 128 bytes, filled up with zeros,
 // as they do in the notice.
 fn write_notice(notice: &mut [u8], table: &[u8], i: usize, k: usize) -> Cut
-    requires { ⌜ (256 ≤ length (now notice)) × (4608 * i + 4608 ≤ length (now table)) × (sound (rowAt (now table) i) ≡ true)
+    requires { ⌜ (256 ≤ length (now notice)) × (rowLength * i + rowLength ≤ length (now table)) × (sound (rowAt (now table) i) ≡ true)
         × (isOn (orderLine (rowAt (now table) i)) k ≡ true) ⌝ }
     ensures { λ r. ⌜ (now (notice .exit) ≡ noticeRoom (atPlace k ((readRow (rowAt (now (table .entry)) i)) .accesses)) (now (notice .entry)))
         × (r ≡ cutFor (atPlace k ((readRow (rowAt (now (table .entry)) i)) .accesses))) ⌝ }
 {
-    let at = 4608 * i + 512 * k;
-    let from = at + 8;
-    let end = at + 264;
-    octets::put_bytes(notice, 0, &table[from..end]);
-    Cut::Lengths(octets::long(table[at + 2]), octets::long(table[at + 3]))
+    let row = row::at(table, i);
+    octets::put_bytes(notice, 0, row::notice_rooms(row, k));
+    let session = row::session(row, k);
+    let host = row::host(row, k);
+    Cut::Lengths(session.len(), host.len())
 }
 
 // An opening on entry n: first the cut, where a place is named, then the new access.
@@ -50,7 +50,7 @@ fn open_with_cut(
     host: &[u8],
     notice: &mut [u8],
 ) -> Done
-    requires { ⌜ (256 ≤ length (now notice)) × (4608 * i + 4608 ≤ length (now table)) × (sound (rowAt (now table) i) ≡ true)
+    requires { ⌜ (256 ≤ length (now notice)) × (rowLength * i + rowLength ≤ length (now table)) × (sound (rowAt (now table) i) ≡ true)
         × (isOn (orderLine (rowAt (now table) i)) k ≡ true) × (n ≤ 4) × (length (now session) ≤ 128) × (length (now host) ≤ 128) ⌝ }
     ensures { λ r. ⌜ (now (table .exit) ≡ withRow (now (table .entry)) i (rowBytes (opened n (now (session .entry)) (now (host .entry)) (freed k (readRow (rowAt (now (table .entry)) i))))))
         × (now (notice .exit) ≡ noticeRoom (atPlace k ((readRow (rowAt (now (table .entry)) i)) .accesses)) (now (notice .entry)))
@@ -84,7 +84,7 @@ pub fn carry(
     route: &[u8],
     notice: &mut [u8],
 ) -> Done
-    requires { ⌜ (256 ≤ length (now notice)) × (4608 * i + 4608 ≤ length (now table)) × (sound (rowAt (now table) i) ≡ true)
+    requires { ⌜ (256 ≤ length (now notice)) × (rowLength * i + rowLength ≤ length (now table)) × (sound (rowAt (now table) i) ≡ true)
         × (fitPlan (now route) plan (rowAt (now table) i) ≡ true) × (length (now session) ≤ 128) × (length (now host) ≤ 128) ⌝ }
     ensures { λ r. ⌜ (now (table .exit) ≡ tableAfter (now (table .entry)) i (planned (now (session .entry)) (now (host .entry)) (now (route .entry)) plan (readRow (rowAt (now (table .entry)) i))))
         × (now (notice .exit) ≡ noticeRoom ((planned (now (session .entry)) (now (host .entry)) (now (route .entry)) plan (readRow (rowAt (now (table .entry)) i))) .cut) (now (notice .entry)))

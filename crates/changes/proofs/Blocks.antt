@@ -16,12 +16,10 @@ use Rattle.octets.specs.Lists.{counted, every, isOn, keep}
 use Rattle.octets.specs.Texts.{filled, part, put, zeros}
 use Rattle.table.specs.TheTable.{Entry, accessBytes, entryBytes, fromBits, held, places, sealed, sums, usedBits}
 use Rattle.changes.specs.Writes.{closedUp, entriesWith, headWith, openedBytes, policyWith}
-use Rattle.changes.proofs.Puts.{take-past}
-use Rattle.changes.proofs.Steps.{drop-zeros}
 use Rattle.octets.proofs.Lists.{by-test, keep-snoc, kept}
 use Rattle.octets.proofs.Texts.{length-filled, length-part, length-put, length-zeros}
-use Rattle.table.proofs.Bytes.{drop-past, fill, length-entry}
-use Rattle.table.proofs.Form.{take-zeros}
+use Rattle.table.proofs.Bytes.{fill, length-entry}
+use Rattle.octets.proofs.Pieces.{drop-past, drop-zeros, take-past, take-zeros}
 
 pub put-past : (n m : ℕ) (a b s : List ℕ) → length a ≡ n → put (a ++ b) (n + m) s ≡ a ++ put b m s
 unfolding put

@@ -13,16 +13,17 @@ use Rattle.octets.specs.Texts.{filled, part, put, zeros}
 use Rattle.octets.proofs.Lists.{keep-split}
 use Rattle.octets.proofs.Texts.{length-put, length-zeros}
 use Rattle.table.specs.Soundness.{sound}
-use Rattle.table.specs.TheTable.{Access, Subscriber, accessBytes, headBytes, line, orderLine, readRow, rowBytes, usedBits}
-use Rattle.table.proofs.Bytes.{drop-past, length-access, length-head, read-row}
+use Rattle.table.specs.TheTable.{Access, Subscriber, accessBytes, headBytes, line, orderLine, readRow, rowBytes, rowLength, usedBits}
+use Rattle.table.proofs.Bytes.{length-access, length-head, read-row}
 use Rattle.table.proofs.Sound.{row-is, says-good}
 use Rattle.changes.specs.Changes.{freed, leave, lowestFree, newAccess, opened, withAccesses}
 use Rattle.changes.specs.Writes.{closedUp, headWith, lowestClear, openedBytes}
 use Rattle.changes.proofs.Keep.{good-freed, sound-freed}
-use Rattle.changes.proofs.Puts.{freed-puts, opened-puts, putBlock, take-past}
+use Rattle.changes.proofs.Puts.{freed-puts, opened-puts, putBlock}
 use Rattle.changes.proofs.Rows.{at-most, bit-in, bit-out, bits-fit, closed-is, find-at, head-of, head-stays, in-8, line-more, lowest-in, lowest-is, order-is, place-in, put-block, row-size, some-clear}
 use Rattle.changes.proofs.Stays.{line-snoc}
 use Rattle.changes.proofs.Steps.{head-line, ones-byte, row-bits}
+use Rattle.octets.proofs.Pieces.{drop-past, take-past}
 
 -- what block 0 was does not matter to the blocks behind it
 behind-head : (h d o : List ℕ) (p : ℕ) → length h ≡ 512 → 1 ≤ p → drop 512 (putBlock (h ++ d) p o) ≡ putBlock d (p - 1) o
@@ -100,7 +101,7 @@ module _ (r : List ℕ) (k : ℕ) (h : sound r ≡ true) (o : isOn (orderLine r)
       let w : (1 ≤ k) × (k ≤ 8) = place-in r h k o in
       let v : (1 ≤ lowestFree a) × (lowestFree a ≤ 8) = rw cut-says at (lowest-in cut cut-sound cut-room) in
       let z : List ℕ = put r (512 * k) (zeros 512) in
-      let lz : length z ≡ 4608 = length-put r (512 * k) (zeros 512) (omega (arith, length-zeros 512, row-size r h)) ∙ row-size r h in
+      let lz : length z ≡ rowLength = length-put r (512 * k) (zeros 512) (omega (arith, length-zeros 512, row-size r h)) ∙ row-size r h in
       let u : List ℕ = put z (512 * p) new in
       let e1 : take 512 u ≡ headBytes s =
       head-stays z p new (omega (arith, v .0)) (omega (arith, v .1)) lz ∙ head-stays r k (zeros 512) (w .0) (w .1) (row-size r h) ∙ head-of r h in

@@ -15,13 +15,11 @@ use Rattle.table.specs.TheTable.{Access, Subscriber, accessBytes, headBytes, pl
 use Rattle.changes.proofs.Stays.{free-place, hold-place, line-hold}
 use Rattle.changes.specs.Changes.{freed, hold, leave, lowestFree, newAccess, opened, routed, vacant, withAccesses}
 use Rattle.octets.proofs.Lists.{and-left, and-right, by-test, within-high, within-low}
-use Rattle.table.proofs.Bytes.{drop-past, length-head, length-place}
+use Rattle.table.proofs.Bytes.{length-head, length-place}
+use Rattle.octets.proofs.Pieces.{drop-past, take-past}
 
 abbrev pub putBlock : List ℕ → ℕ → List ℕ → List ℕ
 putBlock r k b = take (512 * k) r ++ (b ++ drop (512 * k + 512) r)
-
-pub take-past : (n m : ℕ) (a b : List ℕ) → length a ≡ n → take (n + m) (a ++ b) ≡ a ++ take m b
-take-past n m a b h = rw (← h) (take-append-add a b m)
 
 -- two states that agree on every place but k
 module _ (a c : List Access) (k : ℕ) (others : (j : ℕ) → (j ≡ k → ⊥) → placeBytes c j ≡ placeBytes a j) where

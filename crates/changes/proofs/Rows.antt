@@ -14,8 +14,8 @@ use Rattle.octets.specs.Texts.{filled, part, put, zeros}
 use Rattle.octets.proofs.Lists.{by-test, eqb-comm, keep-length, on-cons, on-none, within-high, within-low}
 use Rattle.octets.proofs.Texts.{back-put, length-filled, length-part, length-zeros}
 use Rattle.table.specs.Soundness.{sound}
-use Rattle.table.specs.TheTable.{Access, Entry, Subscriber, accessBytes, block, entriesBytes, entryBytes, fromBits, headBytes, held, line, orderLine, placeBytes, places, placesBytes, readRow, rowAt, rowBytes, sealed, sumsFrom, usedBits, withRow}
-use Rattle.table.proofs.Bytes.{block-place, drop-past, getD-past, length-access, length-entry, length-head, length-row, length-sealed}
+use Rattle.table.specs.TheTable.{Access, Entry, Subscriber, accessBytes, block, entriesBytes, entryBytes, fromBits, headBytes, held, line, orderLine, placeBytes, places, placesBytes, readRow, rowAt, rowBytes, rowLength, sealed, sumsFrom, usedBits, withRow}
+use Rattle.table.proofs.Bytes.{block-place, length-access, length-entry, length-head, length-row, length-sealed}
 use Rattle.table.proofs.Form.{every-on, line-read}
 use Rattle.table.proofs.Good.{at-most-eight}
 use Rattle.table.proofs.Rows.{lent-row}
@@ -24,10 +24,11 @@ use Rattle.changes.specs.Changes.{freed, hold, leave, lowestFree, newAcc
 use Rattle.changes.specs.Writes.{closedUp, entriesWith, headWith, lowestClear, openedBytes, policyWith}
 use Rattle.changes.proofs.Bits.{bits-bound, is-vacant, lowest-clear}
 use Rattle.changes.proofs.Blocks.{bits-with, bits-without, closed-filled, filled-more, filled-none, put-over, put-room, zeros-split, zeros-three}
-use Rattle.changes.proofs.Puts.{freed-puts, onPlace, opened-puts, putBlock, routed-puts, take-past}
+use Rattle.changes.proofs.Puts.{freed-puts, onPlace, opened-puts, putBlock, routed-puts}
 use Rattle.changes.proofs.Stays.{free-place, line-snoc}
 use Rattle.changes.proofs.Sums.{block-agrees}
 use Rattle.changes.proofs.Steps.{access-policy, free-byte, head-line, keep-map, room-entry, row-bits}
+use Rattle.octets.proofs.Pieces.{drop-past, getD-past, take-past}
 
 -- THE FIRST BYTES OF A ROW
 
@@ -72,7 +73,7 @@ row-rest : (s : Subscriber) → drop 512 (rowBytes s) ≡ placesBytes (s .access
 unfolding rowBytes
 row-rest s = drop-at (headBytes s) (placesBytes (s .accesses) places) 512 (length-head s)
 
-pub row-size : (r : List ℕ) → sound r ≡ true → length r ≡ 4608
+pub row-size : (r : List ℕ) → sound r ≡ true → length r ≡ rowLength
 row-size r h = (clauses r h) .size
 
 module _ (r : List ℕ) (h : sound r ≡ true) where
@@ -107,7 +108,7 @@ unfolding put
 put-block r k b h = rw h
 
 -- block 0 stays as it is where another is written
-pub head-stays : (r : List ℕ) (k : ℕ) (b : List ℕ) → 1 ≤ k → k ≤ 8 → length r ≡ 4608 → take 512 (put r (512 * k) b) ≡ take 512 r
+pub head-stays : (r : List ℕ) (k : ℕ) (b : List ℕ) → 1 ≤ k → k ≤ 8 → length r ≡ rowLength → take 512 (put r (512 * k) b) ≡ take 512 r
 unfolding put
 head-stays r k b lo hi h =
     let l : length (take (512 * k) r) ≡ 512 * k = length-take-le (512 * k) r (omega arith) in
@@ -425,13 +426,13 @@ new-rest =
     ∙ (λ i. 0 ∷ 0 ∷ 0 ∷ filled [] 8 ++ (zeros 4 ++ zeros-split 416 62 i))
     ∙ (λ i. sym none-used i ∷ 0 ∷ 0 ∷ filled [] 8 ++ (zeros 4 ++ (sym (filled-none 416) i ++ zeros 62)))
 
-new-zeros : zeros 4608 ≡ zeros 2 ++ (zeros 15 ++ (zeros 493 ++ (zeros 2 ++ zeros 4096)))
+new-zeros : zeros rowLength ≡ zeros 2 ++ (zeros 15 ++ (zeros 493 ++ (zeros 2 ++ zeros 4096)))
 new-zeros =
     zeros-split 2 4606
     ∙ ap (λ (t : List ℕ). zeros 2 ++ t) (zeros-split 15 4591
     ∙ ap (λ (t : List ℕ). zeros 15 ++ t) (zeros-split 493 4098 ∙ ap (λ (t : List ℕ). zeros 493 ++ t) (zeros-split 2 4096)))
 
-pub new-law : (name z : List ℕ) → length name ≤ 15 → z ≡ put (put (zeros 4608) 0 (1 ∷ length name ∷ [])) 2 name
+pub new-law : (name z : List ℕ) → length name ≤ 15 → z ≡ put (put (zeros rowLength) 0 (1 ∷ length name ∷ [])) 2 name
     → sealed (take 510 (take 512 z)) ++ drop 512 z ≡ rowBytes (named name)
 unfolding named rowBytes headBytes
 new-law name z l e =
@@ -462,9 +463,9 @@ new-law name z l e =
 -- A ROW OF A TABLE
 
 -- the table when the row has come back, the bytes of a subscriber
-pub back-row : (t : List ℕ) (i : ℕ) (b : List ℕ) (f : List ℕ → Subscriber) → b ≡ rowBytes (f (take (4608 * i + 4608 - 4608 * i) (drop (4608 * i) t)))
-    → take (4608 * i) t ++ (b ++ drop (4608 * i + 4608 - 4608 * i) (drop (4608 * i) t)) ≡ withRow t i (rowBytes (f (rowAt t i)))
+pub back-row : (t : List ℕ) (i : ℕ) (b : List ℕ) (f : List ℕ → Subscriber) → b ≡ rowBytes (f (take (rowLength * i + rowLength - rowLength * i) (drop (rowLength * i) t)))
+    → take (rowLength * i) t ++ (b ++ drop (rowLength * i + rowLength - rowLength * i) (drop (rowLength * i) t)) ≡ withRow t i (rowBytes (f (rowAt t i)))
 unfolding withRow
 back-row t i b f e =
     let s : Subscriber = f (rowAt t i) in
-    back-put t (4608 * i) (4608 * i + 4608) b (rowBytes s) (length-row s ∙ omega arith) (e ∙ ap (λ (r : List ℕ). rowBytes (f r)) (lent-row t (4608 * i) i refl))
+    back-put t (rowLength * i) (rowLength * i + rowLength) b (rowBytes s) (length-row s ∙ omega arith) (e ∙ ap (λ (r : List ℕ). rowBytes (f r)) (lent-row t (rowLength * i) i refl))

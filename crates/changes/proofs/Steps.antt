@@ -13,15 +13,15 @@ use Rattle.octets.specs.Choice.{pick}
 use Rattle.octets.specs.Lists.{keep}
 use Rattle.octets.specs.Texts.{filled, part, zeros}
 use Rattle.table.specs.Soundness.{onEntry, sound}
-use Rattle.table.specs.TheTable.{Access, Entry, Subscriber, accessBytes, block, entriesBytes, entryBytes, headBytes, held, line, orderLine, places, placesBytes, readAccess, readRow, rowBytes, sealed, sumsFrom, usedBits}
+use Rattle.table.specs.TheTable.{Access, Entry, Subscriber, accessBytes, block, entriesBytes, entryBytes, foundBy, headBytes, held, line, orderLine, places, placesBytes, readAccess, readRow, rowBytes, sealed, sumsFrom, usedBits}
 use Rattle.changes.proofs.Bits.{lowest-free, ones-accesses}
 use Rattle.changes.proofs.Stays.{some-vacant}
 use Rattle.changes.specs.Changes.{lowestFree, withAccesses}
 use Rattle.octets.proofs.Lists.{by-test}
 use Rattle.octets.proofs.Texts.{length-filled, length-zeros}
-use Rattle.table.proofs.Bytes.{drop-past, fill, getD-past, length-entries, length-entry, length-head}
-use Rattle.table.proofs.Form.{take-zeros}
+use Rattle.table.proofs.Bytes.{fill, length-entries, length-entry, length-head}
 use Rattle.table.proofs.Sound.{row-is, says-good}
+use Rattle.octets.proofs.Pieces.{drop-past, drop-zeros, getD-past, take-zeros}
 
 -- block 0 in its parts
 module _ (p q x c z : ℕ) (n l y t : List ℕ) (hn : length n ≡ 15) (hl : length l ≡ 8) where
@@ -43,9 +43,9 @@ module _ (p q x c z : ℕ) (n l y t : List ℕ) (hn : length n ≡ 15) (hl : len
       ∙ ap (take m) (drop-past 15 11 n (x ∷ c ∷ z ∷ l ++ (y ++ t)) hn ∙ drop-past 8 0 l (y ++ t) hl)
       ∙ take-at y t m hy
 
--- the first 17 bytes say whose it is
-pub row-name : (s : Subscriber) → take 17 (rowBytes s) ≡ 1 ∷ length (s .name) ∷ filled (s .name) 15
-unfolding rowBytes headBytes sealed
+-- what a row is found by says whose it is
+pub row-name : (s : Subscriber) → foundBy (rowBytes s) ≡ 1 ∷ length (s .name) ∷ filled (s .name) 15
+unfolding foundBy rowBytes headBytes sealed
 row-name s =
     take-append-le 17 (headBytes s) (placesBytes (s .accesses) places) (rw length-head (omega arith))
     ∙ front17 1 (length (s .name)) (usedBits (line (s .accesses))) (length (s .entries)) 0 (filled (s .name) 15) (filled (line (s .accesses)) 8)
@@ -127,12 +127,6 @@ entries-snoc : (es : List Entry) (e : Entry) → entriesBytes (es ++ (e ∷ []))
 unfolding entriesBytes
 entries-snoc [] e = append-nil (entryBytes e)
 entries-snoc (x ∷ es) e = rw (entries-snoc es e, append-assoc)
-
-pub drop-zeros : (i n : ℕ) → drop i (zeros n) ≡ zeros (n - i)
-unfolding zeros
-drop-zeros zero n = let q : n - 0 ≡ n = omega arith in rw q
-drop-zeros (suc i) zero = let q : 0 - suc i ≡ 0 = omega arith in rw q
-drop-zeros (suc i) (suc n) = let q : suc n - suc i ≡ n - i = omega arith in rw q (drop-zeros i n)
 
 pub room-entry : (es : List Entry) (e : Entry) → length es < 4
     → filled (entriesBytes (es ++ (e ∷ []))) 416

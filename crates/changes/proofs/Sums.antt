@@ -10,10 +10,11 @@ use Rattle.octets.specs.Lists.{sumOf}
 use Rattle.octets.specs.Texts.{part, put}
 use Rattle.octets.proofs.Texts.{length-put}
 use Rattle.table.specs.TheTable.{sealed, sums}
-use Rattle.table.proofs.Bytes.{getD-past, length-sealed}
+use Rattle.table.proofs.Bytes.{length-sealed}
 use Rattle.table.proofs.Columns.{sums-plain, weighted}
 use Rattle.changes.specs.Writes.{headWith}
 use Rattle.changes.proofs.Blocks.{line-put, line-set, put-first, sealed-by}
+use Rattle.octets.proofs.Pieces.{getD-past}
 
 -- the plain sums with one byte exchanged
 

@@ -5,7 +5,7 @@ ghost use Prim.Native.Nat.{_+_, _-_, _*_, _^_, _≤_, _<_};
 ghost use lib.ListN.{length, take, set};
 ghost use Rattle.octets.specs.Texts.{part};
 ghost use Rattle.octets.specs.Lists.{every, isOn};
-ghost use Rattle.table.specs.TheTable.{entryBytes, orderLine, readRow, rowAt, rowBytes, sealed, withRow};
+ghost use Rattle.table.specs.TheTable.{entryBytes, orderLine, readRow, rowAt, rowBytes, rowLength, sealed, withRow};
 ghost use Rattle.table.specs.Soundness.{sound};
 ghost use Rattle.changes.specs.Changes.{freed, lowestFree, named, opened, routed, withEntry};
 ghost use Rattle.changes.specs.Writes.{closedUp, entriesWith, headWith, lowestClear, openedBytes, policyWith};
@@ -214,7 +214,7 @@ pub fn append_entry(row: &mut [u8], label: &[u8], flags: u8, limit: u8)
 
 // A subscriber with that name and nothing else.
 pub fn new_row(row: &mut [u8], name: &[u8])
-    requires { ⌜ (length (now row) ≡ 4608) × (length (now name) ≤ 15) ⌝ }
+    requires { ⌜ (length (now row) ≡ rowLength) × (length (now name) ≤ 15) ⌝ }
     ensures { λ _. ⌜ now (row .exit) ≡ rowBytes (named (now (name .entry))) ⌝ }
 {
     octets::clear(row);
@@ -227,23 +227,23 @@ pub fn new_row(row: &mut [u8], name: &[u8])
 // THE SAME ON ROW i OF A TABLE: every other row stays as it is.
 
 pub fn free(table: &mut [u8], i: usize, k: usize)
-    requires { ⌜ (4608 * i + 4608 ≤ length (now table)) × (sound (rowAt (now table) i) ≡ true) × (isOn (orderLine (rowAt (now table) i)) k ≡ true) ⌝ }
+    requires { ⌜ (rowLength * i + rowLength ≤ length (now table)) × (sound (rowAt (now table) i) ≡ true) × (isOn (orderLine (rowAt (now table) i)) k ≡ true) ⌝ }
     ensures { λ _. ⌜ now (table .exit) ≡ withRow (now (table .entry)) i (rowBytes (freed k (readRow (rowAt (now (table .entry)) i)))) ⌝ }
 {
-    let a = 4608 * i;
-    let e = a + 4608;
+    let a = table::ROW_LENGTH * i;
+    let e = a + table::ROW_LENGTH;
     free_place(&mut table[a..e], k);
 }
 
 pub fn open(table: &mut [u8], i: usize, entry: u8, session: &[u8], host: &[u8]) -> usize
-    requires { ⌜ (4608 * i + 4608 ≤ length (now table)) × (sound (rowAt (now table) i) ≡ true) × (length ((readRow (rowAt (now table) i)) .accesses) < 8)
+    requires { ⌜ (rowLength * i + rowLength ≤ length (now table)) × (sound (rowAt (now table) i) ≡ true) × (length ((readRow (rowAt (now table) i)) .accesses) < 8)
         × (length (now session) ≤ 128) × (length (now host) ≤ 128) ⌝ }
     ensures { λ r. ⌜ (now (table .exit)
         ≡ withRow (now (table .entry)) i (rowBytes (opened entry (now (session .entry)) (now (host .entry)) (readRow (rowAt (now (table .entry)) i)))))
         × (r ≡ lowestFree ((readRow (rowAt (now (table .entry)) i)) .accesses)) ⌝ }
 {
-    let a = 4608 * i;
-    let e = a + 4608;
+    let a = table::ROW_LENGTH * i;
+    let e = a + table::ROW_LENGTH;
     open_place(&mut table[a..e], entry, session, host)
 }
 
@@ -255,23 +255,23 @@ pub fn cut_and_open(
     session: &[u8],
     host: &[u8],
 ) -> usize
-    requires { ⌜ (4608 * i + 4608 ≤ length (now table)) × (sound (rowAt (now table) i) ≡ true) × (isOn (orderLine (rowAt (now table) i)) k ≡ true)
+    requires { ⌜ (rowLength * i + rowLength ≤ length (now table)) × (sound (rowAt (now table) i) ≡ true) × (isOn (orderLine (rowAt (now table) i)) k ≡ true)
         × (length (now session) ≤ 128) × (length (now host) ≤ 128) ⌝ }
     ensures { λ r. ⌜ (now (table .exit)
         ≡ withRow (now (table .entry)) i (rowBytes (opened entry (now (session .entry)) (now (host .entry)) (freed k (readRow (rowAt (now (table .entry)) i))))))
         × (r ≡ lowestFree ((freed k (readRow (rowAt (now (table .entry)) i))) .accesses)) ⌝ }
 {
-    let a = 4608 * i;
-    let e = a + 4608;
+    let a = table::ROW_LENGTH * i;
+    let e = a + table::ROW_LENGTH;
     cut_and_open_place(&mut table[a..e], k, entry, session, host)
 }
 
 pub fn route(table: &mut [u8], i: usize, k: usize, policy: &[u8])
-    requires { ⌜ (4608 * i + 4608 ≤ length (now table)) × (sound (rowAt (now table) i) ≡ true) × (isOn (orderLine (rowAt (now table) i)) k ≡ true)
+    requires { ⌜ (rowLength * i + rowLength ≤ length (now table)) × (sound (rowAt (now table) i) ≡ true) × (isOn (orderLine (rowAt (now table) i)) k ≡ true)
         × (1 ≤ length (now policy)) × (length (now policy) ≤ 128) ⌝ }
     ensures { λ _. ⌜ now (table .exit) ≡ withRow (now (table .entry)) i (rowBytes (routed k (now (policy .entry)) (readRow (rowAt (now (table .entry)) i)))) ⌝ }
 {
-    let a = 4608 * i;
-    let e = a + 4608;
+    let a = table::ROW_LENGTH * i;
+    let e = a + table::ROW_LENGTH;
     replace_policy(&mut table[a..e], k, policy);
 }

@@ -6,17 +6,16 @@ use Prim.Native.Nat.{ℕ, _+_, _-_, _*_, _≤_, _<_}
 use native.Mathlib.Omega.{arith}
 use borrow.Author.Tests.{eqb-true, eq-eqb, ne-eqb, lt-leb, le-leb}
 use lib.Dec.{eqb, leb}
-use lib.ListN.{length, getD, take, drop}
+use lib.ListN.{length, getD}
 use Rattle.octets.specs.Choice.{pick, require, firstOf, within}
 use Rattle.octets.specs.Lists.{every, counted, distinct, sumOf}
 use Rattle.octets.specs.Texts.{part, same}
 use Rattle.octets.proofs.Lists.{and-right, by-test, every-map}
 use Rattle.octets.proofs.Choice.{first-passes, others-pass, passed}
-use Rattle.table.specs.TheTable.{Access, places, rowLength, block, orderLine, readAccess, readEntries, readRow, sums}
+use Rattle.table.specs.TheTable.{Access, places, rowLength, block, entriesRoom, lineRoom, orderLine, readAccess, readEntries, readRow}
 use Rattle.table.specs.Soundness.{hasForm, headForm, entriesForm, placeForm, sumsAgree, lineExact, sameLabel, labels, limits, sessions, underLimits, policyMarked, sound}
-use Rattle.table.proofs.Tests.{block-lent}
-use Rattle.soundness.proofs.Line.{head-byte, head-part, line-at}
-use Rattle.soundness.proofs.Accesses.{block-byte, count-is}
+use Rattle.row.proofs.Entries.{count-is}
+use Rattle.soundness.proofs.Line.{line-at}
 use Rattle.clauses.specs.Clauses.{brokenForm, brokenContents, brokenClause}
 
 -- WHAT IS TESTED
@@ -26,43 +25,35 @@ pub all-blocks : (f : ℕ → Bool) → every f (counted 0 (9 - 0)) ≡ every f 
 unfolding counted places
 all-blocks f = refl
 
-pub sums-lent : (r : List ℕ) (k : ℕ)
-    → same (part (take (512 * k + 512 - 512 * k) (drop (512 * k) r)) 510 2) (sums (take 510 (take (512 * k + 512 - 512 * k) (drop (512 * k) r)))) ≡ sumsAgree r k
-unfolding sumsAgree
-sums-lent r k = ap (λ (b : List ℕ). same (part b 510 2) (sums (take 510 b))) (block-lent r k)
-
 -- an access names an entry that exists, by its place
 pub namesEntry : List ℕ → ℕ → Bool
-namesEntry r k = within 1 (getD r 18 0) (getD (block r k) 1 0)
+namesEntry r k = within 1 (getD (block r 0) 18 0) ((readAccess k (block r k)) .entry)
 
 pub names-all : (r : List ℕ) → every (λ (x : Access). within 1 (length ((readRow r) .entries)) (x .entry)) ((readRow r) .accesses) ≡ every (namesEntry r) (orderLine r)
-unfolding readRow readAccess namesEntry
+unfolding readRow namesEntry
 names-all r = rw (every-map, count-is r)
 
--- along the line, by the bytes of the row
-module _ (r : List ℕ) (i k : ℕ) (size : length r ≡ 4608) (l : i < length (orderLine r)) (e : k ≡ getD r (20 + i) 0) where
+-- along the line
+module _ (r : List ℕ) (i k : ℕ) (l : i < length (orderLine r)) (e : k ≡ getD (lineRoom r) i 0) where
   place : getD (orderLine r) i 0 ≡ k
-  place = line-at r i size l ∙ sym e
+  place = line-at r i l ∙ sym e
 
-  pub names-at : namesEntry r (getD (orderLine r) i 0) ≡ within 1 (getD r 18 0) (getD r (512 * k + 1) 0)
+  pub names-at : namesEntry r (getD (orderLine r) i 0) ≡ within 1 (getD (block r 0) 18 0) ((readAccess k (block r k)) .entry)
   unfolding namesEntry
-  names-at = rw (place, block-byte r k 1 (omega arith))
+  names-at = rw place
 
-  pub marked-at : policyMarked r (getD (orderLine r) i 0) ≡ eqb (getD r (512 * k + 4) 0) (pick (leb 1 (getD r (512 * k + 5) 0)) 1 0)
+  pub marked-at : policyMarked r (getD (orderLine r) i 0) ≡ eqb (getD (block r k) 4 0) (pick (leb 1 (getD (block r k) 5 0)) 1 0)
   unfolding policyMarked
-  marked-at = rw (place, block-byte r k 4 (omega arith), block-byte r k 5 (omega arith))
+  marked-at = rw place
 
 -- the entries
-pub entries-are : (r : List ℕ) (n : ℕ) → n ≡ getD r 18 0 → entriesForm (getD (block r 0) 18 0) (part (block r 0) 32 416) ≡ entriesForm n (part r 32 416)
-entries-are r n e = rw (head-byte r 18 (omega arith), head-part r 32 416 (omega arith), e)
-
-pub entries-read : (r : List ℕ) (n : ℕ) → n ≡ getD r 18 0 → (readRow r) .entries ≡ readEntries n (part r 32 416)
+pub entries-read : (r : List ℕ) (n : ℕ) → n ≡ getD (block r 0) 18 0 → (readRow r) .entries ≡ readEntries n (entriesRoom r)
 unfolding readRow
-entries-read r n e = rw (head-byte r 18 (omega arith), head-part r 32 416 (omega arith), e)
+entries-read r n e = rw e
 
 -- THE FORM AND THE SUMS
 
-module _ (r : List ℕ) (size : length r ≡ 4608) where
+module _ (r : List ℕ) (size : length r ≡ rowLength) where
   pub breaks-1 : headForm (block r 0) ≡ false → 1 ≡ brokenForm r
   unfolding brokenForm firstOf require pick
   breaks-1 h = rw (eq-eqb (length r) rowLength size, h)
@@ -98,18 +89,24 @@ form-holds r z =
 
 -- THE CONTENTS
 
-module _ (r : List ℕ) (n : ℕ) (e : n ≡ getD r 18 0) where
-  pub labels-are : distinct sameLabel (labels ((readRow r) .entries)) ≡ distinct sameLabel (labels (readEntries n (part r 32 416)))
-  labels-are = ap (λ es. distinct sameLabel (labels es)) (entries-read r n e)
+module _ (r : List ℕ) (n : ℕ) (room : List ℕ) (same-n : n ≡ getD (block r 0) 18 0) (same-room : room ≡ entriesRoom r) where
+  read : (readRow r) .entries ≡ readEntries n room
+  read = entries-read r n same-n ∙ ap (readEntries n) (sym same-room)
 
-  limits-are : sumOf (limits ((readRow r) .entries)) ≡ sumOf (limits (readEntries n (part r 32 416)))
-  limits-are = ap (λ es. sumOf (limits es)) (entries-read r n e)
+  pub entries-form-said : entriesForm (getD (block r 0) 18 0) (entriesRoom r) ≡ true → entriesForm n room ≡ true
+  entries-form-said h = rw (same-n, same-room) h
 
-  pub limits-over : 8 < sumOf (limits (readEntries n (part r 32 416))) → leb (sumOf (limits ((readRow r) .entries))) 8 ≡ false
-  limits-over h = rw limits-are (lt-leb (sumOf (limits (readEntries n (part r 32 416)))) 8 h)
+  pub labels-are : distinct sameLabel (labels ((readRow r) .entries)) ≡ distinct sameLabel (labels (readEntries n room))
+  labels-are = ap (λ es. distinct sameLabel (labels es)) read
 
-  pub limits-fit : sumOf (limits (readEntries n (part r 32 416))) ≤ 8 → leb (sumOf (limits ((readRow r) .entries))) 8 ≡ true
-  limits-fit h = rw limits-are (le-leb (sumOf (limits (readEntries n (part r 32 416)))) 8 h)
+  limits-are : sumOf (limits ((readRow r) .entries)) ≡ sumOf (limits (readEntries n room))
+  limits-are = ap (λ es. sumOf (limits es)) read
+
+  pub limits-over : 8 < sumOf (limits (readEntries n room)) → leb (sumOf (limits ((readRow r) .entries))) 8 ≡ false
+  limits-over h = rw limits-are (lt-leb (sumOf (limits (readEntries n room))) 8 h)
+
+  pub limits-fit : sumOf (limits (readEntries n room)) ≤ 8 → leb (sumOf (limits ((readRow r) .entries))) 8 ≡ true
+  limits-fit h = rw limits-are (le-leb (sumOf (limits (readEntries n room))) 8 h)
 
 module _ (r : List ℕ) where
   pub breaks-5 : lineExact r ≡ false → 5 ≡ brokenContents r

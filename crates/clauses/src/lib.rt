@@ -6,7 +6,7 @@ ghost use Prim.Native.Nat.{_≤_};
 ghost use lib.ListN.{length};
 ghost use Rattle.octets.specs.Choice.{within};
 ghost use Rattle.octets.specs.Lists.{every};
-ghost use Rattle.table.specs.TheTable.{Access, places, orderLine, readRow};
+ghost use Rattle.table.specs.TheTable.{Access, places, orderLine, readRow, rowLength};
 ghost use Rattle.table.specs.Soundness.{placeForm, sumsAgree, lineExact, policyMarked};
 ghost use Rattle.clauses.specs.Clauses.{clauseNumber, brokenForm, brokenContents, brokenClause};
 
@@ -29,19 +29,18 @@ pub enum Clause {
 // THE FORM AND THE SUMS
 
 fn place_form(r: &[u8], k: usize) -> bool
-    requires { ⌜ (length (now r) ≡ 4608) × (1 ≤ k) × (k ≤ 8) ⌝ }
+    requires { ⌜ (length (now r) ≡ rowLength) × (1 ≤ k) × (k ≤ 8) ⌝ }
     ensures { λ x. ⌜ x ≡ placeForm (now (r .entry)) k ⌝ }
 {
-    let at = 512 * k;
-    let end = at + 512;
-    if soundness::in_use(r[17], k) {
-        return forms::access_form(&r[at..end]);
+    let block = row::place(r, k);
+    if soundness::in_use(row::used_bits(r), k) {
+        return forms::access_form(block);
     }
-    octets::all_zero(&r[at..end])
+    octets::all_zero(block)
 }
 
 fn places_form(r: &[u8]) -> bool
-    requires { ⌜ length (now r) ≡ 4608 ⌝ }
+    requires { ⌜ length (now r) ≡ rowLength ⌝ }
     ensures { λ x. ⌜ x ≡ every (placeForm (now (r .entry))) places ⌝ }
 {
     let mut k: usize = 1;
@@ -55,14 +54,12 @@ fn places_form(r: &[u8]) -> bool
 }
 
 fn sums_agree(r: &[u8]) -> bool
-    requires { ⌜ length (now r) ≡ 4608 ⌝ }
+    requires { ⌜ length (now r) ≡ rowLength ⌝ }
     ensures { λ x. ⌜ x ≡ every (sumsAgree (now (r .entry))) (0 ∷ places) ⌝ }
 {
     let mut k: usize = 0;
     while k < 9 {
-        let at = 512 * k;
-        let end = at + 512;
-        if !forms::block_sums_agree(&r[at..end]) {
+        if !forms::block_sums_agree(row::place(r, k)) {
             return false;
         }
         k += 1;
@@ -71,13 +68,13 @@ fn sums_agree(r: &[u8]) -> bool
 }
 
 fn broken_form(r: &[u8]) -> Clause
-    requires { ⌜ length (now r) ≡ 4608 ⌝ }
+    requires { ⌜ length (now r) ≡ rowLength ⌝ }
     ensures { λ x. ⌜ clauseNumber x ≡ brokenForm (now (r .entry)) ⌝ }
 {
-    if !forms::head_form(&r[0..512]) {
+    if !forms::head_form(row::head(r)) {
         return Clause::HeadForm;
     }
-    if !forms::entries_form(&r[32..448], octets::long(r[18])) {
+    if !forms::entries_form(row::entries_room(r), octets::long(row::entry_count(r))) {
         return Clause::EntryForm;
     }
     if !places_form(r) {
@@ -93,14 +90,15 @@ fn broken_form(r: &[u8]) -> Clause
 
 // Each access names an entry that exists.
 fn entries_exist(r: &[u8]) -> bool
-    requires { ⌜ (length (now r) ≡ 4608) × (lineExact (now r) ≡ true) ⌝ }
+    requires { ⌜ (length (now r) ≡ rowLength) × (lineExact (now r) ≡ true) ⌝ }
     ensures { λ x. ⌜ x ≡ every (λ (x : Access). within 1 (length ((readRow (now (r .entry))) .entries)) (x .entry)) ((readRow (now (r .entry))) .accesses) ⌝ }
 {
     let n = soundness::accesses_in_use(r);
+    let most = row::entry_count(r);
     let mut i: usize = 0;
     while i < n {
-        let k = octets::long(r[20 + i]);
-        if !forms::is_within(1, r[18], r[512 * k + 1]) {
+        let on = row::entry_of(r, row::line_place(r, i));
+        if !forms::is_within(1, most, on) {
             return false;
         }
         i += 1;
@@ -110,14 +108,14 @@ fn entries_exist(r: &[u8]) -> bool
 
 // Byte 5 of each access is 1 or more exactly if its byte 4 is 1.
 fn policies_marked(r: &[u8]) -> bool
-    requires { ⌜ (length (now r) ≡ 4608) × (lineExact (now r) ≡ true) ⌝ }
+    requires { ⌜ (length (now r) ≡ rowLength) × (lineExact (now r) ≡ true) ⌝ }
     ensures { λ x. ⌜ x ≡ every (policyMarked (now (r .entry))) (orderLine (now (r .entry))) ⌝ }
 {
     let n = soundness::accesses_in_use(r);
     let mut i: usize = 0;
     while i < n {
-        let k = octets::long(r[20 + i]);
-        if !forms::policy_marked(r[512 * k + 4], r[512 * k + 5]) {
+        let block = row::place(r, row::line_place(r, i));
+        if !forms::policy_marked(block[4], block[5]) {
             return false;
         }
         i += 1;
@@ -126,17 +124,18 @@ fn policies_marked(r: &[u8]) -> bool
 }
 
 fn broken_contents(r: &[u8]) -> Clause
-    requires { ⌜ (length (now r) ≡ 4608) × (brokenForm (now r) ≡ 0) ⌝ }
+    requires { ⌜ (length (now r) ≡ rowLength) × (brokenForm (now r) ≡ 0) ⌝ }
     ensures { λ x. ⌜ clauseNumber x ≡ brokenContents (now (r .entry)) ⌝ }
 {
     if !soundness::line_exact(r) {
         return Clause::Line;
     }
-    let n = octets::long(r[18]);
-    if !forms::labels_differ(&r[32..448], n) {
+    let n = octets::long(row::entry_count(r));
+    let entries = row::entries_room(r);
+    if !forms::labels_differ(entries, n) {
         return Clause::Labels;
     }
-    if 8 < forms::limits_sum(&r[32..448], n) {
+    if 8 < forms::limits_sum(entries, n) {
         return Clause::Limits;
     }
     if !soundness::sessions_differ(r) {
@@ -157,7 +156,7 @@ fn broken_contents(r: &[u8]) -> Clause
 // A ROW
 
 pub fn broken(r: &[u8]) -> Clause
-    requires { ⌜ length (now r) ≡ 4608 ⌝ }
+    requires { ⌜ length (now r) ≡ rowLength ⌝ }
     ensures { λ x. ⌜ clauseNumber x ≡ brokenClause (now (r .entry)) ⌝ }
 {
     let c = broken_form(r);

@@ -9,15 +9,15 @@ use native.Mathlib.Omega.{arith}
 use borrow.Author.Tests.{eqb-true, leb-true, leb-false}
 use lib.Dec.{eqb, leb}
 use lib.ListN.{length, take, drop, getD, length-take, drop-of-length-le, List·getD-eq-default}
-use lib.Seq.{drop-cons, drop-drop, getD-take, getD-drop}
+use lib.Seq.{drop-cons}
 use Rattle.octets.specs.Choice.{pick, within}
 use Rattle.octets.specs.Lists.{every, keep, firstOr, upTo0, isOn}
-use Rattle.octets.specs.Texts.{part, zeros, allZero}
+use Rattle.octets.specs.Texts.{allZero}
 use Rattle.octets.proofs.Lists.{by-test, and-left, and-right, within-low, on-first}
 use Rattle.octets.proofs.Texts.{zero-cons}
-use Rattle.table.specs.TheTable.{rowLength, orderLine, block}
+use Rattle.table.specs.TheTable.{block, lineRoom, orderLine, rowLength}
 use Rattle.table.specs.Soundness.{sound, zeroBehind}
-use Rattle.table.proofs.Form.{up-to-length, part-take}
+use Rattle.table.proofs.Form.{up-to-length}
 use Rattle.table.proofs.Sound.{clauses, head-of, on-more}
 
 -- THE LINE
@@ -30,7 +30,7 @@ all-in r h = (clauses r h) .line-in
 
 pub short : (r : List ℕ) → length (orderLine r) ≤ 8
 unfolding orderLine
-short r = omega (arith, up-to-length (part (block r 0) 20 8), length-take 8 (drop 20 (block r 0)))
+short r = omega (arith, up-to-length (lineRoom r), length-take 8 (drop 20 (block r 0)))
 
 zero-at : (l : List ℕ) (i : ℕ) → allZero l ≡ true → getD l i 0 ≡ 0
 zero-at [] i z = refl
@@ -44,25 +44,10 @@ up-to-at [] i z = refl
 up-to-at (x ∷ l) zero z = by-test (eqb x 0) (λ e. rw e (sym (eqb-true x 0 e))) (λ e. rw e)
 up-to-at (x ∷ l) (suc i) z = by-test (eqb x 0) (λ e. rw e (sym (zero-at (x ∷ l) (suc i) (rw e at z)))) (λ e. rw e (up-to-at l i (rw e at z)))
 
--- the i-th byte of the line's eight
-pub line-byte : (r : List ℕ) (i : ℕ) → sound r ≡ true → i < 8 → getD (orderLine r) i 0 ≡ getD r (20 + i) 0
+-- in a sound row the i-th byte of the line's room is the i-th place, or 0
+pub line-byte : (r : List ℕ) (i : ℕ) → sound r ≡ true → getD (orderLine r) i 0 ≡ getD (lineRoom r) i 0
 unfolding orderLine
-line-byte r i h lt =
-    up-to-at (part (block r 0) 20 8) i (head-of (block r 0) ((clauses r h) .head) .0 .line-end)
-    ∙ getD-take 8 (drop 20 (block r 0)) i 0 lt ∙ getD-drop 20 (block r 0) i 0 ∙ getD-take 512 r (20 + i) 0 (omega arith)
-
--- BYTES AND TEXTS OF A PLACE
-
-pub byte-of : (r : List ℕ) (k i : ℕ) → i < 512 → getD (block r k) i 0 ≡ getD r (k * 512 + i) 0
-byte-of r k i h =
-    getD-take 512 (drop (512 * k) r) i 0 h ∙ getD-drop (512 * k) r i 0 ∙ ap (λ (j : ℕ). getD r j 0) (omega arith)
-
--- the part of the row that is lent is the part of the block
-pub text-of : (r : List ℕ) (k i m n : ℕ) → m ≡ n → i + n ≤ 512 → part r (k * 512 + i) (k * 512 + i + m - (k * 512 + i)) ≡ part (block r k) i n
-text-of r k i m n e h =
-    let q : k * 512 + i + m - (k * 512 + i) ≡ n = omega arith in
-    let p : k * 512 + i ≡ 512 * k + i = omega arith in
-    rw (q, p) (sym (part-take 512 i n (drop (512 * k) r) h ∙ ap (take n) (drop-drop i (512 * k) r)))
+line-byte r i h = up-to-at (lineRoom r) i (head-of (block r 0) ((clauses r h) .head) .0 .line-end)
 
 -- SEARCHING A LIST OF PLACES
 

@@ -11,7 +11,7 @@ use Rattle.octets.specs.Choice.{pick, within}
 use Rattle.octets.specs.Lists.{every, firstOr, isOn}
 use Rattle.table.specs.Soundness.{onEntry, sound}
 use Rattle.table.specs.TheTable.{Access, Subscriber, barred, line, mayRoam, orderLine, readRow}
-use Rattle.deciding.proofs.Entries.{most-four}
+use Rattle.row.proofs.Entries.{most-four}
 use Rattle.deciding.proofs.Found.{bothAre, ended-is, entryIs, first-is, on-places, session-is, sessionIs}
 use Rattle.deciding.proofs.Search.{hunt-on}
 use Rattle.deciding.proofs.Stay.{limit-is, limit-some, room-left}

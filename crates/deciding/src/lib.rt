@@ -1,6 +1,6 @@
 // Deciding on a sound row: which refusal, or which change.
+mod finding;
 mod planning;
-mod row;
 
 pub use planning::plan_policy;
 pub use planning::plan_termination;

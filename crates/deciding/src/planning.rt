@@ -1,6 +1,6 @@
 // Deciding: the tests of each request, in order, on a sound row.
 use super::Plan;
-use super::row;
+use super::finding;
 ghost use mathlib.Core.Path.{_≡_};
 ghost use mathlib.Core.Bool.{true, _&&_, not};
 ghost use mathlib.Core.List.{List};
@@ -23,10 +23,10 @@ fn plan_opening(row: &[u8], n: usize) -> Plan
         × ((route : List ℕ) → fitPlan route r (now (row .entry)) ≡ true)
         ⌝ }
 {
-    if soundness::accesses_on(row, n) < octets::long(row::limit_of(row, n)) {
+    if soundness::accesses_on(row, n) < octets::long(finding::limit_of(row, n)) {
         return Plan::Open(n, 0);
     }
-    Plan::Open(n, row::first_on(row, n))
+    Plan::Open(n, finding::first_on(row, n))
 }
 
 // A visited network is named, and the entry may not roam.
@@ -50,11 +50,11 @@ pub fn plan_tunnel(row: &[u8], session: &[u8], label: &[u8], visited: bool) -> P
         × ((route : List ℕ) → fitPlan route r (now (row .entry)) ≡ true)
         ⌝ }
 {
-    let n = row::entry_named(row, label);
+    let n = finding::entry_named(row, label);
     if n == 0 {
         return Plan::NotSubscribed;
     }
-    let flags = row::flags_of(row, n);
+    let flags = finding::flags_of(row, n);
     let roams = roams_unasked(flags, visited);
     if flags % 2 == 1 {
         return Plan::Barred;
@@ -62,7 +62,7 @@ pub fn plan_tunnel(row: &[u8], session: &[u8], label: &[u8], visited: bool) -> P
     if roams {
         return Plan::RoamingNotAllowed;
     }
-    if row::place_of(row, session) != 0 {
+    if finding::place_of(row, session) != 0 {
         return Plan::UnableToComply;
     }
     plan_opening(row, n)
@@ -79,7 +79,7 @@ pub fn plan_policy(row: &[u8], session: &[u8], wag: bool) -> Plan
         × ((route : List ℕ) → within 1 128 (length route) ≡ true → fitPlan route r (now (row .entry)) ≡ true)
         ⌝ }
 {
-    let k = row::place_of(row, session);
+    let k = finding::place_of(row, session);
     if k == 0 {
         return Plan::UnableToComply;
     }
@@ -100,8 +100,8 @@ pub fn plan_termination(row: &[u8], session: &[u8], label: &[u8]) -> Plan
         × ((route : List ℕ) → fitPlan route r (now (row .entry)) ≡ true)
         ⌝ }
 {
-    let n = row::entry_named(row, label);
-    let k = row::place_on(row, n, session);
+    let n = finding::entry_named(row, label);
+    let k = finding::place_on(row, n, session);
     if k == 0 {
         return Plan::UnusedByUser;
     }

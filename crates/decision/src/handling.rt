@@ -19,7 +19,7 @@ ghost use Rattle.message.specs.Kinds.{codeFrom};
 ghost use Rattle.message.specs.Spans.{asks, bytesOf, isInside, says, spans, spansIn};
 ghost use Rattle.rules.specs.Calls.{callNumber, handle, onReading, onRow, refusal, settled};
 ghost use Rattle.message.specs.ReadingAMessage.{read, request};
-ghost use Rattle.table.specs.TheTable.{lookup, readRow, rowAt, tableNumber};
+ghost use Rattle.table.specs.TheTable.{lookup, readRow, rowAt, rowLength, tableNumber};
 ghost use Rattle.table.specs.Soundness.{sound};
 ghost use Rattle.rules.specs.Deciding.{decide};
 ghost use Rattle.deciding.specs.Plans.{planned, fitPlan, fitting};
@@ -201,15 +201,15 @@ fn settle(
     asked: Asked,
     notice: &mut [u8],
 ) -> Decided
-    requires { ⌜ (256 ≤ length (now notice)) × (4608 * i + 4608 ≤ length (now table)) × (sound (rowAt (now table) i) ≡ true)
+    requires { ⌜ (256 ≤ length (now notice)) × (rowLength * i + rowLength ≤ length (now table)) × (sound (rowAt (now table) i) ≡ true)
         × (every (isInside (now m)) (spansIn asked) ≡ true) × (isInside (now m) user ≡ true)
         × (read (now m) ≡ request (record { user = bytesOf (now m) user; ask = asks (now m) asked })) ⌝ }
     ensures { λ r. ⌜ Named (now (m .entry)) r × ((host realm room : List ℕ) → answeredBy r (now (m .entry)) host realm room (now (table .exit)) (now (notice .exit))
         ≡ settled (now (table .entry)) (callOf (now (m .entry)) host realm room (now (notice .entry)) wag) i
         (decide (asks (now (m .entry)) asked) wag (readRow (rowAt (now (table .entry)) i)))) ⌝ }
 {
-    let a = 4608 * i;
-    let e = a + 4608;
+    let a = table::ROW_LENGTH * i;
+    let e = a + table::ROW_LENGTH;
     let plan = plan_for(&table[a..e], m, asked, wag);
     let session = text(m, session_span(asked));
     let gateway = text(m, host_span(asked));
@@ -248,8 +248,8 @@ fn on_request(
     let RowFound::At(i) = found else {
         return refused(Kind::Experimental, 5001);
     };
-    let a = 4608 * i;
-    let e = a + 4608;
+    let a = table::ROW_LENGTH * i;
+    let e = a + table::ROW_LENGTH;
     if !soundness::row_sound(&table[a..e]) {
         return refused(Kind::Plain, 5012);
     }

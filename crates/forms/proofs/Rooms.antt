@@ -10,7 +10,7 @@ use lib.Seq.{drop-drop, take-add}
 use Rattle.octets.specs.Texts.{allZero, part}
 use Rattle.octets.proofs.Texts.{zero-cons}
 use Rattle.table.specs.Soundness.{zeroBehind}
-use Rattle.table.proofs.Form.{drop-take}
+use Rattle.octets.proofs.Pieces.{drop-take}
 
 zero-append : (s t : List ℕ) → allZero (s ++ t) ≡ allZero s && allZero t
 unfolding allZero Rattle.octets.specs.Texts.same Rattle.octets.specs.Texts.zeros

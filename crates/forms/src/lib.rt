@@ -168,7 +168,7 @@ pub fn limits_sum(room: &[u8], n: usize) -> u32
     let mut sum: u32 = 0;
     let mut i: usize = 0;
     while i < n {
-        sum += octets::wide(room[104 * i + 102]);
+        sum += octets::wide(row::limit(room, i));
         i += 1;
     }
     sum
@@ -221,13 +221,11 @@ fn label_once(room: &[u8], n: usize, i: usize) -> bool
     requires { ⌜ (length (now room) ≡ 416) × (n ≤ 4) × (i < n) × (entriesForm n (now room) ≡ true) ⌝ }
     ensures { λ r. ⌜ r ≡ every (λ y. not (sameLabel (getD (labels (readEntries n (now (room .entry)))) i []) y)) (drop (i + 1) (labels (readEntries n (now (room .entry))))) ⌝ }
 {
-    let at = 104 * i + 1;
-    let end = at + octets::long(room[104 * i]);
+    let this = row::label(room, i);
     let mut j: usize = i + 1;
     while j < n {
-        let from = 104 * j + 1;
-        let to = from + octets::long(room[104 * j]);
-        if same_label(&room[at..end], &room[from..to]) {
+        let other = row::label(room, j);
+        if same_label(this, other) {
             return false;
         }
         j += 1;

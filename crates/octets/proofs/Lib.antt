@@ -2,3 +2,4 @@ pub mod Lists
 pub mod Choice
 pub mod Texts
 pub mod Words
+pub mod Pieces

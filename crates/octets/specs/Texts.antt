@@ -1,7 +1,7 @@
 -- Texts: lists of bytes, compared byte by byte; their parts; rooms filled up with zeros.
 use mathlib.Core.Bool.{Bool, true, false, _&&_}
 use mathlib.Core.List.{List, [], _∷_, _++_}
-use Prim.Native.Nat.{ℕ, _+_}
+use Prim.Native.Nat.{ℕ, zero, suc, _+_}
 use lib.Dec.{eqb}
 use lib.ListN.{length, take, drop, replicate}
 
@@ -31,3 +31,8 @@ allZero s = same s (zeros (length s))
 -- A room after bytes were written into it from byte a on: those before and behind stay.
 unfoldable pub put : List ℕ → ℕ → List ℕ → List ℕ
 put room a s = take a room ++ (s ++ drop (a + length s) room)
+
+-- The first n pieces of w bytes each, one behind another.
+unfoldable pub pieces : (w n : ℕ) → List ℕ → List (List ℕ)
+pieces w zero s = []
+pieces w (suc n) s = take w s ∷ pieces w n (drop w s)

@@ -11,8 +11,9 @@ use Rattle.octets.specs.Choice.{pick, firstOf}
 use Rattle.octets.specs.Lists.{keep}
 use Rattle.octets.proofs.Choice.{first-passes, others-pass}
 use Rattle.octets.proofs.Lists.{by-test}
+use Rattle.octets.specs.Texts.{pieces}
 use Rattle.message.specs.ReadingAMessage.{read, readingCode, listCode, command, avps, userName, valueOf, requestOf}
-use Rattle.table.specs.TheTable.{cutInRows, rowLength, tableNumber}
+use Rattle.table.specs.TheTable.{rowLength, tableNumber}
 use Rattle.rules.specs.Calls.{Call, Reply, run}
 use Rattle.order.specs.Demand3.{Subject, nobody, subscriber, sameSubject, subject, sentBy, isOf, callsOf, recordOf, ownNumber, Counting, nameRead, sender, isBy, callsBy, repliesBy, brought, told, SameBrought, SameBroughtBy}
 use Rattle.order.specs.Demand3.{SubjectCounts, SenderCounts, NoSender, RepliesAloneBy, RecordAloneBy, SameTableBy, SameRepliesBy, SameRecordBy}
@@ -74,7 +75,7 @@ module _ (owner : Call → Subject) (counts : Counting owner) (name : List ℕ) 
   good-replies : (t : List ℕ) → tableNumber t ≡ 0 → (cs : List Call) → repliesBy owner who cs ((run t cs) .replies) ≡ (run t (callsBy owner who cs)) .replies
   good-replies t good cs =
       rw ((ran t good cs) .replies-are, (ran t good (callsBy owner who cs)) .replies-are)
-      (A.same-answers-by act says lost stable who owner all others cs (cutInRows (length t / rowLength) t) (cutInRows (length t / rowLength) t) refl)
+      (A.same-answers-by act says lost stable who owner all others cs (pieces rowLength (length t / rowLength) t) (pieces rowLength (length t / rowLength) t) refl)
 
 pub replies-alone-by : RepliesAloneBy
 replies-alone-by owner counts t cs name =

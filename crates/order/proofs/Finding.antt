@@ -1,4 +1,4 @@
--- Whose a row is: its first 17 bytes say so, and no row is found by two names.
+-- Whose a row is: no row is found by two names, and a row whose `foundBy` stays is found as before.
 use mathlib.Core.Path.{_≡_, refl, sym, ap, _∙_}
 use mathlib.Core.Bool.{Bool, true, false}
 use mathlib.Core.List.{List}
@@ -11,8 +11,8 @@ use lib.Seq.{getD-take}
 use Rattle.octets.specs.Choice.{within}
 use Rattle.octets.specs.Texts.{part}
 use Rattle.octets.proofs.Lists.{and-left, and-right, by-test, same-eq, same-refl, within-high}
-use Rattle.table.specs.TheTable.{row, isRowOf}
-use Rattle.table.proofs.Form.{part-take}
+use Rattle.table.specs.TheTable.{foundBy, isRowOf, row}
+use Rattle.table.proofs.Rows.{found-by}
 use Rattle.order.specs.Demand3.{Subject, nobody, subscriber, sameSubject}
 
 -- SUBJECTS
@@ -50,30 +50,11 @@ finds-owner (subscriber n) r e =
     let s : part r 2 (length n) ≡ n = same-eq (part r 2 (length n)) n (and-right (eqb (getD r 1 0) (length n)) _ e2) in
     ap subscriber (sym s ∙ ap (λ (i : ℕ). part r 2 i) (sym l))
 
--- a name of over 15 bytes finds no row
-long-name : (n r : List ℕ) → leb (length n) 15 ≡ false → isRowOf n r ≡ false
-unfolding isRowOf
-long-name n r h =
-    by-test (isRowOf n r)
-    (λ e. let e1 = and-right (eqb (getD r 0 0) 1) _ e in
-    let e2 = and-right (within 1 15 (getD r 1 0)) _ e1 in
-    let l : getD r 1 0 ≡ length n = eqb-true (getD r 1 0) (length n) (and-left (eqb (getD r 1 0) (length n)) _ e2) in
-    let w : getD r 1 0 ≤ 15 = within-high 1 15 (getD r 1 0) (and-left (within 1 15 (getD r 1 0)) _ e1) in
-    absurd (omega (arith, leb-false (length n) 15 h)))
-    (λ e. e)
-
-pub front : (n r : List ℕ) → isRowOf n (take 17 r) ≡ isRowOf n r
-unfolding isRowOf
-front n r =
-    by-test (leb (length n) 15)
-    (λ h. let le : length n ≤ 15 = leb-true (length n) 15 h in
-    rw (getD-take 17 r 0 0 (omega arith), getD-take 17 r 1 0 (omega arith), part-take 17 2 (length n) r (omega arith)))
-    (λ h. long-name n (take 17 r) h ∙ sym (long-name n r h))
-
-pub finds-front : (k : Subject) (q r : List ℕ) → take 17 q ≡ take 17 r → finds k q ≡ finds k r
+-- the lookup tells rows apart by `foundBy` alone
+pub finds-alike : (k : Subject) (q r : List ℕ) → foundBy q ≡ foundBy r → finds k q ≡ finds k r
 unfolding finds
-finds-front nobody q r e = refl
-finds-front (subscriber n) q r e = sym (front n q) ∙ ap (isRowOf n) e ∙ front n r
+finds-alike nobody q r e = refl
+finds-alike (subscriber n) q r e = sym (found-by n q) ∙ ap (isRowOf n) e ∙ found-by n r
 
 pub same-row : (i j : ℕ) → row i ≡ row j → i ≡ j
 same-row i j e = cc

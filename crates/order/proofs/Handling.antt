@@ -6,15 +6,16 @@ use Prim.Native.Nat.{ℕ, suc, _*_, _/_, _<_, zero-le, suc-le-suc}
 use lib.Dec.{eqb}
 use lib.ListN.{length, getD, take, set}
 use Rattle.octets.specs.Choice.{pick, firstOf}
-use Rattle.octets.specs.Texts.{filled}
+use Rattle.octets.specs.Texts.{filled, pieces}
 use Rattle.octets.proofs.Choice.{by-pick}
 use Rattle.octets.proofs.Lists.{by-test}
+use Rattle.octets.proofs.Pieces.{length-pieces}
 use Rattle.message.specs.Codes.{plain, userUnknown, numberOf}
 use Rattle.message.specs.ReadingAMessage.{Ask, tunnel, policy, termination, Request, Reading, refused, request, read}
-use Rattle.table.specs.TheTable.{Subscriber, Found, row, nothing, later, firstRow, lookup, rows, cutInRows, rowAt, withRow, rowLength, tableNumber, readRow, rowBytes, isRowOf}
+use Rattle.table.specs.TheTable.{Subscriber, Found, foundBy, row, nothing, later, firstRow, lookup, rows, rowAt, withRow, rowLength, tableNumber, readRow, rowBytes, isRowOf}
 use Rattle.table.specs.Soundness.{sound}
 use Rattle.table.proofs.Bytes.{length-row}
-use Rattle.table.proofs.Rows.{whole-rows}
+use Rattle.table.proofs.Rows.{length-rowAt, length-withRow, nth-row, row-same, rows-with, whole-rows}
 use Rattle.table.proofs.Sound.{row-is}
 use Rattle.changes.specs.Changes.{freed, opened, routed}
 use Rattle.changes.proofs.Rows.{row-size}
@@ -22,8 +23,7 @@ use Rattle.changes.proofs.Steps.{row-name}
 use Rattle.rules.specs.Deciding.{Verdict, decide, type0, type1, terminate, admit, openOn, refuse, grant, heldAlready}
 use Rattle.rules.specs.Calls.{Call, Reply, Left, callNumber, silent, reply, refusal, settled, onRow, onReading, handle}
 use Rattle.order.specs.Demand3.{Subject, nobody, subscriber, subject, sentBy, ownNumber}
-use Rattle.order.proofs.Finding.{finds, finds-front}
-use Rattle.order.proofs.Tables.{cut-at, cut-with, length-cut, length-rowAt, length-with, with-same}
+use Rattle.order.proofs.Finding.{finds, finds-alike}
 use Rattle.order.proofs.Alone as A
 
 -- WHAT IS DECIDED KEEPS THE NAME
@@ -97,21 +97,21 @@ says c r = pick (eqb (ownNumber c) 0) (sayOn c (read (c .message)) r) (silence c
 unfoldable pub lost : Call → Reply
 lost c = pick (eqb (ownNumber c) 0) (lostOn c (read (c .message))) (silence c (ownNumber c))
 
--- WHAT STAYS OF A ROW: its length and its first 17 bytes
+-- WHAT STAYS OF A ROW: its length, and what it is found by
 
 record Kept (r q : List ℕ) : Type 0 where
   size : length q ≡ length r
-  front : take 17 q ≡ take 17 r
+  bearer : foundBy q ≡ foundBy r
 
 self : (r : List ℕ) → Kept r r
-self r = record { size = refl; front = refl }
+self r = record { size = refl; bearer = refl }
 
 written : (r : List ℕ) (s : Subscriber) → sound r ≡ true → s .name ≡ (readRow r) .name → Kept r (rowBytes s)
 written r s h n =
     record {
       size = length-row s ∙ sym (row-size r h);
-      front =
-          row-name s ∙ ap (λ (i : List ℕ). 1 ∷ length i ∷ filled i 15) n ∙ sym (row-name (readRow r)) ∙ ap (take 17) (sym (row-is r h));
+      bearer =
+          row-name s ∙ ap (λ (i : List ℕ). 1 ∷ length i ∷ filled i 15) n ∙ sym (row-name (readRow r)) ∙ ap foundBy (sym (row-is r h));
     }
 
 kept-after : (c : Call) (q : Request) (r : List ℕ) → Kept r (rowAfter c q r)
@@ -135,7 +135,7 @@ length-after c q r = (kept-after c q r) .size
 
 -- no change to a row changes by whom it is found
 pub stable : (k : Subject) (c : Call) (r : List ℕ) → finds k (act c r) ≡ finds k r
-stable k c r = finds-front k (act c r) r ((kept c r) .front)
+stable k c r = finds-alike k (act c r) r ((kept c r) .bearer)
 
 -- THE NUMBER OF A CALL
 
@@ -259,8 +259,8 @@ lost-silent c own = rw own
 
 pub record Agrees (n : ℕ) (t : List ℕ) (c : Call) (l : Left) : Type 0 where
   pub size : length (l .table) ≡ length t
-  pub rows-are : cutInRows n (l .table) ≡ tab (cutInRows n t) c
-  pub reply-is : l .reply ≡ ans (cutInRows n t) c
+  pub rows-are : pieces rowLength n (l .table) ≡ tab (pieces rowLength n t) c
+  pub reply-is : l .reply ≡ ans (pieces rowLength n t) c
 
 -- a call of nobody
 module _ (n : ℕ) (t : List ℕ) (c : Call) (of : subject c ≡ nobody) where
@@ -268,8 +268,8 @@ module _ (n : ℕ) (t : List ℕ) (c : Call) (of : subject c ≡ nobody) where
   unmoved l e f =
       record {
         size = ap length e;
-        rows-are = ap (cutInRows n) e ∙ sym (tab-nobody c (cutInRows n t) of);
-        reply-is = f ∙ sym (ans-nobody c (cutInRows n t) of);
+        rows-are = ap (pieces rowLength n) e ∙ sym (tab-nobody c (pieces rowLength n t) of);
+        reply-is = f ∙ sym (ans-nobody c (pieces rowLength n t) of);
       }
 
 -- a call of a subscriber, whose row is replaced by what it says then
@@ -292,36 +292,36 @@ module _ (n : ℕ) (t : List ℕ) (size : length t ≡ rowLength * n) (c : Call)
       by-test (sound (rowAt t i))
       (λ h. by-test (eqb (numberOf ((decide (q .ask) (c .wag) (readRow (rowAt t i))) .code)) 2001)
       (λ e. rw (h, e))
-      (λ e. rw (h, e) (sym (with-same n t size i l))))
-      (λ h. rw h (sym (with-same n t size i l)))
+      (λ e. rw (h, e) (sym (row-same n t size i l))))
+      (λ h. rw h (sym (row-same n t size i l)))
 
   row-reply : (i : ℕ) → (onRow t c q (row i)) .reply ≡ replyOn c q (rowAt t i)
   unfolding onRow settled refusal replyOn pick
   row-reply i = by-test (sound (rowAt t i)) (λ h. rw h) (λ h. rw h)
 
-  on-found : (F : Found) → F ≡ firstRow (isRowOf (q .user)) (cutInRows n t) → There F n → Agrees n t c (onRow t c q F)
+  on-found : (F : Found) → F ≡ firstRow (isRowOf (q .user)) (pieces rowLength n t) → There F n → Agrees n t c (onRow t c q F)
   unfolding There onRow refusal replaced chosen
   on-found nothing e l =
       let of : subject c ≡ subscriber (q .user) = was-read c q own g in
       record {
         size = refl;
-        rows-are = sym (tab-found c (q .user) of (cutInRows n t) ∙ ap (λ (G : Found). replaced G (cutInRows n t) (act c)) (sym e));
-        reply-is = sym (ans-found c (q .user) of (cutInRows n t) ∙ ap (λ (G : Found). chosen G (cutInRows n t) (lost c) (says c)) (sym e) ∙ lost-is);
+        rows-are = sym (tab-found c (q .user) of (pieces rowLength n t) ∙ ap (λ (G : Found). replaced G (pieces rowLength n t) (act c)) (sym e));
+        reply-is = sym (ans-found c (q .user) of (pieces rowLength n t) ∙ ap (λ (G : Found). chosen G (pieces rowLength n t) (lost c) (says c)) (sym e) ∙ lost-is);
       }
   on-found (row i) e l =
       let of : subject c ≡ subscriber (q .user) = was-read c q own g in
       let k : length (rowAfter c q (rowAt t i)) ≡ rowLength = length-after c q (rowAt t i) ∙ length-rowAt n t size i l in
-      let d : getD (cutInRows n t) i [] ≡ rowAt t i = cut-at n t size i l in
+      let d : getD (pieces rowLength n t) i [] ≡ rowAt t i = nth-row n t size i l in
       record {
-        size = ap length (table-is i l) ∙ length-with n t size i l (rowAfter c q (rowAt t i)) k;
+        size = ap length (table-is i l) ∙ length-withRow n t size i l (rowAfter c q (rowAt t i)) k;
         rows-are =
-            ap (cutInRows n) (table-is i l)
-            ∙ cut-with n t size i l (rowAfter c q (rowAt t i)) k
-            ∙ ap (λ (r : List ℕ). set (cutInRows n t) i r) (sym (act-is (rowAt t i)) ∙ ap (act c) (sym d))
-            ∙ sym (tab-found c (q .user) of (cutInRows n t) ∙ ap (λ (G : Found). replaced G (cutInRows n t) (act c)) (sym e));
+            ap (pieces rowLength n) (table-is i l)
+            ∙ rows-with n t size i l (rowAfter c q (rowAt t i)) k
+            ∙ ap (λ (r : List ℕ). set (pieces rowLength n t) i r) (sym (act-is (rowAt t i)) ∙ ap (act c) (sym d))
+            ∙ sym (tab-found c (q .user) of (pieces rowLength n t) ∙ ap (λ (G : Found). replaced G (pieces rowLength n t) (act c)) (sym e));
         reply-is =
             row-reply i ∙ sym (says-is (rowAt t i)) ∙ ap (says c) (sym d)
-            ∙ sym (ans-found c (q .user) of (cutInRows n t) ∙ ap (λ (G : Found). chosen G (cutInRows n t) (lost c) (says c)) (sym e));
+            ∙ sym (ans-found c (q .user) of (pieces rowLength n t) ∙ ap (λ (G : Found). chosen G (pieces rowLength n t) (lost c) (says c)) (sym e));
       }
 
 module _ (t : List ℕ) (good : tableNumber t ≡ 0) where
@@ -331,7 +331,7 @@ module _ (t : List ℕ) (good : tableNumber t ≡ 0) where
   by-reading : (c : Call) (g : Reading) → eqb (ownNumber c) 0 ≡ true → read (c .message) ≡ g → Agrees count t c (onReading t c g)
   unfolding onReading refusal lookup rows
   by-reading c (refused code) own e = unmoved count t c (was-refused c code own e) (refusal t c (plain code)) refl (sym (lost-refused c code own e))
-  by-reading c (request q) own e = on-found count t (whole-rows t good) c q own e (lookup t (q .user)) refl (subst (There (lookup t (q .user))) (length-cut count t) (there (isRowOf (q .user)) (rows t)))
+  by-reading c (request q) own e = on-found count t (whole-rows t good) c q own e (lookup t (q .user)) refl (subst (There (lookup t (q .user))) (length-pieces rowLength count t) (there (isRowOf (q .user)) (rows t)))
 
   pub one-call : (c : Call) → Agrees count t c (handle t c)
   unfolding silent silence

@@ -1,6 +1,5 @@
 pub mod Finding
 pub mod Alone
-pub mod Tables
 pub mod Handling
 pub mod Lists
 pub mod Rooms

@@ -9,14 +9,15 @@ use lib.ListN.{length, getD}
 use Rattle.octets.specs.Choice.{pick}
 use Rattle.octets.specs.Lists.{keep}
 use Rattle.octets.proofs.Lists.{by-test}
+use Rattle.octets.proofs.Pieces.{joined, length-pieces}
+use Rattle.octets.specs.Texts.{pieces}
 use Rattle.message.specs.ReadingAMessage.{Reading, refused, request, read}
-use Rattle.table.specs.TheTable.{Found, row, nothing, later, firstRow, lookup, rows, cutInRows, rowLength, tableNumber, isRowOf}
-use Rattle.table.proofs.Rows.{whole-rows}
+use Rattle.table.specs.TheTable.{Found, row, nothing, later, firstRow, lookup, rows, rowLength, tableNumber, isRowOf}
+use Rattle.table.proofs.Rows.{joined-rows, nth-row, whole-rows}
 use Rattle.rules.specs.Calls.{Call, Reply, Left, silent, refusal, onReading, handle, ranFirst, run}
 use Rattle.order.specs.Demand3.{Subject, nobody, subscriber, sameSubject, subject, sentBy, isOf, callsOf, repliesOf, Record, absent, bytes, recordAt, recordOf, ownNumber}
 use Rattle.order.specs.Demand3.{OneReplyEach, EachInTurn, LastTable, RepliesAlone, RecordAlone, LookupStays, NobodysReply, NobodyChangesNothing, NobodysReplies}
 use Rattle.order.proofs.Finding.{finds, subject-eq}
-use Rattle.order.proofs.Tables.{flat, flat-cut, cut-at, length-cut}
 use Rattle.order.proofs.Handling.{act, says, lost, lostOn, stable, silence, Agrees, one-call, handle-good, handle-bad, There, there}
 use Rattle.order.proofs.Alone as A
 
@@ -73,8 +74,8 @@ number-by-length t u e = rw e
 -- what the list of calls leaves, of n rows
 pub record Runs (n : ℕ) (t : List ℕ) (cs : List Call) : Type 0 where
   pub size : length ((run t cs) .table) ≡ length t
-  pub rows-are : cutInRows n ((run t cs) .table) ≡ runs (cutInRows n t) cs
-  pub replies-are : (run t cs) .replies ≡ outs (cutInRows n t) cs
+  pub rows-are : pieces rowLength n ((run t cs) .table) ≡ runs (pieces rowLength n t) cs
+  pub replies-are : (run t cs) .replies ≡ outs (pieces rowLength n t) cs
 
 run-on : (n : ℕ) (t : List ℕ) (cs : List Call) → tableNumber t ≡ 0 → length t / rowLength ≡ n → Runs n t cs
 unfolding run ranFirst A.runs A.outs
@@ -107,16 +108,16 @@ record-found name (r ∷ rs) =
     (λ e. rw e)
     (λ e. rw (e, held-later (firstRow (isRowOf name) rs) r rs) (record-found name rs))
 
-record-cut : (n : ℕ) (t : List ℕ) → length t ≡ rowLength * n → (F : Found) → There F n → recordAt t F ≡ heldAt F (cutInRows n t)
+record-cut : (n : ℕ) (t : List ℕ) → length t ≡ rowLength * n → (F : Found) → There F n → recordAt t F ≡ heldAt F (pieces rowLength n t)
 unfolding recordAt heldAt There
 record-cut n t size nothing l = refl
-record-cut n t size (row i) l = ap bytes (sym (cut-at n t size i l))
+record-cut n t size (row i) l = ap bytes (sym (nth-row n t size i l))
 
-record-is : (n : ℕ) (t name : List ℕ) → length t ≡ rowLength * n → length t / rowLength ≡ n → recordOf name t ≡ recordIn (subscriber name) (cutInRows n t)
+record-is : (n : ℕ) (t name : List ℕ) → length t ≡ rowLength * n → length t / rowLength ≡ n → recordOf name t ≡ recordIn (subscriber name) (pieces rowLength n t)
 unfolding recordOf lookup rows
 record-is n t name size e =
-    let l : There (firstRow (isRowOf name) (cutInRows n t)) n = rw (length-cut n t) at (there (isRowOf name) (cutInRows n t)) in
-    rw e (record-cut n t size (firstRow (isRowOf name) (cutInRows n t)) l ∙ sym (record-found name (cutInRows n t)))
+    let l : There (firstRow (isRowOf name) (pieces rowLength n t)) n = rw (length-pieces rowLength n t) at (there (isRowOf name) (pieces rowLength n t)) in
+    rw e (record-cut n t size (firstRow (isRowOf name) (pieces rowLength n t)) l ∙ sym (record-found name (pieces rowLength n t)))
 
 -- no call changes where a row is found
 find-tab : (name : List ℕ) (c : Call) (rs : List (List ℕ)) → firstRow (isRowOf name) (A.tab act says lost rs c) ≡ firstRow (isRowOf name) rs
@@ -147,9 +148,9 @@ module _ (t : List ℕ) (good : tableNumber t ≡ 0) where
   good-replies : (cs : List Call) (who : Subject) → repliesOf who cs ((run t cs) .replies) ≡ (run t (callsOf who cs)) .replies
   good-replies cs who =
       rw ((ran cs) .replies-are, (ran (callsOf who cs)) .replies-are)
-      (A.same-answers act says lost stable who cs (cutInRows count t) (cutInRows count t) refl)
+      (A.same-answers act says lost stable who cs (pieces rowLength count t) (pieces rowLength count t) refl)
 
-  record-after : (name : List ℕ) (cs : List Call) → recordOf name ((run t cs) .table) ≡ recordIn (subscriber name) (runs (cutInRows count t) cs)
+  record-after : (name : List ℕ) (cs : List Call) → recordOf name ((run t cs) .table) ≡ recordIn (subscriber name) (runs (pieces rowLength count t) cs)
   record-after name cs =
       record-is count ((run t cs) .table) name (size-after cs) (ap (λ (l : ℕ). l / rowLength) ((ran cs) .size))
       ∙ ap (recordIn (subscriber name)) ((ran cs) .rows-are)
@@ -157,21 +158,21 @@ module _ (t : List ℕ) (good : tableNumber t ≡ 0) where
   good-record : (cs : List Call) (name : List ℕ) → recordOf name ((run t cs) .table) ≡ recordOf name ((run t (callsOf (subscriber name) cs)) .table)
   good-record cs name =
       record-after name cs
-      ∙ A.same-record act says lost stable (subscriber name) cs (cutInRows count t) (cutInRows count t) refl
+      ∙ A.same-record act says lost stable (subscriber name) cs (pieces rowLength count t) (pieces rowLength count t) refl
       ∙ sym (record-after name (callsOf (subscriber name) cs))
 
   good-lookup : (cs : List Call) (name : List ℕ) → lookup ((run t cs) .table) name ≡ lookup t name
   unfolding lookup rows
   good-lookup cs name =
-      ap (λ (l : ℕ). firstRow (isRowOf name) (cutInRows (l / rowLength) ((run t cs) .table))) ((ran cs) .size)
+      ap (λ (l : ℕ). firstRow (isRowOf name) (pieces rowLength (l / rowLength) ((run t cs) .table))) ((ran cs) .size)
       ∙ ap (firstRow (isRowOf name)) ((ran cs) .rows-are)
-      ∙ find-runs name cs (cutInRows count t)
+      ∙ find-runs name cs (pieces rowLength count t)
 
   good-table : (cs ds : List Call) → ((name : List ℕ) → callsOf (subscriber name) cs ≡ callsOf (subscriber name) ds) → (run t cs) .table ≡ (run t ds) .table
   good-table cs ds h =
-      sym (flat-cut count ((run t cs) .table) (size-after cs))
-      ∙ ap (flat rowLength) ((ran cs) .rows-are ∙ A.same-rows act says lost stable (cutInRows count t) cs ds h ∙ sym ((ran ds) .rows-are))
-      ∙ flat-cut count ((run t ds) .table) (size-after ds)
+      sym (joined-rows count ((run t cs) .table) (size-after cs))
+      ∙ ap (joined) ((ran cs) .rows-are ∙ A.same-rows act says lost stable (pieces rowLength count t) cs ds h ∙ sym ((ran ds) .rows-are))
+      ∙ joined-rows count ((run t ds) .table) (size-after ds)
 
 pub replies-alone : RepliesAlone
 replies-alone t cs who =

@@ -14,7 +14,7 @@ use Rattle.message.specs.ReadingAMessage.{Ask, readingCode, command, avps, requ
 use Rattle.table.specs.TheTable.{Entry, Subscriber, Found, row, nothing, later, firstRow, lookup, rows, isRowOf, rowAt, rowLength, tableNumber, readRow}
 use Rattle.table.specs.Soundness.{sound}
 use Rattle.table.proofs.Sound.{says-good}
-use Rattle.table.proofs.Rows.{whole-rows}
+use Rattle.table.proofs.Rows.{nth-row, whole-rows}
 use Rattle.rules.specs.Calls.{Call, handle, run, ranFirst, callNumber}
 use Rattle.order.specs.Demand2.{requestIn, found, said, succeeds, exceeds, placeTaken}
 use Rattle.order.specs.Demand3.{subscriber, isOf, subject, ownNumber}
@@ -26,7 +26,6 @@ use Rattle.order.proofs.Lists.{lookup-stays}
 use Rattle.order.proofs.Checks.{cut-exactly, success-exactly, success-reply, refused-changes-nothing, Won, won, won-went}
 use Rattle.order.proofs.Answered.{OnRow, went}
 use Rattle.order.proofs.Rest.{success-replaces-row, other-rows-stay, rows-there, in-table}
-use Rattle.order.proofs.Tables.{cut-at}
 use Rattle.order.proofs.History.{line-after, cut-named, same-entries}
 
 -- ONE NAME TO A ROW
@@ -52,7 +51,7 @@ found-row t name i e = rw e at (passes (isRowOf name) (rows t))
 found-at : (t name : List ℕ) (i : ℕ) → tableNumber t ≡ 0 → lookup t name ≡ row i → isRowOf name (rowAt t i) ≡ true
 unfolding lookup rows
 found-at t name i good e =
-    let r : getD (rows t) i [] ≡ rowAt t i = cut-at (length t / rowLength) t (whole-rows t good) i (in-table (isRowOf name) t i e) in
+    let r : getD (rows t) i [] ≡ rowAt t i = nth-row (length t / rowLength) t (whole-rows t good) i (in-table (isRowOf name) t i e) in
     rw r at (found-row t name i e)
 
 one-owner : (a b r : List ℕ) → isRowOf a r ≡ true → isRowOf b r ≡ true → subscriber a ≡ subscriber b

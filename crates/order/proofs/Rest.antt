@@ -8,13 +8,15 @@ use lib.Dec.{eqb}
 use lib.ListN.{length}
 use Rattle.octets.proofs.Choice.{by-pick, first-passes}
 use Rattle.octets.proofs.Lists.{by-test}
+use Rattle.octets.proofs.Pieces.{length-pieces}
+use Rattle.octets.specs.Texts.{pieces}
 use Rattle.message.specs.Codes.{numberOf}
 use Rattle.message.specs.ReadingAMessage.{readingCode}
-use Rattle.table.specs.TheTable.{Subscriber, row, lookup, rows, firstRow, cutInRows, isRowOf, rowAt, withRow, rowLength, tableNumber, readRow, rowBytes}
+use Rattle.table.specs.TheTable.{Subscriber, row, lookup, rows, firstRow, isRowOf, rowAt, withRow, rowLength, tableNumber, readRow, rowBytes}
 use Rattle.table.specs.Soundness.{sound}
 use Rattle.table.proofs.Bytes.{length-row, read-row}
 use Rattle.table.proofs.Good.{Good}
-use Rattle.table.proofs.Rows.{whole-rows}
+use Rattle.table.proofs.Rows.{row-other, row-with, whole-rows}
 use Rattle.table.proofs.Sound.{says-good, sound-row}
 use Rattle.rules.specs.Deciding.{Verdict}
 use Rattle.rules.specs.Calls.{Call, Left, callNumber, silent, refusal, settled, handle, ranFirst, run}
@@ -26,7 +28,6 @@ use Rattle.order.proofs.Read.{ask-fits}
 use Rattle.order.proofs.Answered.{Went, OnRow, unanswered, stopped, reached, went, verdict}
 use Rattle.order.proofs.Decided.{granting}
 use Rattle.order.proofs.Checks.{Won, won, won-went, granted, written}
-use Rattle.order.proofs.Tables.{at-with, at-other, length-cut}
 use Rattle.order.proofs.Handling.{There, there}
 use Rattle.deciding.specs.Plans.{fitting}
 
@@ -38,7 +39,7 @@ rows-there t c h = first-passes _ _ h
 pub in-table : (f : List ℕ → Bool) (t : List ℕ) (i : ℕ) → firstRow f (rows t) ≡ row i → i < length t / rowLength
 unfolding rows There
 in-table f t i e =
-    let h : There (firstRow f (cutInRows (length t / rowLength) t)) (length t / rowLength) = rw (length-cut (length t / rowLength) t) at (there f (cutInRows (length t / rowLength) t)) in
+    let h : There (firstRow f (pieces rowLength (length t / rowLength) t)) (length t / rowLength) = rw (length-pieces rowLength (length t / rowLength) t) at (there f (pieces rowLength (length t / rowLength) t)) in
     rw e at h
 
 module _ (t : List ℕ) (c : Call) where
@@ -59,7 +60,7 @@ module _ (t : List ℕ) (c : Call) where
       let good : tableNumber t ≡ 0 = rows-there t c (eqb-true (callNumber t c) 0 a) in
       rw (o .leaves)
       (settled-table (λ (u : List ℕ). rowAt u j ≡ rowAt t j) i (verdict t c i) refl
-      (at-other (length t / rowLength) t (whole-rows t good) i (row-in i (o .at)) _ j (length-row _) (λ e. ne (o .at ∙ ap row (sym e)))))
+      (row-other (length t / rowLength) t (whole-rows t good) i (row-in i (o .at)) _ (length-row _) j (λ e. ne (o .at ∙ ap row (sym e)))))
 
   fits : readingCode (c .message) ≡ 0 → fitting ((requestIn c) .ask) ≡ true
   unfolding requestIn
@@ -74,7 +75,7 @@ module _ (t : List ℕ) (c : Call) where
       (λ e. let good : tableNumber t ≡ 0 = rows-there t c (eqb-true (callNumber t c) 0 a) in
       let p : j ≡ i = eqb-true j i e in
       let w : rowAt (withRow t i (rowBytes ((verdict t c i) .after))) i ≡ rowBytes ((verdict t c i) .after) =
-      at-with (length t / rowLength) t (whole-rows t good) i (row-in i (o .at)) _ (length-row _) in
+      row-with (length t / rowLength) t (whole-rows t good) i (row-in i (o .at)) _ (length-row _) in
       let g : Good ((verdict t c i) .after) = stays ((requestIn c) .ask) (c .wag) (readRow (rowAt t i)) (fits (o .was-read)) (says-good (rowAt t i) (o .was-sound)) in
       rw (o .leaves) (settled-table (λ (u : List ℕ). sound (rowAt u j) ≡ true) i (verdict t c i) s (rw (p, w) (sound-row _ g))))
       (λ e. ap sound (other-went j (λ f. eqb-false j i e (same-row j i (sym f ∙ o .at))) (reached i a o)) ∙ s)
@@ -93,7 +94,7 @@ module _ (t : List ℕ) (c : Call) where
       let after : Subscriber = afterwards ((requestIn c) .ask) (readRow (rowAt t i)) in
       let table : (handle t c) .table ≡ withRow t i (rowBytes after) = ap (λ (l : Left). l .table) (o .leaves) ∙ written t c i o h in
       let w : rowAt ((handle t c) .table) i ≡ rowBytes after =
-      ap (λ (u : List ℕ). rowAt u i) table ∙ at-with (length t / rowLength) t (whole-rows t (rows-there t c a)) i (row-in t c i (o .at)) (rowBytes after) (length-row after) in
+      ap (λ (u : List ℕ). rowAt u i) table ∙ row-with (length t / rowLength) t (whole-rows t (rows-there t c a)) i (row-in t c i (o .at)) (rowBytes after) (length-row after) in
       record {
         was-sound = o .was-sound;
         table = table;

@@ -10,14 +10,15 @@ use lib.ListN.{length, set, take}
 use lib.Seq.{take-at, take-take}
 use Rattle.octets.specs.Choice.{pick, within}
 use Rattle.octets.specs.Lists.{sumOf}
-use Rattle.octets.specs.Texts.{allZero, filled, zeros}
+use Rattle.octets.specs.Texts.{allZero, filled, pieces, zeros}
 use Rattle.octets.proofs.Choice.{first-passes, others-pass, passed}
 use Rattle.octets.proofs.Lists.{and-left, both, by-test, same-refl, within-high}
-use Rattle.table.specs.TheTable.{Entry, Subscriber, Found, row, nothing, later, isFound, firstRow, rows, cutInRows, lookup, isRowOf, rowAt, withRow, rowLength, tableNumber, readRow, rowBytes}
+use Rattle.octets.proofs.Pieces.{length-pieces}
+use Rattle.table.specs.TheTable.{Entry, Subscriber, Found, row, nothing, later, isFound, firstRow, rows, lookup, isRowOf, rowAt, withRow, rowLength, tableNumber, readRow, rowBytes}
 use Rattle.table.specs.Soundness.{isName, limits, sound}
 use Rattle.table.proofs.Bytes.{length-row, read-row}
 use Rattle.table.proofs.Good.{Good, goodEntry}
-use Rattle.table.proofs.Rows.{whole-rows}
+use Rattle.table.proofs.Rows.{found-by, length-withRow, row-other, row-with, rows-with, whole-rows}
 use Rattle.table.proofs.Sound.{says-good, sound-row}
 use Rattle.setup.specs.SetUp.{SetUp, leaving, clear, enter, enterNumber, add, addAt, entryNumber, withRowAt}
 use Rattle.changes.specs.Changes.{named, withEntry}
@@ -25,8 +26,6 @@ use Rattle.changes.proofs.Stays.{MayEnter}
 use Rattle.changes.proofs.Steps.{row-name}
 use Rattle.changes.proofs.Keep.{good-named, good-entered}
 use Rattle.order.specs.SettingUp.{Wrote, ClearRefused, EnterRefused, AddRefused, ClearedZero, EnterWrites, EnteredFound, AddWrites}
-use Rattle.order.proofs.Finding.{front}
-use Rattle.order.proofs.Tables.{at-with, at-other, cut-with, length-cut, length-with}
 use Rattle.order.proofs.Rest.{in-table}
 
 -- REFUSALS
@@ -73,11 +72,11 @@ module _ (t : List ℕ) (good : tableNumber t ≡ 0) (i : ℕ) (there : i < leng
   wrote : Wrote t i s (withRow t i (rowBytes s))
   wrote =
       let n : ℕ = length t / rowLength in
-      let at : rowAt (withRow t i (rowBytes s)) i ≡ rowBytes s = at-with n t (whole-rows t good) i there (rowBytes s) (length-row s) in
+      let at : rowAt (withRow t i (rowBytes s)) i ≡ rowBytes s = row-with n t (whole-rows t good) i there (rowBytes s) (length-row s) in
       record {
         sound-row = rw at (sound-row s g);
         row-says = rw at (read-row s g);
-        others-stay = λ j ne. at-other n t (whole-rows t good) i there (rowBytes s) j (length-row s) ne;
+        others-stay = λ j ne. row-other n t (whole-rows t good) i there (rowBytes s) (length-row s) j ne;
       }
 
 -- ENTERING
@@ -184,7 +183,7 @@ front-found name h =
 new-found : (name : List ℕ) → isName name ≡ true → isRowOf name (rowBytes (named name)) ≡ true
 unfolding named
 new-found name h =
-    sym (front name (rowBytes (named name))) ∙ ap (isRowOf name) (row-name (named name)) ∙ front-found name h
+    sym (found-by name (rowBytes (named name))) ∙ ap (isRowOf name) (row-name (named name)) ∙ front-found name h
 
 module _ (t name : List ℕ) (h : enterNumber t name ≡ 0) where
   not-held : isFound (lookup t name) ≡ false
@@ -197,9 +196,9 @@ module _ (t name : List ℕ) (h : enterNumber t name ≡ 0) where
       let n : ℕ = length t / rowLength in
       let size : length t ≡ rowLength * n = whole-rows t (enter-rows t name h) in
       let r : List ℕ = rowBytes (named name) in
-      ap (λ (k : ℕ). firstRow (isRowOf name) (cutInRows (k / rowLength) (withRow t i r))) (length-with n t size i l r (length-row (named name)))
-      ∙ ap (firstRow (isRowOf name)) (cut-with n t size i l r (length-row (named name)))
-      ∙ found-put (isRowOf name) (cutInRows n t) i r not-held (new-found name (enter-name t name h)) (rw (length-cut n t) l)
+      ap (λ (k : ℕ). firstRow (isRowOf name) (pieces rowLength (k / rowLength) (withRow t i r))) (length-withRow n t size i l r (length-row (named name)))
+      ∙ ap (firstRow (isRowOf name)) (rows-with n t size i l r (length-row (named name)))
+      ∙ found-put (isRowOf name) (pieces rowLength n t) i r not-held (new-found name (enter-name t name h)) (rw (length-pieces rowLength n t) l)
 
 pub entered-found : EnteredFound
 unfolding enter withRowAt

@@ -356,8 +356,8 @@ fn request_failed(table: &[u8], m: &[u8], wag: bool, user: Span, asked: Asked) -
     let RowFound::At(i) = found else {
         return Reason::NoRow;
     };
-    let a = 4608 * i;
-    let e = a + 4608;
+    let a = table::ROW_LENGTH * i;
+    let e = a + table::ROW_LENGTH;
     if !soundness::row_sound(&table[a..e]) {
         return Reason::UnsoundRow;
     }

@@ -6,14 +6,14 @@ use lib.ListN.{length}
 use Rattle.octets.specs.Choice.{pick, require, firstOf, within}
 use Rattle.octets.specs.Lists.{every, keep, distinct, firstOr, sumOf, counted, isOn, upTo0}
 use Rattle.octets.specs.Numbers.{net24, net32, in24, in32, up4}
-use Rattle.octets.specs.Texts.{zeros, filled, same, allZero, put}
+use Rattle.octets.specs.Texts.{allZero, filled, pieces, put, same, zeros}
 use Rattle.message.specs.CallsThatGetNoAnswer.{messageNumber}
 use Rattle.message.specs.Codes.{numberOf, kindOf}
 use Rattle.message.specs.ReadingAMessage.{headerCode, sameName, headLength, namedIn01, codesOfAARequest, codesOfTermination, knownAvps, isOneOf, known, avpCode, avpOf, supported, requestCode, behind, walkOne, walkUpTo, walkBy, avps, walkCode, having, firstValue, valueOf, present, anything, numberIn, textField, labelField, numberField, testedAs, fieldCode, startsWith, forBoth, for265, for275, fields, listCode, readingCode, askOf, requestOf, read}
 use Rattle.message.specs.WorkedCases.{case9, case10, name, board, capitalBoard, yard, gate, session, gateway, ownHost, ownRealm, vendorBytes, requestBytes, bothAvps, aaRequest, openAt, openVisited, routeBy, endAt}
 use Rattle.message.specs.WritingTheAnswer.{avpBytes, sessionAvp, is3xxx, authAvps, resultAvp, subscriptionAvp, allBytes, proxyAvps, answerBody, answerFlags, answer, answerRoom}
 use Rattle.table.specs.Soundness.{zeroBehind, isDigit, isName, headForm, entryForm, entriesForm, inUse, accessForm, placeForm, hasForm, sumsAgree, lineExact, lowerCase, sameLabel, labels, limits, sessions, onEntry, underLimits, policyMarked, sound}
-use Rattle.table.specs.TheTable.{sumsFrom, sealed, barred, mayRoam, places, line, entryBytes, entriesBytes, fromBits, usedBits, headBytes, held, accessBytes, placeBytes, placesBytes, rowBytes, readEntry, readEntries, readAccess, orderLine, readRow, tableNumber, cutInRows, rows, rowAt, withRow, isRowOf, later, firstRow, lookup, isFound}
+use Rattle.table.specs.TheTable.{sumsFrom, sealed, barred, mayRoam, places, line, entryBytes, entriesBytes, fromBits, usedBits, headBytes, held, accessBytes, placeBytes, placesBytes, rowBytes, readEntry, readEntries, readAccess, orderLine, readRow, tableNumber, rows, rowAt, withRow, isRowOf, later, firstRow, lookup, isFound}
 use Rattle.table.specs.WorkedCases.{case8}
 use Rattle.changes.specs.Changes.{leave, freed, vacant, lowestFree, newAccess, opened, hold, routed, named, withEntry}
 use Rattle.setup.specs.SetUp.{leaving, clear, enterNumber, withRowAt, enter, entryNumber, addAt, add}
@@ -22,9 +22,9 @@ use Rattle.rules.specs.Deciding.{refuse, grant, entryFrom, entryNamed, n
 use Rattle.rules.specs.WorkedCases.{withLabel, start, noticeBefore, ask, noCut, cutOf, granted, denied, twelve, gated, capitalEntry, inBothCases, capitalOnly, others}
 
 pub twelve-hold : eqb (length twelve) 12 && every (λ b. b) twelve ≡ true
-unfolding pick require firstOf within every keep distinct firstOr sumOf counted isOn upTo0 net24 net32 in24 in32 up4 zeros filled same allZero put messageNumber numberOf kindOf headerCode sameName headLength namedIn01 codesOfAARequest codesOfTermination knownAvps isOneOf known avpCode avpOf supported requestCode behind walkOne walkUpTo walkBy avps walkCode having firstValue valueOf present anything numberIn textField labelField numberField testedAs fieldCode startsWith forBoth for265 for275 fields listCode readingCode askOf requestOf read case9 case10 name board capitalBoard yard gate session gateway ownHost ownRealm vendorBytes requestBytes bothAvps aaRequest openAt openVisited routeBy endAt avpBytes sessionAvp is3xxx authAvps resultAvp subscriptionAvp allBytes proxyAvps answerBody answerFlags answer answerRoom zeroBehind isDigit isName headForm entryForm entriesForm inUse accessForm placeForm hasForm sumsAgree lineExact lowerCase sameLabel labels limits sessions onEntry underLimits policyMarked sound sumsFrom sealed barred mayRoam places line entryBytes entriesBytes fromBits usedBits headBytes held accessBytes placeBytes placesBytes rowBytes readEntry readEntries readAccess orderLine readRow tableNumber cutInRows rows rowAt withRow isRowOf later firstRow lookup isFound case8 leave freed vacant lowestFree newAccess opened hold routed leaving clear enterNumber named withRowAt enter entryNumber withEntry addAt add callNumber silent noticeRoom resultOf reply refusal settled onRow onReading handle ranFirst run refuse grant entryFrom entryNamed noEntry entryAt withSession placeOf none atPlace openOn firstOn atLimit admit heldAlready type0 type1 terminate decide withLabel start noticeBefore ask noCut cutOf granted denied twelve gated capitalEntry inBothCases capitalOnly others
+unfolding pick require firstOf within every keep distinct firstOr sumOf counted isOn upTo0 net24 net32 in24 in32 up4 zeros filled same allZero put messageNumber numberOf kindOf headerCode sameName headLength namedIn01 codesOfAARequest codesOfTermination knownAvps isOneOf known avpCode avpOf supported requestCode behind walkOne walkUpTo walkBy avps walkCode having firstValue valueOf present anything numberIn textField labelField numberField testedAs fieldCode startsWith forBoth for265 for275 fields listCode readingCode askOf requestOf read case9 case10 name board capitalBoard yard gate session gateway ownHost ownRealm vendorBytes requestBytes bothAvps aaRequest openAt openVisited routeBy endAt avpBytes sessionAvp is3xxx authAvps resultAvp subscriptionAvp allBytes proxyAvps answerBody answerFlags answer answerRoom zeroBehind isDigit isName headForm entryForm entriesForm inUse accessForm placeForm hasForm sumsAgree lineExact lowerCase sameLabel labels limits sessions onEntry underLimits policyMarked sound sumsFrom sealed barred mayRoam places line entryBytes entriesBytes fromBits usedBits headBytes held accessBytes placeBytes placesBytes rowBytes readEntry readEntries readAccess orderLine readRow tableNumber pieces rows rowAt withRow isRowOf later firstRow lookup isFound case8 leave freed vacant lowestFree newAccess opened hold routed leaving clear enterNumber named withRowAt enter entryNumber withEntry addAt add callNumber silent noticeRoom resultOf reply refusal settled onRow onReading handle ranFirst run refuse grant entryFrom entryNamed noEntry entryAt withSession placeOf none atPlace openOn firstOn atLimit admit heldAlready type0 type1 terminate decide withLabel start noticeBefore ask noCut cutOf granted denied twelve gated capitalEntry inBothCases capitalOnly others
 twelve-hold = refl
 
 pub others-hold : every (λ b. b) others ≡ true
-unfolding pick require firstOf within every keep distinct firstOr sumOf counted isOn upTo0 net24 net32 in24 in32 up4 zeros filled same allZero put messageNumber numberOf kindOf headerCode sameName headLength namedIn01 codesOfAARequest codesOfTermination knownAvps isOneOf known avpCode avpOf supported requestCode behind walkOne walkUpTo walkBy avps walkCode having firstValue valueOf present anything numberIn textField labelField numberField testedAs fieldCode startsWith forBoth for265 for275 fields listCode readingCode askOf requestOf read case9 case10 name board capitalBoard yard gate session gateway ownHost ownRealm vendorBytes requestBytes bothAvps aaRequest openAt openVisited routeBy endAt avpBytes sessionAvp is3xxx authAvps resultAvp subscriptionAvp allBytes proxyAvps answerBody answerFlags answer answerRoom zeroBehind isDigit isName headForm entryForm entriesForm inUse accessForm placeForm hasForm sumsAgree lineExact lowerCase sameLabel labels limits sessions onEntry underLimits policyMarked sound sumsFrom sealed barred mayRoam places line entryBytes entriesBytes fromBits usedBits headBytes held accessBytes placeBytes placesBytes rowBytes readEntry readEntries readAccess orderLine readRow tableNumber cutInRows rows rowAt withRow isRowOf later firstRow lookup isFound case8 leave freed vacant lowestFree newAccess opened hold routed leaving clear enterNumber named withRowAt enter entryNumber withEntry addAt add callNumber silent noticeRoom resultOf reply refusal settled onRow onReading handle ranFirst run refuse grant entryFrom entryNamed noEntry entryAt withSession placeOf none atPlace openOn firstOn atLimit admit heldAlready type0 type1 terminate decide withLabel start noticeBefore ask noCut cutOf granted denied twelve gated capitalEntry inBothCases capitalOnly others
+unfolding pick require firstOf within every keep distinct firstOr sumOf counted isOn upTo0 net24 net32 in24 in32 up4 zeros filled same allZero put messageNumber numberOf kindOf headerCode sameName headLength namedIn01 codesOfAARequest codesOfTermination knownAvps isOneOf known avpCode avpOf supported requestCode behind walkOne walkUpTo walkBy avps walkCode having firstValue valueOf present anything numberIn textField labelField numberField testedAs fieldCode startsWith forBoth for265 for275 fields listCode readingCode askOf requestOf read case9 case10 name board capitalBoard yard gate session gateway ownHost ownRealm vendorBytes requestBytes bothAvps aaRequest openAt openVisited routeBy endAt avpBytes sessionAvp is3xxx authAvps resultAvp subscriptionAvp allBytes proxyAvps answerBody answerFlags answer answerRoom zeroBehind isDigit isName headForm entryForm entriesForm inUse accessForm placeForm hasForm sumsAgree lineExact lowerCase sameLabel labels limits sessions onEntry underLimits policyMarked sound sumsFrom sealed barred mayRoam places line entryBytes entriesBytes fromBits usedBits headBytes held accessBytes placeBytes placesBytes rowBytes readEntry readEntries readAccess orderLine readRow tableNumber pieces rows rowAt withRow isRowOf later firstRow lookup isFound case8 leave freed vacant lowestFree newAccess opened hold routed leaving clear enterNumber named withRowAt enter entryNumber withEntry addAt add callNumber silent noticeRoom resultOf reply refusal settled onRow onReading handle ranFirst run refuse grant entryFrom entryNamed noEntry entryAt withSession placeOf none atPlace openOn firstOn atLimit admit heldAlready type0 type1 terminate decide withLabel start noticeBefore ask noCut cutOf granted denied twelve gated capitalEntry inBothCases capitalOnly others
 others-hold = refl

@@ -8,7 +8,7 @@ use Rattle.setup.specs.SetUp.{add, clear, enter}
 use Rattle.message.specs.WorkedCases.{board, capitalBoard, case10, case9, endAt, gate, gateway, name, openAt, openVisited, ownHost, ownRealm, routeBy, session, yard}
 use Rattle.octets.specs.Lists.{counted}
 use Rattle.octets.specs.Texts.{filled, part, same, zeros}
-use Rattle.table.specs.TheTable.{Entry, orderLine, readRow, rowBytes}
+use Rattle.table.specs.TheTable.{Entry, orderLine, readRow, rowBytes, rowLength}
 use Rattle.changes.specs.Changes.{withEntry}
 use Rattle.table.specs.WorkedCases.{case8}
 use Rattle.rules.specs.Calls.{Left, handle}
@@ -19,7 +19,7 @@ unfoldable pub withLabel : List ℕ → (label : List ℕ) → (flags limit : �
 withLabel t label flags limit = (add t name (record { label = label; flags = flags; limit = limit })) .table
 
 unfoldable pub start : List ℕ
-start = withLabel (withLabel ((enter ((clear (zeros 4608)) .table) name) .table) board 0 2) yard 1 1
+start = withLabel (withLabel ((enter ((clear (zeros rowLength)) .table) name) .table) board 0 2) yard 1 1
 
 -- A call: the server's own names, an answer room of zeros, a notice room in which something stands (each byte once), and
 -- yes from the WAG.
@@ -99,7 +99,7 @@ unfoldable pub inBothCases : List ℕ
 inBothCases = rowBytes (withEntry capitalEntry (readRow start))
 
 unfoldable pub capitalOnly : List ℕ
-capitalOnly = withLabel ((enter (zeros 4608) name) .table) capitalBoard 0 1
+capitalOnly = withLabel ((enter (zeros rowLength) name) .table) capitalBoard 0 1
 
 -- The gate's tunnel g is opened first, from a visited network, then a and b on board: g counts for the gate alone, so that
 -- b cuts nothing, and c cuts a, which is not the head of the line.
@@ -123,7 +123,7 @@ others =
     ∷ granted (ask (e .table) (routeBy (session 99) board)) 0 noCut (1 ∷ 2 ∷ [])
     ∷ denied (ask (e .table) (routeBy (session 100) board)) (e .table) 5012 1
     -- a table without a subscriber: USER_UNKNOWN
-    ∷ denied (ask (zeros 4608) (openAt (session 97) board)) (zeros 4608) 5001 2
+    ∷ denied (ask (zeros rowLength) (openAt (session 97) board)) (zeros rowLength) 5001 2
     -- "Board" is "board" from a visited network (ROAMING_NOT_ALLOWED) and in a termination
     ∷ denied (ask start (openVisited (session 97) capitalBoard)) start 5004 2
     ∷ granted (ask (c .table) (endAt (session 98) capitalBoard)) 0 noCut (1 ∷ 2 ∷ [])

@@ -6,17 +6,15 @@ use Prim.Native.Nat.{ℕ, _+_, _-_, _/_, _%_, _≤_, _<_}
 use native.Mathlib.Omega.{arith}
 use borrow.Author.Tests.{eq-eqb, le-leb, le-ltb, leb-true, lt-leb, lt-ltb, ltb-true, ne-eqb}
 use lib.Dec.{eqb, leb, ltb}
-use lib.ListN.{length, take, getD}
-use lib.Seq.{getD-take}
+use lib.ListN.{length, getD}
 use Rattle.octets.specs.Choice.{firstOf, pick, require, within}
 use Rattle.octets.specs.Lists.{every, sumOf}
-use Rattle.octets.specs.Texts.{allZero, part, zeros}
+use Rattle.octets.specs.Texts.{allZero, zeros}
 use Rattle.octets.proofs.Choice.{first-passes, others-pass, passed}
 use Rattle.octets.proofs.Lists.{and-left, and-right, by-test, in-within, within-high, within-low}
 use Rattle.table.specs.Soundness.{entriesForm, isDigit, isName, labels, limits, sameLabel, sound}
-use Rattle.table.specs.TheTable.{Entry, Found, firstRow, isFound, lookup, nothing, readEntries, readRow, row, rowAt, rowBytes, rowLength, rows, tableNumber, withRow}
-use Rattle.table.proofs.Form.{length-read, part-take}
-use Rattle.table.proofs.Sound.{clauses, says-good}
+use Rattle.table.specs.TheTable.{Entry, Found, block, entriesRoom, firstRow, isFound, lookup, nothing, readEntries, readRow, row, rowAt, rowBytes, rowLength, rows, tableNumber, withRow}
+use Rattle.table.proofs.Sound.{clauses}
 use Rattle.setup.specs.SetUp.{add, addAt, clear, enter, enterNumber, entryNumber, leaving, left, withRowAt}
 use Rattle.changes.specs.Changes.{named, withEntry}
 
@@ -142,49 +140,24 @@ module _ (size flags limit : ℕ) where
 
 -- ADDING A W-APN: THE TESTS ON THE ROW
 
--- the entries, as code reads them
-module _ (r : List ℕ) (size : length r ≡ 4608) where
-  entries-read : (readRow r) .entries ≡ readEntries (getD r 18 0) (part r 32 416)
-  unfolding readRow
-  entries-read =
-      let n : getD (take 512 r) 18 0 ≡ getD r 18 0 = getD-take 512 r 18 0 (omega arith) in
-      let p : part (take 512 r) 32 416 ≡ part r 32 416 = part-take 512 32 416 r (omega arith) in
-      λ i. readEntries (n i) (p i)
-
-  pub form-read : sound r ≡ true → entriesForm (getD r 18 0) (part r 32 416) ≡ true
-  form-read h =
-      let n : getD (take 512 r) 18 0 ≡ getD r 18 0 = getD-take 512 r 18 0 (omega arith) in
-      let p : part (take 512 r) 32 416 ≡ part r 32 416 = part-take 512 32 416 r (omega arith) in
-      sym (λ i. entriesForm (n i) (p i)) ∙ (clauses r h) .entries-form
-
-  pub count-read : length ((readRow r) .entries) ≡ getD r 18 0
-  count-read = ap length entries-read ∙ length-read (getD r 18 0) (part r 32 416)
-
-  pub labels-read : labels ((readRow r) .entries) ≡ labels (readEntries (getD r 18 0) (part r 32 416))
-  labels-read = ap labels entries-read
-
-  pub limits-read : limits ((readRow r) .entries) ≡ limits (readEntries (getD r 18 0) (part r 32 416))
-  limits-read = ap limits entries-read
-
-pub at-most-four : (r : List ℕ) → sound r ≡ true → length ((readRow r) .entries) ≤ 4
-at-most-four r h = leb-true (length ((readRow r) .entries)) 4 ((says-good r h) .entries-good .four)
-
 abbrev pub given : Entry → Bool
 given e = within 1 100 (length (e .label)) && (leb (e .flags) 3 && within 1 8 (e .limit))
 
 abbrev pub newLabel : List ℕ → Entry → Bool
 newLabel r e = every (λ l. not (sameLabel l (e .label))) (labels ((readRow r) .entries))
 
--- what the code's tests say of the row
-module _ (r : List ℕ) (n : ℕ) (size : length r ≡ 4608) (same-n : n ≡ getD r 18 0) where
-  pub label-said : (e : Entry) {x : Bool} → x ≡ every (λ l. not (sameLabel l (e .label))) (labels (readEntries n (part r 32 416))) → x ≡ newLabel r e
-  label-said e q =
-      q
-      ∙ ap (λ (i : ℕ). every (λ l. not (sameLabel l (e .label))) (labels (readEntries i (part r 32 416)))) same-n
-      ∙ ap (λ (ls : List (List ℕ)). every (λ l. not (sameLabel l (e .label))) ls) (sym (labels-read r size))
+-- what the code's tests say of the row, by the number and the room of its entries
+module _ (r : List ℕ) (n : ℕ) (room : List ℕ) (same-n : n ≡ getD (block r 0) 18 0) (same-room : room ≡ entriesRoom r) where
+  pub form-said : sound r ≡ true → entriesForm n room ≡ true
+  form-said h = rw (same-n, same-room) ((clauses r h) .entries-form)
 
-  pub sum-said : {x : ℕ} → x ≡ sumOf (limits (readEntries n (part r 32 416))) → x ≡ sumOf (limits ((readRow r) .entries))
-  sum-said q = q ∙ ap (λ (i : ℕ). sumOf (limits (readEntries i (part r 32 416)))) same-n ∙ ap sumOf (sym (limits-read r size))
+  pub label-said : (e : Entry) {x : Bool} → x ≡ every (λ l. not (sameLabel l (e .label))) (labels (readEntries n room)) → x ≡ newLabel r e
+  unfolding readRow
+  label-said e q = q ∙ rw (same-n, same-room)
+
+  pub sum-said : {x : ℕ} → x ≡ sumOf (limits (readEntries n room)) → x ≡ sumOf (limits ((readRow r) .entries))
+  unfolding readRow
+  sum-said q = q ∙ rw (same-n, same-room)
 
 module _ (r : List ℕ) (e : Entry) (h : sound r ≡ true) where
   after-13 : entryNumber r e

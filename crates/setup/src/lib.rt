@@ -8,7 +8,7 @@ ghost use Prim.Native.Nat.{_+_, _-_, _*_, _≤_, _<_};
 ghost use lib.ListN.{length};
 ghost use Rattle.octets.specs.Choice.{within};
 ghost use Rattle.octets.specs.Lists.{every};
-ghost use Rattle.table.specs.TheTable.{readEntries, readRow, rowAt, rowBytes, withRow};
+ghost use Rattle.table.specs.TheTable.{readEntries, readRow, rowAt, rowBytes, rowLength, withRow};
 ghost use Rattle.table.specs.Soundness.{entriesForm, isName, labels, sameLabel, sound};
 ghost use Rattle.setup.specs.SetUp.{add, clear, enter, entryNumber, left};
 ghost use Rattle.changes.specs.Changes.{named, withEntry};
@@ -40,11 +40,11 @@ fn is_name(name: &[u8]) -> bool
 
 // Row i is that of a new subscriber.
 fn enter_row(table: &mut [u8], i: usize, name: &[u8])
-    requires { ⌜ (4608 * i + 4608 ≤ length (now table)) × (length (now name) ≤ 15) ⌝ }
+    requires { ⌜ (rowLength * i + rowLength ≤ length (now table)) × (length (now name) ≤ 15) ⌝ }
     ensures { λ _. ⌜ now (table .exit) ≡ withRow (now (table .entry)) i (rowBytes (named (now (name .entry)))) ⌝ }
 {
-    let a = 4608 * i;
-    let e = a + 4608;
+    let a = table::ROW_LENGTH * i;
+    let e = a + table::ROW_LENGTH;
     changes::new_row(&mut table[a..e], name);
 }
 
@@ -76,9 +76,7 @@ fn label_new(room: &[u8], n: usize, label: &[u8]) -> bool
 {
     let mut i: usize = 0;
     while i < n {
-        let from = 104 * i + 1;
-        let to = from + octets::long(room[104 * i]);
-        if forms::same_label(&room[from..to], label) {
+        if forms::same_label(row::label(room, i), label) {
             return false;
         }
         i += 1;
@@ -113,14 +111,15 @@ fn next_number(row: &[u8], label: &[u8], limit: u8, flags: u8) -> u32
     if !entry_given(label, limit, flags) {
         return 14;
     }
-    let n = octets::long(row[18]);
-    if !label_new(&row[32..448], n, label) {
+    let n = octets::long(row::entry_count(row));
+    let entries = row::entries_room(row);
+    if !label_new(entries, n, label) {
         return 15;
     }
     if 4 <= n {
         return 16;
     }
-    if 8 < forms::limits_sum(&row[32..448], n) + octets::wide(limit) {
+    if 8 < forms::limits_sum(entries, n) + octets::wide(limit) {
         return 17;
     }
     0
@@ -128,19 +127,19 @@ fn next_number(row: &[u8], label: &[u8], limit: u8, flags: u8) -> u32
 
 // The entry behind the others of row i.
 fn add_entry(table: &mut [u8], i: usize, label: &[u8], flags: u8, limit: u8)
-    requires { ⌜ (4608 * i + 4608 ≤ length (now table)) × (sound (rowAt (now table) i) ≡ true) × (length ((readRow (rowAt (now table) i)) .entries) < 4)
+    requires { ⌜ (rowLength * i + rowLength ≤ length (now table)) × (sound (rowAt (now table) i) ≡ true) × (length ((readRow (rowAt (now table) i)) .entries) < 4)
         × (length (now label) ≤ 100) ⌝ }
     ensures { λ _. ⌜ now (table .exit)
         ≡ withRow (now (table .entry)) i (rowBytes (withEntry (record { label = now (label .entry); flags = flags; limit = limit }) (readRow (rowAt (now (table .entry)) i)))) ⌝ }
 {
-    let a = 4608 * i;
-    let e = a + 4608;
+    let a = table::ROW_LENGTH * i;
+    let e = a + table::ROW_LENGTH;
     changes::append_entry(&mut table[a..e], label, flags, limit);
 }
 
 // The number that a row gives to an entry. Nothing but its soundness is tested in an unsound row.
 fn entry_number(row: &[u8], label: &[u8], limit: u8, flags: u8) -> u32
-    requires { ⌜ length (now row) ≡ 4608 ⌝ }
+    requires { ⌜ length (now row) ≡ rowLength ⌝ }
     ensures { λ r. ⌜ r ≡ entryNumber (now (row .entry)) (record { label = now (label .entry); flags = flags; limit = limit }) ⌝ }
 {
     if !soundness::row_sound(row) {
@@ -161,8 +160,8 @@ pub fn add(table: &mut [u8], name: &[u8], label: &[u8], limit: u8, flags: u8) ->
     let RowFound::At(i) = table::lookup(table, name) else {
         return 12;
     };
-    let a = 4608 * i;
-    let e = a + 4608;
+    let a = table::ROW_LENGTH * i;
+    let e = a + table::ROW_LENGTH;
     let m = entry_number(&table[a..e], label, limit, flags);
     if m != 0 {
         return m;

@@ -9,38 +9,23 @@ use native.Mathlib.Omega.{arith}
 use borrow.Author.Tests.{eqb-true, eqb-false, leb-true, leb-false, ne-eqb}
 use lib.Count.{ones, onesIn}
 use lib.Dec.{eqb, leb}
-use lib.ListN.{length, getD, take, drop}
-use lib.Seq.{getD-drop, getD-take, take-all, take-suc}
+use lib.ListN.{length, getD, take, drop, length-take}
+use lib.Seq.{getD-take, take-all, take-suc}
 use Rattle.octets.specs.Choice.{pick, within}
 use Rattle.octets.specs.Lists.{counted, distinct, every, isOn, upTo0}
-use Rattle.octets.specs.Texts.{part}
 use Rattle.octets.proofs.Lists.{and-left, and-right, by-test, distinct-snoc, eqb-comm, every-append, every-imp, every-one, in-within, on-cons, on-first, within-high, within-low}
-use Rattle.octets.proofs.Texts.{length-part}
 use Rattle.soundness.proofs.Bits.{ones-adds}
-use Rattle.table.proofs.Form.{part-take, up-to-length, up-to-part}
+use Rattle.table.proofs.Form.{up-to-length, up-to-part}
 use Rattle.table.proofs.Sound.{at-counted, bit-of}
 use Rattle.table.proofs.Tests.{clash}
 use Rattle.table.specs.Soundness.{inUse, lineExact}
-use Rattle.table.specs.TheTable.{block, fromBits, orderLine, places, usedBits}
+use Rattle.table.specs.TheTable.{block, fromBits, lineRoom, orderLine, places, usedBits}
 
--- BLOCK 0 READ FROM THE ROW
+-- THE LINE
 
-pub head-byte : (r : List ℕ) (i : ℕ) → i < 512 → getD (block r 0) i 0 ≡ getD r i 0
-head-byte r i h = getD-take 512 r i 0 h
-
-pub head-part : (r : List ℕ) (a n : ℕ) → a + n ≤ 512 → part (block r 0) a n ≡ part r a n
-head-part r a n h = part-take 512 a n r h
-
-pub line-is : (r : List ℕ) → orderLine r ≡ upTo0 (part r 20 8)
+pub line-most : (r : List ℕ) → length (orderLine r) ≤ 8
 unfolding orderLine
-line-is r = ap upTo0 (head-part r 20 8 (omega arith))
-
-pub used-at : (r : List ℕ) (k : ℕ) → inUse r k ≡ eqb (getD r 17 0 / 2 ^ (k - 1) % 2) 1
-unfolding inUse
-used-at r k = ap (λ (x : ℕ). eqb (x / 2 ^ (k - 1) % 2) 1) (head-byte r 17 (omega arith))
-
-pub line-most : (r : List ℕ) → length r ≡ 4608 → length (orderLine r) ≤ 8
-line-most r h = rw (line-is r) (omega (arith, up-to-length (part r 20 8), length-part r 20 8 (omega arith)))
+line-most r = omega (arith, up-to-length (lineRoom r), length-take 8 (drop 20 (block r 0)))
 
 up-to-at : (l : List ℕ) (i : ℕ) → i < length (upTo0 l) → getD (upTo0 l) i 0 ≡ getD l i 0
 up-to-at l i h = ap (λ (t : List ℕ). getD t i 0) (up-to-part l) ∙ getD-take (length (upTo0 l)) l i 0 h
@@ -53,16 +38,13 @@ up-to-low (x ∷ l) zero h =
 up-to-low (x ∷ l) (suc i) h =
     by-test (eqb x 0) (λ e. absurd (omega (arith, rw e at h))) (λ e. rw e (up-to-low l i (omega (arith, rw e at h))))
 
-pub line-at : (r : List ℕ) (i : ℕ) → length r ≡ 4608 → i < length (orderLine r) → getD (orderLine r) i 0 ≡ getD r (20 + i) 0
-line-at r i h l =
-    let m : i < 8 = omega (arith, line-most r h) in
-    let k : i < length (upTo0 (part r 20 8)) = rw (line-is r) at l in
-    ap (λ (t : List ℕ). getD t i 0) (line-is r) ∙ up-to-at (part r 20 8) i k ∙ getD-take 8 (drop 20 r) i 0 m ∙ getD-drop 20 r i 0
+pub line-at : (r : List ℕ) (i : ℕ) → i < length (orderLine r) → getD (orderLine r) i 0 ≡ getD (lineRoom r) i 0
+unfolding orderLine
+line-at r i l = up-to-at (lineRoom r) i l
 
-pub line-low : (r : List ℕ) (i : ℕ) → length r ≡ 4608 → i < length (orderLine r) → 1 ≤ getD r (20 + i) 0
-line-low r i h l =
-    let k : i < length (upTo0 (part r 20 8)) = rw (line-is r) at l in
-    omega (arith, up-to-low (part r 20 8) i k, ap (λ (t : List ℕ). getD t i 0) (line-is r), line-at r i h l)
+pub line-low : (r : List ℕ) (i : ℕ) → i < length (orderLine r) → 1 ≤ getD (lineRoom r) i 0
+unfolding orderLine
+line-low r i l = omega (arith, up-to-low (lineRoom r) i l, line-at r i l)
 
 -- THE BITS OF A LINE
 
@@ -154,14 +136,14 @@ unfolding lineExact
 line-twice r i h o = rw (twice (orderLine r) i h o) (sym (and-false (every (within 1 8) (orderLine r))))
 
 pub line-end : (r : List ℕ) (i used : ℕ) → length (orderLine r) ≤ i → used ≡ usedBits (take i (orderLine r))
-    → every (within 1 8) (take i (orderLine r)) ≡ true → distinct eqb (take i (orderLine r)) ≡ true → eqb (getD r 17 0) used ≡ lineExact r
+    → every (within 1 8) (take i (orderLine r)) ≡ true → distinct eqb (take i (orderLine r)) ≡ true → eqb (getD (block r 0) 17 0) used ≡ lineExact r
 unfolding lineExact
 line-end r i used h u e d =
     let all : take i (orderLine r) ≡ orderLine r = take-all i (orderLine r) h in
     let e' : every (within 1 8) (orderLine r) ≡ true = rw all at e in
     let d' : distinct eqb (orderLine r) ≡ true = rw all at d in
     let u' : used ≡ usedBits (orderLine r) = rw all at u in
-    rw (e', d', u') (ap (λ (x : ℕ). eqb x (usedBits (orderLine r))) (sym (head-byte r 17 (omega arith))))
+    rw (e', d', u')
 
 not-on : (l : List ℕ) (p : ℕ) → isOn l p ≡ false → every (λ x. not (eqb x p)) l ≡ true
 unfolding isOn
@@ -216,10 +198,10 @@ exact r h =
       bits = eqb-true (getD (block r 0) 17 0) (usedBits (orderLine r)) (and-right (distinct eqb (orderLine r)) _ h1);
     }
 
-pub ones-line : (r : List ℕ) → lineExact r ≡ true → ones (getD r 17 0) ≡ length (orderLine r)
+pub ones-line : (r : List ℕ) → lineExact r ≡ true → ones (getD (block r 0) 17 0) ≡ length (orderLine r)
 ones-line r h =
     let x : Exact r = exact r h in
-    ap ones (sym (head-byte r 17 (omega arith)) ∙ x .bits) ∙ ones-of (orderLine r) (x .in-range) (x .once)
+    ap ones (x .bits) ∙ ones-of (orderLine r) (x .in-range) (x .once)
 
 -- each place on an exact line
 pub line-high-at : (r : List ℕ) (i : ℕ) → lineExact r ≡ true → i < length (orderLine r) → getD (orderLine r) i 0 ≤ 8
@@ -242,5 +224,10 @@ pub places-all : (f : ℕ → Bool) → every f (counted 1 (9 - 1)) ≡ every f 
 unfolding places
 places-all f = refl
 
-pub place-high : (r : List ℕ) (i : ℕ) → length r ≡ 4608 → lineExact r ≡ true → i < length (orderLine r) → getD r (20 + i) 0 ≤ 8
-place-high r i h x l = omega (arith, line-high-at r i x l, line-at r i h l)
+pub place-high : (r : List ℕ) (i : ℕ) → lineExact r ≡ true → i < length (orderLine r) → getD (lineRoom r) i 0 ≤ 8
+place-high r i x l = omega (arith, line-high-at r i x l, line-at r i l)
+
+-- whether place k is in use, by byte 17
+pub used-by : (r : List ℕ) (k x : ℕ) → x ≡ getD (block r 0) 17 0 → eqb (x / 2 ^ (k - 1) % 2) 1 ≡ inUse r k
+unfolding inUse
+used-by r k x e = ap (λ (y : ℕ). eqb (y / 2 ^ (k - 1) % 2) 1) e

@@ -6,7 +6,7 @@ ghost use Prim.Native.Nat.{_+_, _-_, _*_, _/_, _%_, _^_, _<_, _≤_};
 ghost use lib.ListN.{length, getD, drop};
 ghost use lib.Dec.{eqb};
 ghost use Rattle.octets.specs.Texts.{same};
-ghost use Rattle.table.specs.TheTable.{orderLine, places, readRow, sums};
+ghost use Rattle.table.specs.TheTable.{block, orderLine, places, readRow, rowLength};
 ghost use Rattle.octets.specs.Lists.{every, distinct};
 ghost use Rattle.table.specs.Soundness.{labels, limits, lineExact, sessions, onEntry, underLimits, sound};
 ghost use Rattle.forms.specs.RowTests.{placeSound, headSound};
@@ -31,14 +31,14 @@ fn with_place(bits: u8, k: usize) -> u8
 
 // The order line is the places in use. Its bits are gathered, and none comes twice.
 pub fn line_exact(r: &[u8]) -> bool
-    requires { ⌜ length (now r) ≡ 4608 ⌝ }
+    requires { ⌜ length (now r) ≡ rowLength ⌝ }
     ensures { λ x. ⌜ x ≡ lineExact (now (r .entry)) ⌝ }
 {
-    let n = forms::line_length(&r[20..28]);
+    let n = forms::line_length(row::line_room(r));
     let mut used: u8 = 0;
     let mut i: usize = 0;
     while i < n {
-        let k = octets::long(r[20 + i]);
+        let k = row::line_place(r, i);
         if 8 < k {
             return false;
         }
@@ -48,33 +48,32 @@ pub fn line_exact(r: &[u8]) -> bool
         used = with_place(used, k);
         i += 1;
     }
-    r[17] == used
+    row::used_bits(r) == used
 }
 
 // How many accesses there are: the ones of byte 17.
 pub fn accesses_in_use(r: &[u8]) -> usize
-    requires { ⌜ (length (now r) ≡ 4608) × (lineExact (now r) ≡ true) ⌝ }
+    requires { ⌜ (length (now r) ≡ rowLength) × (lineExact (now r) ≡ true) ⌝ }
     ensures { λ x. ⌜ (x ≡ length (orderLine (now (r .entry)))) × (x ≤ 8) ⌝ }
 {
-    u8::count_ones(r[17]) as usize
+    u8::count_ones(row::used_bits(r)) as usize
 }
 
 // THE PLACES
 
 fn place_sound(r: &[u8], k: usize, n: u8) -> bool
-    requires { ⌜ (length (now r) ≡ 4608) × (1 ≤ k) × (k ≤ 8) ⌝ }
+    requires { ⌜ (length (now r) ≡ rowLength) × (1 ≤ k) × (k ≤ 8) ⌝ }
     ensures { λ x. ⌜ x ≡ placeSound n (now (r .entry)) k ⌝ }
 {
-    let at = 512 * k;
-    let end = at + 512;
-    if in_use(r[17], k) {
-        return forms::access_sound(&r[at..end], n);
+    let block = row::place(r, k);
+    if in_use(row::used_bits(r), k) {
+        return forms::access_sound(block, n);
     }
-    octets::all_zero(&r[at..end])
+    octets::all_zero(block)
 }
 
 fn places_sound(r: &[u8], n: u8) -> bool
-    requires { ⌜ length (now r) ≡ 4608 ⌝ }
+    requires { ⌜ length (now r) ≡ rowLength ⌝ }
     ensures { λ x. ⌜ x ≡ every (placeSound n (now (r .entry))) places ⌝ }
 {
     let mut k: usize = 1;
@@ -91,18 +90,14 @@ fn places_sound(r: &[u8], n: u8) -> bool
 
 // No Session-Id behind that of the i-th access is the same.
 fn session_once(r: &[u8], n: usize, i: usize) -> bool
-    requires { ⌜ (length (now r) ≡ 4608) × (lineExact (now r) ≡ true) × (n ≡ length (orderLine (now r))) × (i < n) ⌝ }
+    requires { ⌜ (length (now r) ≡ rowLength) × (lineExact (now r) ≡ true) × (n ≡ length (orderLine (now r))) × (i < n) ⌝ }
     ensures { λ x. ⌜ x ≡ every (λ y. not (same (getD (sessions ((readRow (now (r .entry))) .accesses)) i []) y)) (drop (i + 1) (sessions ((readRow (now (r .entry))) .accesses))) ⌝ }
 {
-    let a = octets::long(r[20 + i]);
-    let at = 512 * a + 8;
-    let end = at + octets::long(r[512 * a + 2]);
+    let this = row::session(r, row::line_place(r, i));
     let mut j: usize = i + 1;
     while j < n {
-        let b = octets::long(r[20 + j]);
-        let from = 512 * b + 8;
-        let to = from + octets::long(r[512 * b + 2]);
-        if octets::same_bytes(&r[at..end], &r[from..to]) {
+        let other = row::session(r, row::line_place(r, j));
+        if octets::same_bytes(this, other) {
             return false;
         }
         j += 1;
@@ -111,7 +106,7 @@ fn session_once(r: &[u8], n: usize, i: usize) -> bool
 }
 
 pub fn sessions_differ(r: &[u8]) -> bool
-    requires { ⌜ (length (now r) ≡ 4608) × (lineExact (now r) ≡ true) ⌝ }
+    requires { ⌜ (length (now r) ≡ rowLength) × (lineExact (now r) ≡ true) ⌝ }
     ensures { λ x. ⌜ x ≡ distinct same (sessions ((readRow (now (r .entry))) .accesses)) ⌝ }
 {
     let n = accesses_in_use(r);
@@ -127,15 +122,15 @@ pub fn sessions_differ(r: &[u8]) -> bool
 
 // How many accesses are on entry e.
 pub fn accesses_on(r: &[u8], e: usize) -> usize
-    requires { ⌜ (length (now r) ≡ 4608) × (lineExact (now r) ≡ true) ⌝ }
+    requires { ⌜ (length (now r) ≡ rowLength) × (lineExact (now r) ≡ true) ⌝ }
     ensures { λ x. ⌜ (x ≡ length (onEntry e ((readRow (now (r .entry))) .accesses))) × (x ≤ 8) ⌝ }
 {
     let n = accesses_in_use(r);
     let mut count: usize = 0;
     let mut i: usize = 0;
     while i < n {
-        let k = octets::long(r[20 + i]);
-        if octets::long(r[512 * k + 1]) == e {
+        let on = row::entry_of(r, row::line_place(r, i));
+        if octets::long(on) == e {
             count += 1;
         }
         i += 1;
@@ -145,12 +140,13 @@ pub fn accesses_on(r: &[u8], e: usize) -> usize
 
 // No entry has more accesses than its limit.
 pub fn under_limits(r: &[u8], n: usize) -> bool
-    requires { ⌜ (length (now r) ≡ 4608) × (lineExact (now r) ≡ true) × (n ≡ getD (now r) 18 0) × (n ≤ 4) ⌝ }
+    requires { ⌜ (length (now r) ≡ rowLength) × (lineExact (now r) ≡ true) × (n ≡ getD (block (now r) 0) 18 0) × (n ≤ 4) ⌝ }
     ensures { λ x. ⌜ x ≡ underLimits 1 (limits ((readRow (now (r .entry))) .entries)) ((readRow (now (r .entry))) .accesses) ⌝ }
 {
+    let entries = row::entries_room(r);
     let mut i: usize = 0;
     while i < n {
-        if octets::long(r[104 * i + 134]) < accesses_on(r, i + 1) {
+        if octets::long(row::limit(entries, i)) < accesses_on(r, i + 1) {
             return false;
         }
         i += 1;
@@ -162,25 +158,26 @@ pub fn under_limits(r: &[u8], n: usize) -> bool
 
 // Block 0 but for its sums and its order line's places: its form, the entries' form, their labels and limits.
 fn head_sound(r: &[u8]) -> bool
-    requires { ⌜ length (now r) ≡ 4608 ⌝ }
+    requires { ⌜ length (now r) ≡ rowLength ⌝ }
     ensures { λ x. ⌜ x ≡ headSound (now (r .entry)) ⌝ }
 {
-    if !forms::head_form(&r[0..512]) {
+    if !forms::head_form(row::head(r)) {
         return false;
     }
-    let n = octets::long(r[18]);
-    if !forms::entries_form(&r[32..448], n) {
+    let n = octets::long(row::entry_count(r));
+    let entries = row::entries_room(r);
+    if !forms::entries_form(entries, n) {
         return false;
     }
-    if !forms::labels_differ(&r[32..448], n) {
+    if !forms::labels_differ(entries, n) {
         return false;
     }
-    forms::limits_sum(&r[32..448], n) <= 8
+    forms::limits_sum(entries, n) <= 8
 }
 
 // A row is sound. The cheap tests come first, the sums of block 0 last.
 pub fn row_sound(r: &[u8]) -> bool
-    requires { ⌜ length (now r) ≡ 4608 ⌝ }
+    requires { ⌜ length (now r) ≡ rowLength ⌝ }
     ensures { λ x. ⌜ x ≡ sound (now (r .entry)) ⌝ }
 {
     if !head_sound(r) {
@@ -189,14 +186,15 @@ pub fn row_sound(r: &[u8]) -> bool
     if !line_exact(r) {
         return false;
     }
-    if !places_sound(r, r[18]) {
+    let n = row::entry_count(r);
+    if !places_sound(r, n) {
         return false;
     }
     if !sessions_differ(r) {
         return false;
     }
-    if !under_limits(r, octets::long(r[18])) {
+    if !under_limits(r, octets::long(n)) {
         return false;
     }
-    forms::block_sums_agree(&r[0..512])
+    forms::block_sums_agree(row::head(r))
 }

@@ -13,6 +13,7 @@ use Rattle.octets.specs.Lists.{counted, distinct, every, upTo0}
 use Rattle.octets.specs.Texts.{filled, part, same, zeros}
 use Rattle.octets.proofs.Lists.{and-left, and-right, by-test, every-imp, every-map, same-eq, same-refl, within-high, within-low}
 use Rattle.octets.proofs.Texts.{length-filled, length-zeros}
+use Rattle.octets.proofs.Pieces.{drop-past, getD-past}
 use Rattle.table.proofs.Good.{Entered, Fits, Good, Standing, at-most-eight, good-is, goodAccess, goodEntry, is-good, saidSound, standing}
 use Rattle.table.specs.Soundness.{isName}
 use Rattle.table.specs.TheTable.{Access, Entry, Subscriber, accessBytes, block, entriesBytes, entryBytes, headBytes, line, orderLine, placeBytes, places, placesBytes, readAccess, readEntries, readEntry, readRow, rowBytes, rowLength, sealed, sumsFrom, usedBits}
@@ -54,14 +55,6 @@ length-places a (suc n) b = rw (length-append, length-place, length-places a n (
 pub length-row : (s : Subscriber) → length (rowBytes s) ≡ rowLength
 unfolding rowBytes places
 length-row s = rw (length-append, length-head, length-places (s .accesses) 8 1)
-
--- what stands behind a first part of length n
-
-pub drop-past : (n m : ℕ) (a b : List ℕ) → length a ≡ n → drop (n + m) (a ++ b) ≡ drop m b
-drop-past n m a b h = rw (← h) (drop-append-add a b m)
-
-pub getD-past : (n m : ℕ) (a b : List ℕ) → length a ≡ n → getD (a ++ b) (n + m) 0 ≡ getD b m 0
-getD-past n m a b h = rw (← h) (getD-append-add a b m 0)
 
 -- a text in its room
 pub text-in : (s : List ℕ) (n : ℕ) (rest : List ℕ) → length s ≤ n → take (length s) (filled s n ++ rest) ≡ s

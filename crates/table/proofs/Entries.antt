@@ -1,7 +1,7 @@
 -- The entries of block 0, one by one along their room.
-use mathlib.Core.Path.{_≡_, sym, ap, _∙_}
+use mathlib.Core.Path.{_≡_, refl, ap, _∙_}
 use mathlib.Core.Bool.{true, _&&_}
-use mathlib.Core.List.{List, []}
+use mathlib.Core.List.{List, [], _∷_, map}
 use Prim.Native.Nat.{ℕ, zero, suc, _+_, _-_, _*_, _≤_, _<_}
 use native.Mathlib.Omega.{arith}
 use native.Mathlib.Numerals.{add-one}
@@ -11,10 +11,9 @@ use Rattle.octets.specs.Choice.{within}
 use Rattle.octets.specs.Lists.{sumOf}
 use Rattle.octets.specs.Texts.{part, allZero}
 use Rattle.octets.proofs.Lists.{and-left, and-right, within-high}
-use Rattle.table.proofs.Form.{length-read, part-take}
-use Rattle.table.proofs.Tests.{lent-part}
+use Rattle.table.proofs.Form.{length-read}
 use Rattle.table.specs.Soundness.{entriesForm, entryForm, labels, limits}
-use Rattle.table.specs.TheTable.{readEntries, readEntry}
+use Rattle.table.specs.TheTable.{Entry, readEntries, readEntry}
 
 -- entry i and those behind it
 next-entry : (i : ℕ) → 104 * i + 104 ≡ 104 * (i + 1)
@@ -36,14 +35,31 @@ entries-all n t = let q : n - 0 ≡ n = omega arith in rw q
 
 -- what entry i says
 
-past-entry : (i k : ℕ) → 104 + (104 * i + k) ≡ 104 * suc i + k
-past-entry i k = omega arith
+pub entry-at : (n i : ℕ) (t : List ℕ) (d : Entry) → i < n → getD (readEntries n t) i d ≡ readEntry (part t (104 * i) 104)
+unfolding readEntries
+entry-at zero i t d h = absurd (omega arith)
+entry-at (suc n) zero t d h = refl
+entry-at (suc n) (suc i) t d h =
+    let p : 104 + 104 * i ≡ 104 * suc i = omega arith in
+    entry-at n i (drop 104 t) d (omega arith) ∙ ap (λ (s : List ℕ). readEntry (take 104 s)) (drop-drop (104 * i) 104 t ∙ ap (λ (k : ℕ). drop k t) p)
 
-pub limits-at : (n i : ℕ) (t : List ℕ) → i < n → getD (limits (readEntries n t)) i 0 ≡ getD t (104 * i + 102) 0
-unfolding limits readEntries readEntry
-limits-at zero i t h = absurd (omega arith)
-limits-at (suc n) zero t h = getD-take 104 t 102 0 (omega arith)
-limits-at (suc n) (suc i) t h = limits-at n i (drop 104 t) (omega arith) ∙ getD-drop 104 t (104 * i + 102) 0 ∙ ap (λ (k : ℕ). getD t k 0) (past-entry i 102)
+pub map-at : {A B : Type 0} (f : A → B) (a : A) (b : B) (l : List A) (i : ℕ) → i < length l → getD (map f l) i b ≡ f (getD l i a)
+map-at f a b [] i h = absurd (omega arith)
+map-at f a b (x ∷ l) zero h = refl
+map-at f a b (x ∷ l) (suc i) h = map-at f a b l i (omega arith)
+
+of-entry : {A : Type 0} (f : Entry → A) (b : A) (n i : ℕ) (t : List ℕ) → i < n → getD (map f (readEntries n t)) i b ≡ f (readEntry (part t (104 * i) 104))
+of-entry f b n i t h =
+    let none : Entry = record { label = []; flags = 0; limit = 0 } in
+    map-at f none b (readEntries n t) i (rw (length-read n t) h) ∙ ap f (entry-at n i t none h)
+
+pub limits-at : (n i : ℕ) (t : List ℕ) → i < n → getD (limits (readEntries n t)) i 0 ≡ (readEntry (part t (104 * i) 104)) .limit
+unfolding limits
+limits-at n i t h = of-entry (λ (e : Entry). e .limit) 0 n i t h
+
+pub labels-at : (n i : ℕ) (t : List ℕ) → i < n → getD (labels (readEntries n t)) i [] ≡ (readEntry (part t (104 * i) 104)) .label
+unfolding labels
+labels-at n i t h = of-entry (λ (e : Entry). e .label) [] n i t h
 
 pub length-limits-read : (n : ℕ) (t : List ℕ) → length (limits (readEntries n t)) ≡ n
 unfolding limits
@@ -65,18 +81,6 @@ label-size (suc n) (suc i) t h f =
     let q : 104 + 104 * i ≡ 104 * suc i = omega arith in
     omega (arith, getD-drop 104 t (104 * i) 0, ap (λ (k : ℕ). getD t k 0) q)
 
-pub labels-at : (n i : ℕ) (t : List ℕ) → i < n → entriesForm n t ≡ true → getD (labels (readEntries n t)) i [] ≡ part t (104 * i + 1) (getD t (104 * i) 0)
-unfolding labels readEntries readEntry entriesForm
-labels-at zero i t h f = absurd (omega arith)
-labels-at (suc n) zero t h f =
-    let s : getD t 0 0 ≤ 100 = label-size (suc n) 0 t h f in
-    let g : getD (take 104 t) 0 0 ≡ getD t 0 0 = getD-take 104 t 0 0 (omega arith) in
-    rw g (part-take 104 1 (getD t 0 0) t (omega arith))
-labels-at (suc n) (suc i) t h f =
-    let q : 104 + 104 * i ≡ 104 * suc i = omega arith in
-    labels-at n i (drop 104 t) (omega arith) (and-right (entryForm (take 104 t)) _ f)
-    ∙ rw (getD-drop 104 t (104 * i) 0, drop-drop (104 * i + 1) 104 t, q, past-entry i 1)
-
 -- sums of a list from element i on
 pub sum-turn : (xs : List ℕ) (i : ℕ) → i < length xs → sumOf (drop i xs) ≡ getD xs i 0 + sumOf (drop (i + 1) xs)
 unfolding sumOf
@@ -85,8 +89,3 @@ sum-turn xs i h = rw (drop-cons xs i 0 h, add-one)
 pub sum-end : (xs : List ℕ) (i : ℕ) → length xs ≤ i → sumOf (drop i xs) ≡ 0
 unfolding sumOf
 sum-end xs i h = rw (drop-of-length-le xs h)
-
--- the part that is lent for label i is that label
-pub label-lent : (n i m : ℕ) (t : List ℕ) → i < n → entriesForm n t ≡ true → m ≡ getD t (104 * i) 0
-    → take (104 * i + 1 + m - (104 * i + 1)) (drop (104 * i + 1) t) ≡ getD (labels (readEntries n t)) i []
-label-lent n i m t h f e = lent-part t (104 * i + 1) m (getD t (104 * i) 0) e ∙ sym (labels-at n i t h f)

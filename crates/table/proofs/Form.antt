@@ -13,6 +13,7 @@ use Rattle.octets.specs.Lists.{counted, every, isOn, upTo0}
 use Rattle.octets.specs.Texts.{allZero, filled, part, same, zeros}
 use Rattle.octets.proofs.Lists.{and-left, and-right, by-test, every-map, same-eq, same-refl, within-high}
 use Rattle.octets.proofs.Texts.{length-filled, length-part, length-zeros}
+use Rattle.octets.proofs.Pieces.{drop-take, part-take, take-zeros}
 use Rattle.table.proofs.Bytes.{fill, length-entry, length-head, length-place, name-length}
 use Rattle.table.proofs.Good.{Good, Standing, good, goodAccess, goodEntry, is-good, places-eight, saidSound, standing}
 use Rattle.table.specs.Soundness.{zeroBehind}
@@ -40,18 +41,6 @@ same-append (c ∷ x) y (d ∷ r) = rw (same-append x y r, and-assoc)
 same-past : (n : ℕ) (x y r : List ℕ) → length x ≡ n → same r (x ++ y) ≡ same (take n r) x && same (drop n r) y
 same-past n x y r h = rw (← h) (same-append x y r)
 
-pub part-take : (m i n : ℕ) (b : List ℕ) → i + n ≤ m → part (take m b) i n ≡ part b i n
-part-take m zero n b h = take-take n m b (omega arith)
-part-take zero (suc i) n b h = absurd (omega arith)
-part-take (suc m) (suc i) n [] h = refl
-part-take (suc m) (suc i) n (x ∷ b) h = part-take m i n b (omega arith)
-
-pub drop-take : (i n m : ℕ) (b : List ℕ) → i + n ≡ m → drop i (take m b) ≡ part b i n
-drop-take zero n m b h = let q : m ≡ n = omega arith in rw q
-drop-take (suc i) n zero b h = absurd (omega arith)
-drop-take (suc i) n (suc m) [] h = sym (lib.Seq.take-nil n)
-drop-take (suc i) n (suc m) (x ∷ b) h = drop-take i n m b (omega arith)
-
 same-sealed : (x b : List ℕ) → length x ≡ 510 → same b (sealed x) ≡ same (take 510 b) x && sumOk b
 unfolding sealed sumOk
 same-sealed x b h =
@@ -60,13 +49,7 @@ same-sealed x b h =
     (λ e. rw (e, same-eq (take 510 b) x e))
     (λ e. rw e)
 
--- A room is filled with the text that is read from it exactly if zeros stand behind that text (`same-room`).
-pub take-zeros : (j m : ℕ) → j ≤ m → take j (zeros m) ≡ zeros j
-unfolding zeros
-take-zeros zero m h = refl
-take-zeros (suc j) zero h = absurd (omega arith)
-take-zeros (suc j) (suc m) h = ap (λ (t : List ℕ). 0 ∷ t) (take-zeros j m (omega arith))
-
+-- A room is filled with the text that is read from it exactly if zeros stand behind that text.
 same-room : (room : List ℕ) (m n : ℕ) → length room ≡ m → n ≤ m → same room (filled (take n room) m) ≡ zeroBehind n room
 unfolding zeroBehind allZero
 same-room room m n h le =
@@ -165,7 +148,7 @@ same-places r a b (suc n) h =
     let q : 512 * b + 512 ≡ 512 * suc b = omega arith in
     rw (same-past 512 (placeBytes a b) (placesBytes a (counted (suc b) n)) (drop (512 * b) r) (length-place a b), drop-drop 512 (512 * b) r, q, same-places r a (suc b) n (omega arith))
 
-same-row : (r : List ℕ) (s : Subscriber) → length r ≡ 4608
+same-row : (r : List ℕ) (s : Subscriber) → length r ≡ rowLength
     → same r (rowBytes s) ≡ same (block r 0) (headBytes s) && every (λ k. same (block r k) (placeBytes (s .accesses) k)) places
 unfolding rowBytes places
 same-row r s h = rw (same-past 512 (headBytes s) (placesBytes (s .accesses) (counted 1 8)) r (length-head s), same-places r (s .accesses) 1 8 h)
@@ -197,7 +180,7 @@ unfolding every
 every-cong f g p [] h c = refl
 every-cong f g p (k ∷ ks) h c = rw (c k (and-left (p k) (every p ks) h), every-cong f g p ks (and-right (p k) _ h) c)
 
-pub length-block : (r : List ℕ) (k : ℕ) → length r ≡ 4608 → k ≤ 8 → length (block r k) ≡ 512
+pub length-block : (r : List ℕ) (k : ℕ) → length r ≡ rowLength → k ≤ 8 → length (block r k) ≡ 512
 length-block r k h le = length-part r (512 * k) 512 (omega arith)
 
 text-bound : (b : List ℕ) (i n : ℕ) → length b ≡ 512 → i ≤ 264 → length (part b i n) ≤ 128 → n ≤ 128
@@ -215,7 +198,7 @@ bounded k b n h t =
     (text-bound b 136 (getD b 3 0) h (omega arith) (within-high 1 128 _ (t .host-fits)))
     (text-bound b 264 (getD b 5 0) h (omega arith) (leb-true _ 128 (t .policy-fits)))
 
-place-form : (r : List ℕ) (n : ℕ) → length r ≡ 4608 → every (goodAccess n) ((readRow r) .accesses) ≡ true → (k : ℕ) → within 1 8 k ≡ true
+place-form : (r : List ℕ) (n : ℕ) → length r ≡ rowLength → every (goodAccess n) ((readRow r) .accesses) ≡ true → (k : ℕ) → within 1 8 k ≡ true
     → same (block r k) (placeBytes ((readRow r) .accesses) k) ≡ placeTests r k
 unfolding placeTests readRow pick
 place-form r n h g k w =
@@ -387,7 +370,7 @@ head-form-of b a la lb n15 n4 g =
 name-bound : (b : List ℕ) → length b ≡ 512 → length (part b 2 (getD b 1 0)) ≤ 15 → getD b 1 0 ≤ 15
 name-bound b h t = omega (arith, simp (length-take, length-drop) at t)
 
-head-form : (r : List ℕ) → length r ≡ 4608 → Good (readRow r) → same (block r 0) (headBytes (readRow r)) ≡ headTests (block r 0)
+head-form : (r : List ℕ) → length r ≡ rowLength → Good (readRow r) → same (block r 0) (headBytes (readRow r)) ≡ headTests (block r 0)
 unfolding readRow orderLine
 head-form r h g =
     let lb : length (block r 0) ≡ 512 = length-block r 0 h (omega arith) in

@@ -1,21 +1,23 @@
 -- The rows of a table: row by row along the cut, and what a table of number 0 is.
 use mathlib.Core.Path.{_≡_, refl, sym, ap, _∙_}
 use mathlib.Core.Bool.{Bool, true, false, _&&_}
-use mathlib.Core.List.{List, _∷_}
+use mathlib.Core.List.{List, [], _∷_}
 use Prim.Native.Nat.{ℕ, zero, suc, _+_, _-_, _*_, _/_, _%_, _≤_, _<_}
+use native.Mathlib.Nat.{mul-zero}
 use native.Mathlib.Omega.{arith}
-use borrow.Author.Tests.{eqb-true, eq-eqb, ne-eqb}
-use lib.Dec.{eqb}
-use lib.ListN.{length, getD, take, drop}
+use borrow.Author.Tests.{eqb-true, eq-eqb, leb-false, leb-true, ne-eqb}
+use lib.Dec.{eqb, leb}
+use lib.ListN.{length, getD, set, take, drop}
 use lib.Seq.{drop-drop, getD-drop, getD-take}
 use Rattle.octets.specs.Choice.{pick, require, within}
-use Rattle.octets.specs.Texts.{part, same, allZero}
+use Rattle.octets.specs.Texts.{part, pieces, put, same, allZero}
 use Rattle.octets.proofs.Choice.{passed}
 use Rattle.octets.specs.Numbers.{low64}
+use Rattle.octets.proofs.Pieces.{joined, join-pieces, length-piece, length-with, next-begins, part-take, piece-other, piece-with, pieces-at, pieces-with, with-same}
 use Rattle.octets.proofs.Texts.{zero-step}
 use Rattle.octets.proofs.Words.{low-eq}
 use Rattle.octets.proofs.Lists.{and-left, and-right, by-test, in-within, same-eq, within-high, within-low}
-use Rattle.table.specs.TheTable.{Found, row, nothing, later, firstRow, rows, cutInRows, rowAt, rowLength, tableNumber, isRowOf}
+use Rattle.table.specs.TheTable.{Found, row, nothing, later, firstRow, foundBy, rows, rowAt, rowLength, tableNumber, isRowOf, withRow}
 
 -- A TABLE OF NUMBER 0
 
@@ -70,42 +72,47 @@ unfolding past
 past-none (row j) = let q : 0 + j ≡ j = omega arith in rw q
 past-none nothing = refl
 
-module _ (f : List ℕ → Bool) (t : List ℕ) where
+-- the first n rows of w bytes, from row i on
+module _ (f : List ℕ → Bool) (w n : ℕ) (t : List ℕ) where
   unfoldable pub searched : ℕ → Found
-  searched i = past i (firstRow f (cutInRows (length t / rowLength - i) (drop (rowLength * i) t)))
+  searched i = past i (firstRow f (pieces w (n - i) (drop (w * i) t)))
 
   -- from the first row on
-  pub search-all : searched 0 ≡ firstRow f (rows t)
-  unfolding searched rows
-  search-all = let q : length t / rowLength - 0 ≡ length t / rowLength = omega arith in rw q (past-none (firstRow f (cutInRows (length t / rowLength) t)))
+  pub search-all : searched 0 ≡ firstRow f (pieces w n t)
+  unfolding searched
+  search-all = let q : n - 0 ≡ n = omega arith in rw (q, mul-zero) (past-none (firstRow f (pieces w n t)))
 
-  cut-row : (i : ℕ) → i < length t / rowLength
-      → cutInRows (length t / rowLength - i) (drop (rowLength * i) t) ≡ rowAt t i ∷ cutInRows (length t / rowLength - (i + 1)) (drop (rowLength * (i + 1)) t)
-  unfolding cutInRows rowAt
+  cut-row : (i : ℕ) → i < n → pieces w (n - i) (drop (w * i) t) ≡ part t (w * i) w ∷ pieces w (n - (i + 1)) (drop (w * (i + 1)) t)
+  unfolding pieces
   cut-row i h =
-      let q : length t / rowLength - i ≡ suc (length t / rowLength - (i + 1)) = omega arith in
-      let p : rowLength * i + rowLength ≡ rowLength * (i + 1) = omega arith in
-      rw (q, drop-drop rowLength (rowLength * i) t, p)
+      let q : n - i ≡ suc (n - (i + 1)) = omega arith in
+      rw (q, drop-drop w (w * i) t, next-begins w i)
 
   -- row i passes; it does not; no row is left
-  pub search-here : (i : ℕ) → i < length t / rowLength → f (rowAt t i) ≡ true → searched i ≡ row i
+  pub search-here : (i : ℕ) → i < n → f (part t (w * i) w) ≡ true → searched i ≡ row i
   unfolding searched firstRow pick past
   search-here i h e = let q : i + 0 ≡ i = omega arith in rw (cut-row i h, e, q)
 
-  pub search-on : (i : ℕ) → i < length t / rowLength → f (rowAt t i) ≡ false → searched (i + 1) ≡ searched i
+  pub search-on : (i : ℕ) → i < n → f (part t (w * i) w) ≡ false → searched (i + 1) ≡ searched i
   unfolding searched firstRow pick
   search-on i h e = rw (cut-row i h, e) (sym (past-later i _))
 
-  pub search-end : (i : ℕ) → length t / rowLength ≤ i → searched i ≡ nothing
-  unfolding searched firstRow past cutInRows
-  search-end i h = let q : length t / rowLength - i ≡ 0 = omega arith in rw q
+  pub search-end : (i : ℕ) → n ≤ i → searched i ≡ nothing
+  unfolding searched firstRow past pieces
+  search-end i h = let q : n - i ≡ 0 = omega arith in rw q
 
   -- rows that do not pass may be skipped
-  pub search-skip : (i : ℕ) → i ≤ length t / rowLength → ((j : ℕ) → j < i → f (rowAt t j) ≡ false) → searched i ≡ searched 0
+  pub search-skip : (i : ℕ) → i ≤ n → ((j : ℕ) → j < i → f (part t (w * j) w) ≡ false) → searched i ≡ searched 0
   search-skip zero h e = refl
   search-skip (suc i) h e =
       let q : suc i ≡ i + 1 = omega arith in
       rw q (search-on i (omega arith) (e i (omega arith))) ∙ search-skip i (omega arith) (λ j l. e j (omega arith))
+
+-- ROW i
+
+pub piece-row : (t : List ℕ) (i : ℕ) → part t (rowLength * i) rowLength ≡ rowAt t i
+unfolding rowAt
+piece-row t i = refl
 
 -- the part of the table that is lent for row i
 pub lent-row : (t : List ℕ) (at i : ℕ) → at ≡ rowLength * i → take (at + rowLength - at) (drop at t) ≡ rowAt t i
@@ -115,6 +122,44 @@ lent-row t at i e = let q : at + rowLength - at ≡ rowLength = omega arith in r
 -- what a test said of the part is what it says of row i
 pub lent-test : (f : List ℕ → Bool) (t : List ℕ) (at i : ℕ) (x b : Bool) → at ≡ rowLength * i → x ≡ f (take (at + rowLength - at) (drop at t)) → x ≡ b → f (rowAt t i) ≡ b
 lent-test f t at i x b e w y = ap f (sym (lent-row t at i e)) ∙ sym w ∙ y
+
+-- ROW i OF n, READ AND REPLACED: the laws of pieces, for a table's rows
+
+module _ (n : ℕ) (t : List ℕ) (size : length t ≡ rowLength * n) where
+  pub joined-rows : joined (pieces rowLength n t) ≡ t
+  joined-rows = join-pieces rowLength n t size
+
+  module _ (i : ℕ) (there : i < n) where
+    pub nth-row : getD (pieces rowLength n t) i [] ≡ rowAt t i
+    unfolding rowAt
+    nth-row = pieces-at rowLength n t i there
+
+    pub length-rowAt : length (rowAt t i) ≡ rowLength
+    unfolding rowAt
+    length-rowAt = length-piece rowLength n t size i there
+
+    -- a row that stays
+    pub row-same : withRow t i (rowAt t i) ≡ t
+    unfolding withRow rowAt
+    row-same = with-same rowLength n t size i there
+
+    module _ (r : List ℕ) (full : length r ≡ rowLength) where
+      pub length-withRow : length (withRow t i r) ≡ length t
+      unfolding withRow
+      length-withRow = length-with rowLength n t size i there r full
+
+      pub rows-with : pieces rowLength n (withRow t i r) ≡ set (pieces rowLength n t) i r
+      unfolding withRow
+      rows-with = pieces-with rowLength n t size i there r full
+
+      -- the row that was written, and the others
+      pub row-with : rowAt (withRow t i r) i ≡ r
+      unfolding withRow rowAt
+      row-with = piece-with rowLength n t size i there r full
+
+      pub row-other : (j : ℕ) → (j ≡ i → ⊥) → rowAt (withRow t i r) j ≡ rowAt t j
+      unfolding withRow rowAt
+      row-other j ne = piece-other rowLength n t size i there r full j ne
 
 -- THE LOOKUP'S TEST
 
@@ -135,17 +180,30 @@ row-by-name name r n one e lo hi k =
     let q : 2 + n - 2 ≡ length name = omega arith in
     rw (q, eq-eqb (getD r 0 0) 1 one, in-within 1 15 (getD r 1 0) (omega arith) (omega arith), eq-eqb (getD r 1 0) (length name) (sym e ∙ k))
 
+-- a name of over 15 bytes finds no row
+long-name : (name r : List ℕ) → leb (length name) 15 ≡ false → isRowOf name r ≡ false
+long-name name r h = sym (not-row name r (λ one lo hi e. omega (arith, leb-false (length name) 15 h)))
+
+-- the lookup reads nothing else of a row
+pub found-by : (name r : List ℕ) → isRowOf name (foundBy r) ≡ isRowOf name r
+unfolding isRowOf foundBy
+found-by name r =
+    by-test (leb (length name) 15)
+    (λ h. let le : length name ≤ 15 = leb-true (length name) 15 h in
+    rw (getD-take 17 r 0 0 (omega arith), getD-take 17 r 1 0 (omega arith), part-take 17 2 (length name) r (omega arith)))
+    (λ h. long-name name (foundBy r) h ∙ sym (long-name name r h))
+
 -- THE LAST EIGHT BYTES OF A NAME, looked at first
 
 -- the bytes of row i's name
-name-byte : (t : List ℕ) (i n a k : ℕ) → a + k < n → n ≤ 15 → getD (part (rowAt t i) 2 n) (a + k) 0 ≡ getD t (4608 * i + (2 + a) + k) 0
+name-byte : (t : List ℕ) (i n a k : ℕ) → a + k < n → n ≤ 15 → getD (part (rowAt t i) 2 n) (a + k) 0 ≡ getD t (rowLength * i + (2 + a) + k) 0
 unfolding rowAt
 name-byte t i n a k h m =
-    getD-take n (drop 2 (part t (4608 * i) 4608)) (a + k) 0 h ∙ getD-drop 2 (part t (4608 * i) 4608) (a + k) 0
-    ∙ getD-take 4608 (drop (4608 * i) t) (2 + (a + k)) 0 (omega arith) ∙ getD-drop (4608 * i) t (2 + (a + k)) 0
+    getD-take n (drop 2 (part t (rowLength * i) rowLength)) (a + k) 0 h ∙ getD-drop 2 (part t (rowLength * i) rowLength) (a + k) 0
+    ∙ getD-take rowLength (drop (rowLength * i) t) (2 + (a + k)) 0 (omega arith) ∙ getD-drop (rowLength * i) t (2 + (a + k)) 0
     ∙ ap (λ (j : ℕ). getD t j 0) (omega arith)
 
-pub other-end : (t name : List ℕ) (i at : ℕ) → 8 ≤ length name → length name ≤ 15 → at ≡ 4608 * i + (length name - 6)
+pub other-end : (t name : List ℕ) (i at : ℕ) → 8 ≤ length name → length name ≤ 15 → at ≡ rowLength * i + (length name - 6)
     → (low64 t at ≡ low64 name (length name - 8) → ⊥) → isRowOf name (rowAt t i) ≡ false
 unfolding isRowOf
 other-end t name i at lo hi p h =
@@ -155,9 +213,9 @@ other-end t name i at lo hi p h =
     let e3 = and-right (eqb (getD (rowAt t i) 1 0) (length name)) _ e2 in
     let is : part (rowAt t i) 2 (length name) ≡ name = same-eq _ name e3 in
     let a : ℕ = length name - 8 in
-    let here : at ≡ 4608 * i + (2 + a) = omega arith in
-    let word : low64 (part (rowAt t i) 2 (length name)) a ≡ low64 t (4608 * i + (2 + a)) =
-    low-eq (part (rowAt t i) 2 (length name)) t a (4608 * i + (2 + a)) (λ k l. name-byte t i (length name) a k (omega arith) hi) in
+    let here : at ≡ rowLength * i + (2 + a) = omega arith in
+    let word : low64 (part (rowAt t i) 2 (length name)) a ≡ low64 t (rowLength * i + (2 + a)) =
+    low-eq (part (rowAt t i) 2 (length name)) t a (rowLength * i + (2 + a)) (λ k l. name-byte t i (length name) a k (omega arith) hi) in
     absurd (h (ap (low64 t) here ∙ sym word ∙ ap (λ (s : List ℕ). low64 s a) is)))
     (λ e. e)
 

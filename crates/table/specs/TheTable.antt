@@ -6,7 +6,7 @@ use lib.Dec.{eqb}
 use lib.ListN.{length, getD, take, drop}
 use Rattle.octets.specs.Choice.{pick, require, within}
 use Rattle.octets.specs.Lists.{counted, isOn, upTo0}
-use Rattle.octets.specs.Texts.{part, zeros, filled, same, put}
+use Rattle.octets.specs.Texts.{part, pieces, zeros, filled, same, put}
 
 -- THE SUMS
 
@@ -137,16 +137,23 @@ readAccess k b =
       policy = part b 264 (getD b 5 0);
     }
 
--- The places on the order line, bytes 20 to 27 up to the first zero.
+-- The rooms of the order line, bytes 20 to 27, and of the entries.
+abbrev pub lineRoom : List ℕ → List ℕ
+lineRoom r = part (block r 0) 20 8
+
+abbrev pub entriesRoom : List ℕ → List ℕ
+entriesRoom r = part (block r 0) 32 416
+
+-- The places on the order line, up to the first zero.
 unfoldable pub orderLine : List ℕ → List ℕ
-orderLine r = upTo0 (part (block r 0) 20 8)
+orderLine r = upTo0 (lineRoom r)
 
 -- What the bytes say, by the layout above.
 unfoldable pub readRow : List ℕ → Subscriber
 readRow r =
     record {
       name = part (block r 0) 2 (getD (block r 0) 1 0);
-      entries = readEntries (getD (block r 0) 18 0) (part (block r 0) 32 416);
+      entries = readEntries (getD (block r 0) 18 0) (entriesRoom r);
       accesses = map (λ (k : ℕ). readAccess k (block r k)) (orderLine r);
     }
 
@@ -156,13 +163,9 @@ readRow r =
 unfoldable pub tableNumber : List ℕ → ℕ
 tableNumber t = require (eqb (length t % rowLength) 0 && within 1 1024 (length t / rowLength)) 1
 
--- The first n rows, one behind another.
-unfoldable pub cutInRows : ℕ → List ℕ → List (List ℕ)
-cutInRows zero t = []
-cutInRows (suc n) t = take rowLength t ∷ cutInRows n (drop rowLength t)
-
+-- The rows, one behind another.
 unfoldable pub rows : List ℕ → List (List ℕ)
-rows t = cutInRows (length t / rowLength) t
+rows t = pieces rowLength (length t / rowLength) t
 
 -- Row i, counted from 0, and the table with another row there.
 unfoldable pub rowAt : List ℕ → ℕ → List ℕ
@@ -173,7 +176,11 @@ withRow t i r = put t (rowLength * i) r
 
 -- THE LOOKUP
 
--- What a row is found by: byte 0 is 1, byte 1 is 1 to 15 and the name's length, and the name's bytes follow.
+-- What the lookup reads of a row: byte 0, the name's length and the room of the name.
+unfoldable pub foundBy : List ℕ → List ℕ
+foundBy r = take 17 r
+
+-- When a row is found by a name: byte 0 is 1, byte 1 is 1 to 15 and the name's length, and the name's bytes follow.
 unfoldable pub isRowOf : List ℕ → List ℕ → Bool
 isRowOf name r =
     eqb (getD r 0 0) 1 && (within 1 15 (getD r 1 0) && (eqb (getD r 1 0) (length name) && same (part r 2 (length name)) name))

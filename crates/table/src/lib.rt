@@ -5,9 +5,17 @@ ghost use mathlib.Core.List.{[], _∷_};
 ghost use Prim.Native.Nat.{ℕ, _+_, _*_, _/_, _<_, _≤_};
 ghost use lib.ListN.{length, take};
 ghost use Rattle.octets.specs.Texts.{allZero};
-ghost use Rattle.table.specs.TheTable.{rowAt, sums, tableNumber, isRowOf, firstRow, rows, lookup};
+ghost use Rattle.table.specs.TheTable.{firstRow, isRowOf, lookup, rowAt, rowLength, rows, sums, tableNumber};
 ghost use Rattle.table.specs.Columns.{columnFirst, columnBefore};
 ghost use Rattle.table.specs.Answers.{found, rowEnd};
+
+// A row has nine blocks of 512 bytes.
+pub const BLOCK_LENGTH: usize = 512;
+
+pub const ROW_LENGTH: usize = 9 * BLOCK_LENGTH;
+
+// A table has at most 1,024 rows.
+const LONGEST: usize = 1024 * ROW_LENGTH;
 
 // The two sums of a block, each a remainder modulo 255.
 pub struct Sums {
@@ -86,13 +94,13 @@ pub fn table_number(t: &[u8]) -> u32
     ensures { λ r. ⌜ r ≡ tableNumber (now (t .entry)) ⌝ }
 {
     let n = t.len();
-    if n % 4608 != 0 {
+    if n % ROW_LENGTH != 0 {
         return 1;
     }
-    if n < 4608 {
+    if n < ROW_LENGTH {
         return 1;
     }
-    if 4718592 < n {
+    if LONGEST < n {
         return 1;
     }
     0
@@ -106,7 +114,7 @@ pub enum RowFound {
 
 // Whether a row is found by the name. Nothing behind the name's bytes is read.
 fn is_row_of(r: &[u8], name: &[u8]) -> bool
-    requires { ⌜ length (now r) ≡ 4608 ⌝ }
+    requires { ⌜ length (now r) ≡ rowLength ⌝ }
     ensures { λ x. ⌜ x ≡ isRowOf (now (name .entry)) (now (r .entry)) ⌝ }
 {
     if r[0] != 1 {
@@ -130,7 +138,7 @@ fn is_row_of(r: &[u8], name: &[u8]) -> bool
 // operator differ there.
 fn rows_passed(t: &[u8], name: &[u8]) -> usize
     requires { ⌜ tableNumber (now t) ≡ 0 ⌝ }
-    ensures { λ r. ⌜ (r ≤ length (now (t .entry)) / 4608) × ((j : ℕ) → j < r → isRowOf (now (name .entry)) (rowAt (now (t .entry)) j) ≡ false) ⌝ }
+    ensures { λ r. ⌜ (r ≤ length (now (t .entry)) / rowLength) × ((j : ℕ) → j < r → isRowOf (now (name .entry)) (rowAt (now (t .entry)) j) ≡ false) ⌝ }
 {
     let n = name.len();
     if n < 8 {
@@ -145,9 +153,9 @@ fn rows_passed(t: &[u8], name: &[u8]) -> usize
         if octets::eight(t, at) == end {
             break;
         }
-        at += 4608;
+        at += ROW_LENGTH;
     }
-    at / 4608
+    at / ROW_LENGTH
 }
 
 // A subscriber's row, sound or not.
@@ -156,9 +164,9 @@ pub fn lookup(t: &[u8], name: &[u8]) -> RowFound
     ensures { λ r. ⌜ (found r ≡ lookup (now (t .entry)) (now (name .entry))) × (rowEnd r ≤ length (now (t .entry))) ⌝ }
 {
     let mut n: usize = rows_passed(t, name);
-    let mut at: usize = 4608 * n;
+    let mut at: usize = ROW_LENGTH * n;
     while at < t.len() {
-        let end = at + 4608;
+        let end = at + ROW_LENGTH;
         if is_row_of(&t[at..end], name) {
             return RowFound::At(n);
         }
@@ -170,7 +178,7 @@ pub fn lookup(t: &[u8], name: &[u8]) -> RowFound
 
 // Whether a row is wholly zero. A row in use differs in byte 0 already.
 fn zero_row(r: &[u8]) -> bool
-    requires { ⌜ length (now r) ≡ 4608 ⌝ }
+    requires { ⌜ length (now r) ≡ rowLength ⌝ }
     ensures { λ x. ⌜ x ≡ allZero (now (r .entry)) ⌝ }
 {
     if r[0] != 0 {
@@ -187,7 +195,7 @@ pub fn first_zero_row(t: &[u8]) -> RowFound
     let mut i: usize = 0;
     let mut at: usize = 0;
     while at < t.len() {
-        let end = at + 4608;
+        let end = at + ROW_LENGTH;
         if zero_row(&t[at..end]) {
             return RowFound::At(i);
         }

@@ -5,7 +5,7 @@ use Prim.Native.Nat.{_*_, ℕ, _-_}
 use borrow.Author.Needs.{needs}
 use Rattle.octets.specs.Lists.{isOn}
 use Rattle.table.specs.Soundness.{sound}
-use Rattle.table.specs.TheTable.{orderLine, readRow}
+use Rattle.table.specs.TheTable.{orderLine, readRow, rowLength}
 use Rattle.table.proofs.Rows.{lent-row}
 use Rattle.changes.specs.Changes.{freed, lowestFree, opened}
 use Rattle.changes.proofs.Rows.{back-row}
@@ -29,7 +29,7 @@ part-cut-and-open-place-end c = search needs
 
 cut-and-open-place-requires : tie.Need-cut-and-open-place-requires
 cut-and-open-place-requires c κs = let start = c .before .before .before .before in
-    let lent = lent-row (start .args .table .now) (4608 * (start .args .i)) (start .args .i) refl in
+    let lent = lent-row (start .args .table .now) (rowLength * (start .args .i)) (start .args .i) refl in
     (ap sound lent ∙ start .pre .1, ap (λ (r : List ℕ). isOn (orderLine r) (start .args .k)) lent ∙ start .pre .2, start .pre .3, start .pre .4)
 
 same-length : tie.Need-same-length
@@ -41,7 +41,7 @@ returns c = let start = c .before .before .before .before .before .before .befor
     let t = start .args .table .now in
     let i = start .args .i in (
       back-row t i (taken .last .0) (λ r. opened (start .args .entry) (start .args .session .now) (start .args .host .now) (freed (start .args .k) (readRow r))) (taken .ensures .0),
-      taken .ensures .1 ∙ ap (λ (r : List ℕ). lowestFree ((freed (start .args .k) (readRow r)) .accesses)) (lent-row t (4608 * i) i refl),
+      taken .ensures .1 ∙ ap (λ (r : List ℕ). lowestFree ((freed (start .args .k) (readRow r)) .accesses)) (lent-row t (rowLength * i) i refl),
     )
 
 pub cut-and-open-spec : {M : Type 1} → statement M

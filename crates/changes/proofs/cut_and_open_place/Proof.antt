@@ -9,7 +9,7 @@ use borrow.Rule.Slice.PartMut.{same-len-mid}
 use borrow.Author.Needs.{needs}
 use Rattle.octets.specs.Texts.{part, put, zeros}
 use Rattle.octets.proofs.Texts.{back-put}
-use Rattle.table.specs.TheTable.{readRow}
+use Rattle.table.specs.TheTable.{readRow, rowLength}
 use Rattle.changes.specs.Changes.{freed, lowestFree}
 use Rattle.changes.specs.Writes.{closedUp, headWith, lowestClear, openedBytes}
 use Rattle.changes.proofs.Cuts.{cut-clear, cut-fewer, cut-fits, cut-law, cut-lowest, cut-ones}
@@ -160,7 +160,7 @@ write-line-requires c κs = let start = c .before .before .before .before .befor
     let w = c .before .before .before .before .write-access in
     let v : List ℕ = c .before .before .before .before .before .before .before .before .put-zeros .last .0 in
     let z : List ℕ = take a v ++ (w .last .0 ++ drop (a + 512 - a) (drop a v)) in
-    let long : length v ≡ 4608 = c .before .before .before .before .before .before .before .before .put-zeros .kept .0 ∙ row-size r (start .pre .0) in
+    let long : length v ≡ rowLength = c .before .before .before .before .before .before .before .before .put-zeros .kept .0 ∙ row-size r (start .pre .0) in
     let taken : z ≡ put v a o = back-put v a (a + 512) (w .last .0) o size (w .ensures) in
     let in-8 = place-in r (start .pre .0) k (start .pre .1) in
     head-agrees r z (start .pre .0)

@@ -5,7 +5,7 @@ use Prim.Native.Nat.{_*_, ℕ, _-_}
 use borrow.Author.Needs.{needs}
 use Rattle.octets.specs.Lists.{isOn}
 use Rattle.table.specs.Soundness.{sound}
-use Rattle.table.specs.TheTable.{orderLine, readRow}
+use Rattle.table.specs.TheTable.{orderLine, readRow, rowLength}
 use Rattle.table.proofs.Rows.{lent-row}
 use Rattle.changes.specs.Changes.{freed}
 use Rattle.changes.proofs.Rows.{back-row}
@@ -29,7 +29,7 @@ part-free-place-end c = search needs
 
 free-place-requires : tie.Need-free-place-requires
 free-place-requires c κs = let start = c .before .before in
-    let lent = lent-row (start .args .table .now) (4608 * (start .args .i)) (start .args .i) refl in
+    let lent = lent-row (start .args .table .now) (rowLength * (start .args .i)) (start .args .i) refl in
     (ap sound lent ∙ start .pre .1, ap (λ (r : List ℕ). isOn (orderLine r) (start .args .k)) lent ∙ start .pre .2)
 
 same-length : tie.Need-same-length

@@ -8,6 +8,7 @@ use Rattle.octets.specs.Texts.{put, zeros}
 use Rattle.changes.proofs.Rows.{new-law}
 use Rattle.changes.proofs.new_row.Statement.{statement}
 use Rattle.changes.proofs.new_row.Tie as tie
+use Rattle.table.specs.TheTable.{rowLength}
 
 clear-requires : tie.Need-clear-requires
 clear-requires c κs = search needs
@@ -44,7 +45,7 @@ returns c = let start = c .before .before .before .before .before .before .befor
     let name = start .args .name .now in
     let z : List ℕ = c .before .before .before .before .before .before .put-bytes2 .last .0 in
     let head : List ℕ = 1 ∷ length name ∷ [] in
-    let cleared : c .before .before .before .before .before .before .before .before .before .before .before .before .before .before .before .clear .last .0 ≡ zeros 4608 = c .before .before .before .before .before .before .before .before .before .before .before .before .before .before .before .clear .ensures ∙ ap zeros (start .pre .0) in
+    let cleared : c .before .before .before .before .before .before .before .before .before .before .before .before .before .before .before .clear .last .0 ≡ zeros rowLength = c .before .before .before .before .before .before .before .before .before .before .before .before .before .before .before .clear .ensures ∙ ap zeros (start .pre .0) in
     ap (λ (t : List ℕ). t ++ drop 512 z) (c .before .before .seal .ensures)
     ∙ new-law name z (start .pre .1)
     (c .before .before .before .before .before .before .put-bytes2 .ensures ∙ ap (λ (t : List ℕ). put t 2 name) (c .before .before .before .before .before .before .before .before .before .before .put-bytes .ensures ∙ ap (λ (t : List ℕ). put t 0 head) cleared))

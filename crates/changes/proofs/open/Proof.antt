@@ -6,7 +6,7 @@ use native.Mathlib.Omega.{arith}
 use lib.ListN.{length}
 use borrow.Author.Needs.{needs}
 use Rattle.table.specs.Soundness.{sound}
-use Rattle.table.specs.TheTable.{readRow}
+use Rattle.table.specs.TheTable.{readRow, rowLength}
 use Rattle.table.proofs.Rows.{lent-row}
 use Rattle.changes.specs.Changes.{lowestFree, opened}
 use Rattle.changes.proofs.Rows.{back-row}
@@ -30,7 +30,7 @@ part-open-place-end c = search needs
 
 open-place-requires : tie.Need-open-place-requires
 open-place-requires c κs = let start = c .before .before .before .before in
-    let lent = lent-row (start .args .table .now) (4608 * (start .args .i)) (start .args .i) refl in
+    let lent = lent-row (start .args .table .now) (rowLength * (start .args .i)) (start .args .i) refl in
     (ap sound lent ∙ start .pre .1, omega (arith, ap (λ (r : List ℕ). length ((readRow r) .accesses)) lent, start .pre .2), start .pre .3, start .pre .4)
 
 same-length : tie.Need-same-length
@@ -42,7 +42,7 @@ returns c = let start = c .before .before .before .before .before .before .befor
     let t = start .args .table .now in
     let i = start .args .i in (
       back-row t i (taken .last .0) (λ r. opened (start .args .entry) (start .args .session .now) (start .args .host .now) (readRow r)) (taken .ensures .0),
-      taken .ensures .1 ∙ ap (λ (r : List ℕ). lowestFree ((readRow r) .accesses)) (lent-row t (4608 * i) i refl),
+      taken .ensures .1 ∙ ap (λ (r : List ℕ). lowestFree ((readRow r) .accesses)) (lent-row t (rowLength * i) i refl),
     )
 
 pub open-spec : {M : Type 1} → statement M

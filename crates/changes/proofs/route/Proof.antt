@@ -5,7 +5,7 @@ use Prim.Native.Nat.{_*_, ℕ, _-_}
 use borrow.Author.Needs.{needs}
 use Rattle.octets.specs.Lists.{isOn}
 use Rattle.table.specs.Soundness.{sound}
-use Rattle.table.specs.TheTable.{orderLine, readRow}
+use Rattle.table.specs.TheTable.{orderLine, readRow, rowLength}
 use Rattle.table.proofs.Rows.{lent-row}
 use Rattle.changes.specs.Changes.{routed}
 use Rattle.changes.proofs.Rows.{back-row}
@@ -29,7 +29,7 @@ part-replace-policy-end c = search needs
 
 replace-policy-requires : tie.Need-replace-policy-requires
 replace-policy-requires c κs = let start = c .before .before .before in
-    let lent = lent-row (start .args .table .now) (4608 * (start .args .i)) (start .args .i) refl in
+    let lent = lent-row (start .args .table .now) (rowLength * (start .args .i)) (start .args .i) refl in
     (ap sound lent ∙ start .pre .1, ap (λ (r : List ℕ). isOn (orderLine r) (start .args .k)) lent ∙ start .pre .2, start .pre .3, start .pre .4)
 
 same-length : tie.Need-same-length

@@ -1,52 +1,43 @@
--- A place in use, and a free one; the part lent is the place's block.
-use mathlib.Core.Path.{_∙_, ap, sym}
+-- A place in use, and a free one.
+use mathlib.Core.Path.{_∙_, _≡_, ap, sym}
+use mathlib.Core.Bool.{false, true}
+use lib.ListN.{length}
 use Rattle.octets.specs.Choice.{pick}
 use Rattle.octets.specs.Texts.{allZero}
-use Rattle.table.specs.Soundness.{accessForm, placeForm}
-use Rattle.table.proofs.Tests.{block-lent}
-use Rattle.soundness.proofs.Line.{used-at}
+use Rattle.table.specs.Soundness.{accessForm, inUse, placeForm}
+use Rattle.table.proofs.Form.{length-block}
+use Rattle.soundness.proofs.Line.{used-by}
 use borrow.Author.Needs.{needs}
 use Rattle.clauses.proofs.place_form.Statement.{statement}
 use Rattle.clauses.proofs.place_form.Tie as tie
 
-mul-at : tie.Need-mul-at
-mul-at c = search needs
+place-requires : tie.Need-place-requires
+place-requires c κs = search needs
 
-add-end : tie.Need-add-end
-add-end c = search needs
-
-shared-slice-read-in-use : tie.Need-shared-slice-read-in-use
-shared-slice-read-in-use c = search needs
+used-bits-requires : tie.Need-used-bits-requires
+used-bits-requires c κs = search needs
 
 in-use-requires : tie.Need-in-use-requires
 in-use-requires c κs = search needs
 
-sub-access-form : tie.Need-sub-access-form
-sub-access-form c = search needs
-
-part-access-form-start : tie.Need-part-access-form-start
-part-access-form-start c = search needs
-
-part-access-form-end : tie.Need-part-access-form-end
-part-access-form-end c = search needs
-
 access-form-requires : tie.Need-access-form-requires
-access-form-requires c κs = search needs
+access-form-requires c κs =
+    let place-was = c .before .before .before .place in
+    let given = c .before .before .before .before .before .args in
+    let pre-was = c .before .before .before .before .before .pre in
+    ap length (place-was .ensures) ∙ length-block (given .r .now) (given .k) (pre-was .0) (pre-was .2)
 
 returns : tie.Need-returns
 unfolding placeForm pick
 returns c =
-    let a = c .before .before .before .before .before .before .args in
-    rw (used-at (a .r .now) (a .k), sym (c .before .before .before .in-use .ensures) ∙ c .before .before .if1 .taken) (c .access-form .ensures ∙ ap accessForm (block-lent (a .r .now) (a .k)))
-
-sub-all-zero : tie.Need-sub-all-zero
-sub-all-zero c = search needs
-
-part-all-zero-start : tie.Need-part-all-zero-start
-part-all-zero-start c = search needs
-
-part-all-zero-end : tie.Need-part-all-zero-end
-part-all-zero-end c = search needs
+    let given = c .before .before .before .before .before .before .args in
+    let used-bits-was = c .before .before .before .used-bits in
+    let in-use-was = c .before .before .in-use in
+    let test1 = c .before .if1 in
+    let access-form-was = c .access-form in
+    let place-was = c .before .before .before .before .place in
+    let used : inUse (given .r .now) (given .k) ≡ true = sym (used-by (given .r .now) (given .k) _ (used-bits-was .ensures)) ∙ sym (in-use-was .ensures) ∙ test1 .taken in
+    rw used (access-form-was .ensures ∙ ap accessForm (place-was .ensures))
 
 all-zero-requires : tie.Need-all-zero-requires
 all-zero-requires c κs = search needs
@@ -54,24 +45,23 @@ all-zero-requires c κs = search needs
 returns-2 : tie.Need-returns-2
 unfolding placeForm pick
 returns-2 c =
-    let a = c .before .before .before .before .before .before .args in
-    rw (used-at (a .r .now) (a .k), sym (c .before .before .before .in-use .ensures) ∙ c .before .before .if1 .left) (c .all-zero .ensures ∙ ap allZero (block-lent (a .r .now) (a .k)))
+    let given = c .before .before .before .before .before .before .args in
+    let used-bits-was = c .before .before .before .used-bits in
+    let in-use-was = c .before .before .in-use in
+    let test1 = c .before .if1 in
+    let all-zero-was = c .all-zero in
+    let place-was = c .before .before .before .before .place in
+    let free : inUse (given .r .now) (given .k) ≡ false = sym (used-by (given .r .now) (given .k) _ (used-bits-was .ensures)) ∙ sym (in-use-was .ensures) ∙ test1 .left in
+    rw free (all-zero-was .ensures ∙ ap allZero (place-was .ensures))
 
 pub place-form-spec : {M : Type 1} → statement M
 place-form-spec =
     tie.close
     (tie.spec
-    mul-at
-    add-end
-    shared-slice-read-in-use
+    place-requires
+    used-bits-requires
     in-use-requires
-    sub-access-form
-    part-access-form-start
-    part-access-form-end
     access-form-requires
     returns
-    sub-all-zero
-    part-all-zero-start
-    part-all-zero-end
     all-zero-requires
     returns-2)

@@ -1,15 +1,19 @@
 -- The invariant: the test of what is left has the answer of the whole test, place by place along the line: `marked-at` of Laws.
-use mathlib.Core.Path.{_∙_, _≡_, sym}
-use Prim.Native.Nat.{_-_, _<_, _≤_}
+use mathlib.Core.Path.{_∙_, _≡_, ap, sym}
+use mathlib.Core.List.{List}
+use Prim.Native.Nat.{ℕ, _-_, _<_, _≤_}
 use native.Mathlib.Omega.{arith}
-use lib.ListN.{length, drop}
-use borrow.Author.Needs.{needs}
+use lib.Dec.{eqb, leb}
+use lib.ListN.{length, drop, getD}
+use Rattle.octets.specs.Choice.{pick}
 use Rattle.octets.specs.Lists.{every}
-use Rattle.table.specs.TheTable.{orderLine}
 use Rattle.table.specs.Soundness.{policyMarked}
+use Rattle.table.specs.TheTable.{orderLine}
+use Rattle.table.proofs.Form.{length-block}
 use Rattle.table.proofs.Tests.{every-end, every-on-true, every-out, fails, passes-on}
-use Rattle.soundness.proofs.Line.{place-high}
+use Rattle.soundness.proofs.Line.{line-most, place-high}
 use Rattle.clauses.proofs.Laws.{marked-at}
+use borrow.Author.Needs.{needs}
 use Rattle.clauses.proofs.policies_marked.Statement.{statement}
 use Rattle.clauses.proofs.policies_marked.Tie as tie
 
@@ -25,50 +29,56 @@ accesses-in-use-requires c κs = search needs
 loop-holds : tie.Need-loop-holds Inv-loop μ-loop
 loop-holds c = search needs
 
-add-long : tie.Need-add-long Inv-loop μ-loop
-add-long c = search needs
+line-place-requires : tie.Need-line-place-requires Inv-loop μ-loop
+line-place-requires c κs =
+    let pre-was = c .before .before .before .before .pre in
+    let given = c .before .before .before .before .args in
+    let accesses-in-use-was = c .before .before .accesses-in-use in
+    (pre-was .0, omega (arith, line-most (given .r .now), accesses-in-use-was .ensures .0))
 
-shared-slice-read-long : tie.Need-shared-slice-read-long Inv-loop μ-loop
-shared-slice-read-long c = search needs
-
-long-requires : tie.Need-long-requires Inv-loop μ-loop
-long-requires c κs = search needs
-
-mul-policy-marked : tie.Need-mul-policy-marked Inv-loop μ-loop
-mul-policy-marked c = search needs
-
-add-policy-marked : tie.Need-add-policy-marked Inv-loop μ-loop
-add-policy-marked c = search needs
+place-requires : tie.Need-place-requires Inv-loop μ-loop
+place-requires c κs =
+    let pre-was = c .before .before .before .before .before .pre in
+    let given = c .before .before .before .before .before .args in
+    let loop-was = c .before .before .loop in
+    let accesses-in-use-was = c .before .before .before .accesses-in-use in
+    let line-place-was = c .line-place in
+    (pre-was .0, omega (arith, place-high (given .r .now) (loop-was .i) (pre-was .1) (omega (arith, accesses-in-use-was .ensures .0)), line-place-was .ensures .0))
 
 shared-slice-read-policy-marked : tie.Need-shared-slice-read-policy-marked Inv-loop μ-loop
 shared-slice-read-policy-marked c =
-    let r = c .before .before .before .before .before .before .before .args .r .now in
-    let p = c .before .before .before .before .before .before .before .pre in
-    omega (arith, place-high r (c .before .before .before .before .loop .i) (p .0) (p .1) (omega arith), c .before .long .ensures .0)
-
-mul-policy-marked-2 : tie.Need-mul-policy-marked-2 Inv-loop μ-loop
-mul-policy-marked-2 c = search needs
-
-add-policy-marked-2 : tie.Need-add-policy-marked-2 Inv-loop μ-loop
-add-policy-marked-2 c = search needs
+    let place-was = c .before .place in
+    let given = c .before .before .before .before .before .before .before .args in
+    let line-place-was = c .before .before .line-place in
+    let pre-was = c .before .before .before .before .before .before .before .pre in
+    let loop-was = c .before .before .before .before .loop in
+    let accesses-in-use-was = c .before .before .before .before .before .accesses-in-use in
+    omega (arith, ap length (place-was .ensures), length-block (given .r .now) (line-place-was .result) (pre-was .0) (omega (arith, place-high (given .r .now) (loop-was .i) (pre-was .1) (omega (arith, accesses-in-use-was .ensures .0)), line-place-was .ensures .0)))
 
 shared-slice-read-policy-marked-2 : tie.Need-shared-slice-read-policy-marked-2 Inv-loop μ-loop
 shared-slice-read-policy-marked-2 c =
-    let r = c .before .before .before .before .before .before .before .before .args .r .now in
-    let p = c .before .before .before .before .before .before .before .before .pre in
-    omega (arith, place-high r (c .before .before .before .before .before .loop .i) (p .0) (p .1) (omega arith), c .before .before .long .ensures .0)
+    let place-was = c .before .before .place in
+    let given = c .before .before .before .before .before .before .before .before .args in
+    let line-place-was = c .before .before .before .line-place in
+    let pre-was = c .before .before .before .before .before .before .before .before .pre in
+    let loop-was = c .before .before .before .before .before .loop in
+    let accesses-in-use-was = c .before .before .before .before .before .before .accesses-in-use in
+    omega (arith, ap length (place-was .ensures), length-block (given .r .now) (line-place-was .result) (pre-was .0) (omega (arith, place-high (given .r .now) (loop-was .i) (pre-was .1) (omega (arith, accesses-in-use-was .ensures .0)), line-place-was .ensures .0)))
 
 policy-marked-requires : tie.Need-policy-marked-requires Inv-loop μ-loop
 policy-marked-requires c κs = search needs
 
 returns : tie.Need-returns Inv-loop μ-loop
 returns c =
-    let r = c .before .before .before .before .before .before .before .before .before .before .args .r .now in
-    let p = c .before .before .before .before .before .before .before .before .before .before .pre in
-    let l = c .before .before .before .before .before .before .before .loop in
-    let k = c .before .before .before .before .long in
-    let h : l .i < length (orderLine r) = omega arith in
-    sym (every-out 0 (policyMarked r) (orderLine r) (l .i) h (marked-at r (l .i) (k .result) (p .0) h (k .ensures .0) ∙ fails (c .before .policy-marked .ensures) (c .if1 .taken))) ∙ l .inv .1
+    let loop-was = c .before .before .before .before .before .before .before .loop in
+    let given = c .before .before .before .before .before .before .before .before .before .before .args in
+    let accesses-in-use-was = c .before .before .before .before .before .before .before .before .accesses-in-use in
+    let line-place-was = c .before .before .before .before .before .line-place in
+    let policy-marked-was = c .before .policy-marked in
+    let place-was = c .before .before .before .before .place in
+    let test1 = c .if1 in
+    let inside : loop-was .i < length (orderLine (given .r .now)) = omega (arith, accesses-in-use-was .ensures .0) in
+    sym (every-out 0 (policyMarked (given .r .now)) (orderLine (given .r .now)) (loop-was .i) inside (marked-at (given .r .now) (loop-was .i) (line-place-was .result) inside (line-place-was .ensures .0) ∙ fails (policy-marked-was .ensures ∙ ap (λ (b : List ℕ). eqb (getD b 4 0) (pick (leb 1 (getD b 5 0)) 1 0)) (place-was .ensures)) (test1 .taken))) ∙ loop-was .inv .1
 
 add-i : tie.Need-add-i Inv-loop μ-loop
 add-i c = search needs
@@ -78,18 +88,22 @@ loop-less c = search needs
 
 loop-again : tie.Need-loop-again Inv-loop μ-loop
 loop-again c =
-    let r = c .before .before .before .before .before .before .before .before .before .before .args .r .now in
-    let p = c .before .before .before .before .before .before .before .before .before .before .pre in
-    let l = c .before .before .before .before .before .before .before .loop in
-    let k = c .before .before .before .before .long in
-    let h : l .i < length (orderLine r) = omega arith in
-    (omega arith, every-on-true 0 (policyMarked r) (orderLine r) (l .i) h (marked-at r (l .i) (k .result) (p .0) h (k .ensures .0) ∙ passes-on (c .before .policy-marked .ensures) (c .if1 .left)) ∙ l .inv .1)
+    let loop-was = c .before .before .before .before .before .before .before .loop in
+    let given = c .before .before .before .before .before .before .before .before .before .before .args in
+    let accesses-in-use-was = c .before .before .before .before .before .before .before .before .accesses-in-use in
+    let line-place-was = c .before .before .before .before .before .line-place in
+    let policy-marked-was = c .before .policy-marked in
+    let place-was = c .before .before .before .before .place in
+    let test1 = c .if1 in
+    let inside : loop-was .i < length (orderLine (given .r .now)) = omega (arith, accesses-in-use-was .ensures .0) in
+    (omega arith, every-on-true 0 (policyMarked (given .r .now)) (orderLine (given .r .now)) (loop-was .i) inside (marked-at (given .r .now) (loop-was .i) (line-place-was .result) inside (line-place-was .ensures .0) ∙ passes-on (policy-marked-was .ensures ∙ ap (λ (b : List ℕ). eqb (getD b 4 0) (pick (leb 1 (getD b 5 0)) 1 0)) (place-was .ensures)) (test1 .left)) ∙ loop-was .inv .1)
 
 returns-2 : tie.Need-returns-2 Inv-loop μ-loop
 returns-2 c =
-    let r = c .before .before .before .before .args .r .now in
-    let l = c .before .loop in
-    sym (every-end 0 (policyMarked r) (orderLine r) (l .i) (omega arith)) ∙ l .inv .1
+    let given = c .before .before .before .before .args in
+    let loop-was = c .before .loop in
+    let accesses-in-use-was = c .before .before .accesses-in-use in
+    sym (every-end 0 (policyMarked (given .r .now)) (orderLine (given .r .now)) (loop-was .i) (omega (arith, accesses-in-use-was .ensures .0))) ∙ loop-was .inv .1
 
 pub policies-marked-spec : {M : Type 1} → statement M
 policies-marked-spec =
@@ -99,14 +113,9 @@ policies-marked-spec =
     μ-loop
     accesses-in-use-requires
     loop-holds
-    add-long
-    shared-slice-read-long
-    long-requires
-    mul-policy-marked
-    add-policy-marked
+    line-place-requires
+    place-requires
     shared-slice-read-policy-marked
-    mul-policy-marked-2
-    add-policy-marked-2
     shared-slice-read-policy-marked-2
     policy-marked-requires
     returns

@@ -6,7 +6,7 @@ use native.Mathlib.Omega.{arith}
 use lib.ListN.{length}
 use borrow.Author.Tests.{not-true, not-false}
 use Rattle.message.specs.Spans.{asks, bytesOf}
-use Rattle.table.specs.TheTable.{lookup, row, nothing, rowAt, readRow}
+use Rattle.table.specs.TheTable.{lookup, nothing, readRow, row, rowAt, rowLength}
 use Rattle.table.specs.Soundness.{sound}
 use Rattle.table.specs.Answers.{found}
 use Rattle.table.proofs.Rows.{lent-row, lent-test}
@@ -43,14 +43,14 @@ mul-a : tie.Need-mul-a
 mul-a c =
     let t = c .before .before .before .before .before .before .before .args .table .now in
     let i = c .before .found .given .0 .0 in
-    let end : 4608 * i + 4608 ≤ length t = rw (c .before .found .given .1) at (c .before .before .before .lookup .ensures .1) in
+    let end : rowLength * i + rowLength ≤ length t = rw (c .before .found .given .1) at (c .before .before .before .lookup .ensures .1) in
     omega (arith, end)
 
 add-e : tie.Need-add-e
 add-e c =
     let t = c .before .before .before .before .before .before .before .args .table .now in
     let i = c .before .found .given .0 .0 in
-    let end : 4608 * i + 4608 ≤ length t = rw (c .before .found .given .1) at (c .before .before .before .lookup .ensures .1) in
+    let end : rowLength * i + rowLength ≤ length t = rw (c .before .found .given .1) at (c .before .before .before .lookup .ensures .1) in
     omega (arith, end)
 
 sub-row-sound : tie.Need-sub-row-sound
@@ -63,7 +63,7 @@ part-row-sound-end : tie.Need-part-row-sound-end
 part-row-sound-end c =
     let t = c .before .before .before .before .before .before .before .args .table .now in
     let i = c .before .found .given .0 .0 in
-    let end : 4608 * i + 4608 ≤ length t = rw (c .before .found .given .1) at (c .before .before .before .lookup .ensures .1) in
+    let end : rowLength * i + rowLength ≤ length t = rw (c .before .found .given .1) at (c .before .before .before .lookup .ensures .1) in
     omega (arith, end)
 
 row-sound-requires : tie.Need-row-sound-requires
@@ -78,7 +78,7 @@ returns-2 c =
     let i = c .before .before .before .before .found .given .0 .0 in
     let name : c .before .before .before .before .before .before .before .text .result .now ≡ bytesOf m (a .user) = c .before .before .before .before .before .before .before .text .ensures in
     let is : lookup t (bytesOf m (a .user)) ≡ row i = ap (lookup t) (sym name) ∙ sym (c .before .before .before .before .before .before .lookup .ensures .0) ∙ ap found (c .before .before .before .before .found .given .1) in
-    let unsound : sound (rowAt t i) ≡ false = lent-test sound t (4608 * i) i (c .before .row-sound .result) false refl (c .before .row-sound .ensures) (not-true _ (c .if1 .taken)) in
+    let unsound : sound (rowAt t i) ≡ false = lent-test sound t (rowLength * i) i (c .before .row-sound .result) false refl (c .before .row-sound .ensures) (not-true _ (c .if1 .taken)) in
     unsound-row t (asks m (a .asked)) (a .wag) (lookup t (bytesOf m (a .user))) i is unsound
 
 sub-deciding-failed : tie.Need-sub-deciding-failed
@@ -91,7 +91,7 @@ part-deciding-failed-end : tie.Need-part-deciding-failed-end
 part-deciding-failed-end c =
     let t = c .before .before .before .before .before .before .before .before .before .before .args .table .now in
     let i = c .before .before .before .before .found .given .0 .0 in
-    let end : 4608 * i + 4608 ≤ length t = rw (c .before .before .before .before .found .given .1) at (c .before .before .before .before .before .before .lookup .ensures .1) in
+    let end : rowLength * i + rowLength ≤ length t = rw (c .before .before .before .before .found .given .1) at (c .before .before .before .before .before .before .lookup .ensures .1) in
     omega (arith, end)
 
 deciding-failed-requires : tie.Need-deciding-failed-requires
@@ -107,9 +107,9 @@ returns-3 c =
     let i = c .before .before .before .before .before .before .found .given .0 .0 in
     let name : c .before .before .before .before .before .before .before .before .before .text .result .now ≡ bytesOf m (a .user) = c .before .before .before .before .before .before .before .before .before .text .ensures in
     let is : lookup t (bytesOf m (a .user)) ≡ row i = ap (lookup t) (sym name) ∙ sym (c .before .before .before .before .before .before .before .before .lookup .ensures .0) ∙ ap found (c .before .before .before .before .before .before .found .given .1) in
-    let sounds : sound (rowAt t i) ≡ true = lent-test sound t (4608 * i) i (c .before .before .before .row-sound .result) true refl (c .before .before .before .row-sound .ensures) (not-false _ (c .before .before .if1 .left)) in
+    let sounds : sound (rowAt t i) ≡ true = lent-test sound t (rowLength * i) i (c .before .before .before .row-sound .result) true refl (c .before .before .before .row-sound .ensures) (not-false _ (c .before .before .if1 .left)) in
     c .deciding-failed .ensures
-    ∙ ap (λ r. firstFailed (decidingChecks (asks m (a .asked)) (a .wag) (readRow r))) (lent-row t (4608 * i) i refl)
+    ∙ ap (λ r. firstFailed (decidingChecks (asks m (a .asked)) (a .wag) (readRow r))) (lent-row t (rowLength * i) i refl)
     ∙ sound-row t (asks m (a .asked)) (a .wag) (lookup t (bytesOf m (a .user))) i is sounds
 
 pub request-failed-spec : {M : Type 1} → statement M

@@ -5,7 +5,7 @@ use Prim.Native.Nat.{_*_, ℕ, _-_}
 use native.Mathlib.Omega.{arith}
 use borrow.Author.Needs.{needs}
 use Rattle.table.specs.Answers.{found, rowEnd}
-use Rattle.table.specs.TheTable.{Entry, lookup, rowAt}
+use Rattle.table.specs.TheTable.{Entry, lookup, rowAt, rowLength}
 use Rattle.table.proofs.Rows.{lent-row}
 use Rattle.setup.specs.SetUp.{entryNumber}
 use Rattle.setup.proofs.SetUps.{Passed, add-1, add-12, add-done, add-refused, entry-passed, label-fits}
@@ -68,7 +68,7 @@ returns-4 c = let start = c .before .before .before .before .before .before .bef
     let number = c .before .before .before .before .before .entry-number in
     add-done t (start .args .name .now) e i (number .result) (c .before .before .add-entry .last .0) (sym (c .before .before .before .before .before .before .before .before .before .before .before .before .before .before .table-number .ensures) ∙ c .before .before .before .before .before .before .before .before .before .before .before .before .before .if1 .left)
     (sym (c .before .before .before .before .before .before .before .before .before .before .before .lookup .ensures .0) ∙ ap found (c .before .before .before .before .before .before .before .before .before .i .given .1))
-    (number .ensures ∙ ap (λ (r : List ℕ). entryNumber r e) (lent-row t (4608 * i) i refl))
+    (number .ensures ∙ ap (λ (r : List ℕ). entryNumber r e) (lent-row t (rowLength * i) i refl))
     (c .before .before .before .before .if2 .left)
     (c .before .before .add-entry .ensures)
 
@@ -83,7 +83,7 @@ returns-3 c = let start = c .before .before .before .before .before .before .bef
     let number = c .before .entry-number in
     add-refused t (start .args .name .now) e i (number .result) (sym (c .before .before .before .before .before .before .before .before .before .before .table-number .ensures) ∙ c .before .before .before .before .before .before .before .before .before .if1 .left)
     (sym (c .before .before .before .before .before .before .before .lookup .ensures .0) ∙ ap found (c .before .before .before .before .before .i .given .1))
-    (number .ensures ∙ ap (λ (r : List ℕ). entryNumber r e) (lent-row t (4608 * i) i refl))
+    (number .ensures ∙ ap (λ (r : List ℕ). entryNumber r e) (lent-row t (rowLength * i) i refl))
     (c .if2 .taken)
 
 add-entry-requires : tie.Need-add-entry-requires
@@ -92,7 +92,7 @@ add-entry-requires c κs = let start = c .before .before .before .before .before
     let i = c .before .before .before .before .before .before .i .given .0 .0 in
     let e : Entry = record { label = start .args .label .now; flags = start .args .flags; limit = start .args .limit } in
     let number = c .before .before .entry-number in
-    let none : entryNumber (rowAt t i) e ≡ 0 = sym (number .ensures ∙ ap (λ (r : List ℕ). entryNumber r e) (lent-row t (4608 * i) i refl)) ∙ c .before .if2 .left in
+    let none : entryNumber (rowAt t i) e ≡ 0 = sym (number .ensures ∙ ap (λ (r : List ℕ). entryNumber r e) (lent-row t (rowLength * i) i refl)) ∙ c .before .if2 .left in
     let all : Passed (rowAt t i) e = entry-passed (rowAt t i) e none in
     (omega (arith, c .before .before .before .before .before .before .before .before .lookup .ensures .1, ap rowEnd (c .before .before .before .before .before .before .i .given .1)), all .is-sound, all .room, label-fits e (all .fine))
 

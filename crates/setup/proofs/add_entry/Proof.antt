@@ -7,7 +7,7 @@ use lib.ListN.{length}
 use borrow.Author.Needs.{needs}
 use Rattle.changes.specs.Changes.{withEntry}
 use Rattle.table.specs.Soundness.{sound}
-use Rattle.table.specs.TheTable.{readRow}
+use Rattle.table.specs.TheTable.{readRow, rowLength}
 use Rattle.table.proofs.Rows.{lent-row}
 use Rattle.changes.proofs.Rows.{back-row}
 use Rattle.setup.proofs.add_entry.Statement.{statement}
@@ -30,7 +30,7 @@ part-append-entry-end c = search needs
 
 append-entry-requires : tie.Need-append-entry-requires
 append-entry-requires c κs = let start = c .before .before .before in
-    let lent = lent-row (start .args .table .now) (4608 * (start .args .i)) (start .args .i) refl in
+    let lent = lent-row (start .args .table .now) (rowLength * (start .args .i)) (start .args .i) refl in
     (ap sound lent ∙ start .pre .1, omega (arith, ap (λ (r : List ℕ). length ((readRow r) .entries)) lent, start .pre .2), start .pre .3)
 
 same-length : tie.Need-same-length

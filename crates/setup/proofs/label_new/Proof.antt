@@ -1,16 +1,16 @@
--- The invariant: the test of what is left has the answer of the whole test; the part lent is the label: `label-lent` of the table's Entries.
+-- The invariant: the test of what is left has the answer of the whole test; the text compared is the label: `labels-at` of the table's Entries.
 use mathlib.Core.Bool.{not}
 use mathlib.Core.Path.{_≡_, sym, ap, _∙_}
 use mathlib.Core.List.{List, []}
 use Prim.Native.Nat.{ℕ, _-_, _≤_}
 use native.Mathlib.Omega.{arith}
 use lib.ListN.{drop}
-use borrow.Author.Needs.{needs}
 use Rattle.octets.specs.Lists.{every}
 use Rattle.table.specs.Soundness.{labels, sameLabel}
 use Rattle.table.specs.TheTable.{readEntries}
 use Rattle.table.proofs.Tests.{every-end, every-on-true, every-out}
-use Rattle.table.proofs.Entries.{label-lent, label-size, length-labels}
+use Rattle.table.proofs.Entries.{label-size, labels-at, length-labels}
+use borrow.Author.Needs.{needs}
 use Rattle.setup.proofs.label_new.Statement.{statement}
 use Rattle.setup.proofs.label_new.Tie as tie
 
@@ -23,45 +23,26 @@ abbrev μ-loop : tie.MeasureT-loop
 loop-holds : tie.Need-loop-holds Inv-loop μ-loop
 loop-holds c = search needs
 
-mul-from : tie.Need-mul-from Inv-loop μ-loop
-mul-from c = search needs
-
-add-from : tie.Need-add-from Inv-loop μ-loop
-add-from c = search needs
-
-mul-long : tie.Need-mul-long Inv-loop μ-loop
-mul-long c = search needs
-
-shared-slice-read-long : tie.Need-shared-slice-read-long Inv-loop μ-loop
-shared-slice-read-long c = search needs
-
-long-requires : tie.Need-long-requires Inv-loop μ-loop
-long-requires c κs = search needs
-
-add-to : tie.Need-add-to Inv-loop μ-loop
-add-to c = search needs
-
-sub-same-label : tie.Need-sub-same-label Inv-loop μ-loop
-sub-same-label c = search needs
-
-part-same-label-start : tie.Need-part-same-label-start Inv-loop μ-loop
-part-same-label-start c = search needs
-
-part-same-label-end : tie.Need-part-same-label-end Inv-loop μ-loop
-part-same-label-end c = let given = c .before .before .before .before .before .before .args in
-    omega (arith, label-size (given .n) (c .before .before .before .loop .i) (given .room .now) (omega arith) (c .before .before .before .before .before .before .pre .2), c .long .ensures .0)
+label-requires : tie.Need-label-requires Inv-loop μ-loop
+label-requires c κs =
+    let pre-was = c .before .before .before .before .pre in
+    let given = c .before .before .before .before .args in
+    let loop-was = c .before .loop in
+    (pre-was .0, omega arith, label-size (given .n) (loop-was .i) (given .room .now) (omega arith) (pre-was .2))
 
 same-label-requires : tie.Need-same-label-requires Inv-loop μ-loop
 same-label-requires c κs = search needs
 
 returns : tie.Need-returns Inv-loop μ-loop
-returns c = let given = c .before .before .before .before .before .before .before .before .before .args in
-    let i = c .before .before .before .before .before .before .loop .i in
-    let room = given .room .now in
-    let label = given .label .now in
-    let all : List (List ℕ) = labels (readEntries (given .n) room) in
-    let said = c .before .same-label .ensures ∙ ap (λ (l : List ℕ). sameLabel l label) (label-lent (given .n) i (c .before .before .before .long .result) room (omega arith) (c .before .before .before .before .before .before .before .before .before .pre .2) (c .before .before .before .long .ensures .0)) in
-    sym (every-out [] (λ l. not (sameLabel l label)) all i (omega (arith, length-labels (given .n) room)) (ap not (sym said ∙ c .if1 .taken))) ∙ c .before .before .before .before .before .before .loop .inv .1
+returns c =
+    let given = c .before .before .before .before .before .before .before .args in
+    let same-label-was = c .before .same-label in
+    let label-was = c .before .before .label in
+    let loop-was = c .before .before .before .before .loop in
+    let test1 = c .if1 in
+    let all : List (List ℕ) = labels (readEntries (given .n) (given .room .now)) in
+    let said = same-label-was .ensures ∙ ap (λ (l : List ℕ). sameLabel l (given .label .now)) (label-was .ensures ∙ sym (labels-at (given .n) (loop-was .i) (given .room .now) (omega arith))) in
+    sym (every-out [] (λ l. not (sameLabel l (given .label .now))) all (loop-was .i) (omega (arith, length-labels (given .n) (given .room .now))) (ap not (sym said ∙ test1 .taken))) ∙ loop-was .inv .1
 
 add-i : tie.Need-add-i Inv-loop μ-loop
 add-i c = search needs
@@ -70,19 +51,22 @@ loop-less : tie.Need-loop-less Inv-loop μ-loop
 loop-less c = search needs
 
 loop-again : tie.Need-loop-again Inv-loop μ-loop
-loop-again c = let given = c .before .before .before .before .before .before .before .before .before .args in
-    let i = c .before .before .before .before .before .before .loop .i in
-    let room = given .room .now in
-    let label = given .label .now in
-    let all : List (List ℕ) = labels (readEntries (given .n) room) in
-    let said = c .before .same-label .ensures ∙ ap (λ (l : List ℕ). sameLabel l label) (label-lent (given .n) i (c .before .before .before .long .result) room (omega arith) (c .before .before .before .before .before .before .before .before .before .pre .2) (c .before .before .before .long .ensures .0)) in
-    (omega arith, every-on-true [] (λ l. not (sameLabel l label)) all i (omega (arith, length-labels (given .n) room)) (ap not (sym said ∙ c .if1 .left)) ∙ c .before .before .before .before .before .before .loop .inv .1)
+loop-again c =
+    let given = c .before .before .before .before .before .before .before .args in
+    let same-label-was = c .before .same-label in
+    let label-was = c .before .before .label in
+    let loop-was = c .before .before .before .before .loop in
+    let test1 = c .if1 in
+    let all : List (List ℕ) = labels (readEntries (given .n) (given .room .now)) in
+    let said = same-label-was .ensures ∙ ap (λ (l : List ℕ). sameLabel l (given .label .now)) (label-was .ensures ∙ sym (labels-at (given .n) (loop-was .i) (given .room .now) (omega arith))) in
+    (omega arith, every-on-true [] (λ l. not (sameLabel l (given .label .now))) all (loop-was .i) (omega (arith, length-labels (given .n) (given .room .now))) (ap not (sym said ∙ test1 .left)) ∙ loop-was .inv .1)
 
 returns-2 : tie.Need-returns-2 Inv-loop μ-loop
-returns-2 c = let given = c .before .before .before .before .args in
-    let room = given .room .now in
-    let label = given .label .now in
-    sym (every-end [] (λ l. not (sameLabel l label)) (labels (readEntries (given .n) room)) (c .before .loop .i) (omega (arith, length-labels (given .n) room))) ∙ c .before .loop .inv .1
+returns-2 c =
+    let given = c .before .before .before .before .args in
+    let loop-was = c .before .loop in
+    let all : List (List ℕ) = labels (readEntries (given .n) (given .room .now)) in
+    sym (every-end [] (λ l. not (sameLabel l (given .label .now))) all (loop-was .i) (omega (arith, length-labels (given .n) (given .room .now)))) ∙ loop-was .inv .1
 
 pub label-new-spec : {M : Type 1} → statement M
 label-new-spec =
@@ -91,15 +75,7 @@ label-new-spec =
     Inv-loop
     μ-loop
     loop-holds
-    mul-from
-    add-from
-    mul-long
-    shared-slice-read-long
-    long-requires
-    add-to
-    sub-same-label
-    part-same-label-start
-    part-same-label-end
+    label-requires
     same-label-requires
     returns
     add-i

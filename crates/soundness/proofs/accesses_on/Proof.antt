@@ -5,12 +5,12 @@ use Prim.Native.Nat.{_+_, _-_, _<_, _≤_}
 use native.Mathlib.Omega.{arith}
 use lib.ListN.{drop, getD, length}
 use lib.Dec.{eqb}
-use borrow.Author.Needs.{needs}
 use borrow.Author.Tests.{eq-eqb, ne-eqb}
 use Rattle.octets.specs.Lists.{keep}
 use Rattle.table.specs.TheTable.{orderLine}
-use Rattle.soundness.proofs.Line.{place-high}
+use Rattle.soundness.proofs.Line.{line-most, place-high}
 use Rattle.soundness.proofs.Accesses.{at-entry, isAt, keep-hit, keep-miss, keep-over, on-line}
+use borrow.Author.Needs.{needs}
 use Rattle.soundness.proofs.accesses_on.Statement.{statement}
 use Rattle.soundness.proofs.accesses_on.Tie as tie
 
@@ -26,31 +26,24 @@ accesses-in-use-requires c κs = search needs
 loop-holds : tie.Need-loop-holds Inv-loop μ-loop
 loop-holds c = search needs
 
-add-long : tie.Need-add-long Inv-loop μ-loop
-add-long c = search needs
+line-place-requires : tie.Need-line-place-requires Inv-loop μ-loop
+line-place-requires c κs =
+    let pre-was = c .before .before .before .before .pre in
+    let given = c .before .before .before .before .args in
+    let accesses-in-use-was = c .before .before .accesses-in-use in
+    (pre-was .0, omega (arith, line-most (given .r .now), accesses-in-use-was .ensures .0))
 
-shared-slice-read-long : tie.Need-shared-slice-read-long Inv-loop μ-loop
-shared-slice-read-long c = search needs
+entry-of-requires : tie.Need-entry-of-requires Inv-loop μ-loop
+entry-of-requires c κs =
+    let pre-was = c .before .before .before .before .before .pre in
+    let given = c .before .before .before .before .before .args in
+    let loop-was = c .before .before .loop in
+    let accesses-in-use-was = c .before .before .before .accesses-in-use in
+    let line-place-was = c .line-place in
+    (pre-was .0, omega (arith, place-high (given .r .now) (loop-was .i) (pre-was .1) (omega (arith, accesses-in-use-was .ensures .0)), line-place-was .ensures .0))
 
 long-requires : tie.Need-long-requires Inv-loop μ-loop
 long-requires c κs = search needs
-
-mul-long : tie.Need-mul-long Inv-loop μ-loop
-mul-long c = search needs
-
-add-long-2 : tie.Need-add-long-2 Inv-loop μ-loop
-add-long-2 c = search needs
-
-shared-slice-read-long-2 : tie.Need-shared-slice-read-long-2 Inv-loop μ-loop
-shared-slice-read-long-2 c =
-    let given = c .before .before .before .before .before .before .before .args in
-    let loop-was = c .before .before .before .before .loop in
-    let pre-was = c .before .before .before .before .before .before .before .pre in
-    let long-was = c .before .long in
-    omega (arith, place-high (given .r .now) (loop-was .i) (pre-was .0) (pre-was .1) (omega arith), long-was .ensures .0)
-
-long-requires-2 : tie.Need-long-requires-2 Inv-loop μ-loop
-long-requires-2 c κs = search needs
 
 add-count : tie.Need-add-count Inv-loop μ-loop
 add-count c = search needs
@@ -63,17 +56,17 @@ loop-less c = search needs
 
 loop-again : tie.Need-loop-again Inv-loop μ-loop
 loop-again c =
-    let loop-was = c .before .before .before .before .before .before .loop in
-    let given = c .before .before .before .before .before .before .before .before .before .args in
-    let long2-was = c .before .long2 in
-    let long-was = c .before .before .before .long in
-    let pre-was = c .before .before .before .before .before .before .before .before .before .pre in
+    let loop-was = c .before .before .before .before .before .loop in
+    let given = c .before .before .before .before .before .before .before .before .args in
+    let long-was = c .before .long in
+    let line-place-was = c .before .before .before .line-place in
+    let entry-of-was = c .before .before .entry-of in
     let test1 = c .if1 in
     let inside : loop-was .i < length (orderLine (given .r .now)) = omega arith in
-    let this : isAt (given .r .now) (given .e) (getD (orderLine (given .r .now)) (loop-was .i) 0) ≡ eqb (long2-was .result) (given .e) = at-entry (given .r .now) (loop-was .i) (long-was .result) (long2-was .result) (given .e) (pre-was .0) inside (long-was .ensures .0) (long2-was .ensures .0) in
+    let this : isAt (given .r .now) (given .e) (getD (orderLine (given .r .now)) (loop-was .i) 0) ≡ eqb (long-was .result) (given .e) = at-entry (given .r .now) (loop-was .i) (line-place-was .result) (long-was .result) (given .e) inside (line-place-was .ensures .0) (long-was .ensures .0 ∙ entry-of-was .ensures) in
     ⊎-elim
-    (λ w. let hit = keep-hit (isAt (given .r .now) (given .e)) (orderLine (given .r .now)) (loop-was .i) inside (this ∙ eq-eqb (long2-was .result) (given .e) (w .0 .taken)) in (omega arith, omega arith, omega arith))
-    (λ w. let miss = keep-miss (isAt (given .r .now) (given .e)) (orderLine (given .r .now)) (loop-was .i) inside (this ∙ ne-eqb (long2-was .result) (given .e) (w .0 .left)) in (omega arith, omega arith, omega arith))
+    (λ w. let hit = keep-hit (isAt (given .r .now) (given .e)) (orderLine (given .r .now)) (loop-was .i) inside (this ∙ eq-eqb (long-was .result) (given .e) (w .0 .taken)) in (omega arith, omega arith, omega arith))
+    (λ w. let miss = keep-miss (isAt (given .r .now) (given .e)) (orderLine (given .r .now)) (loop-was .i) inside (this ∙ ne-eqb (long-was .result) (given .e) (w .0 .left)) in (omega arith, omega arith, omega arith))
     (test1 .came)
 
 returns : tie.Need-returns Inv-loop μ-loop
@@ -91,13 +84,9 @@ accesses-on-spec =
     μ-loop
     accesses-in-use-requires
     loop-holds
-    add-long
-    shared-slice-read-long
+    line-place-requires
+    entry-of-requires
     long-requires
-    mul-long
-    add-long-2
-    shared-slice-read-long-2
-    long-requires-2
     add-count
     add-i
     loop-less

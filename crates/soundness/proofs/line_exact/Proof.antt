@@ -1,16 +1,16 @@
 -- The places passed are 1 to 8, all differ, and `used` has their bits: `line-turn` of Line.
 use mathlib.Core.Path.{_∙_, _≡_, ap, refl, sym}
 use mathlib.Core.Bool.{true}
-use Prim.Native.Nat.{_%_, _-_, _/_, _^_, _≤_}
+use Prim.Native.Nat.{_%_, _-_, _/_, _^_, _≤_, ℕ}
 use native.Mathlib.Omega.{arith}
+use mathlib.Core.List.{List}
 use lib.ListN.{getD, length, take}
 use lib.Dec.{eqb}
-use borrow.Author.Needs.{needs}
-use Rattle.octets.specs.Lists.{distinct, every}
+use Rattle.octets.specs.Lists.{distinct, every, upTo0}
 use Rattle.octets.specs.Choice.{within}
 use Rattle.table.specs.TheTable.{orderLine, usedBits}
-use Rattle.soundness.proofs.Line.{line-at, line-end, line-high, line-is, line-low, line-most, line-turn, line-twice, used-bit, used-none}
-use Rattle.table.proofs.Sound.{in-use}
+use Rattle.soundness.proofs.Line.{line-at, line-end, line-high, line-low, line-most, line-turn, line-twice, used-bit, used-none}
+use borrow.Author.Needs.{needs}
 use Rattle.soundness.proofs.line_exact.Statement.{statement}
 use Rattle.soundness.proofs.line_exact.Tie as tie
 
@@ -20,90 +20,61 @@ Inv-loop r n used₀ i₀ used i = (i ≤ n) × (n ≡ length (orderLine r)) × 
 abbrev μ-loop : tie.MeasureT-loop
 μ-loop r n used₀ i₀ used i = n - i
 
-sub-line-length : tie.Need-sub-line-length Inv-loop μ-loop
-sub-line-length c = search needs
-
-part-line-length-start : tie.Need-part-line-length-start Inv-loop μ-loop
-part-line-length-start c = search needs
-
-part-line-length-end : tie.Need-part-line-length-end Inv-loop μ-loop
-part-line-length-end c = search needs
+line-room-requires : tie.Need-line-room-requires Inv-loop μ-loop
+line-room-requires c κs = search needs
 
 line-length-requires : tie.Need-line-length-requires Inv-loop μ-loop
 line-length-requires c κs = search needs
 
 loop-holds : tie.Need-loop-holds Inv-loop μ-loop
-unfolding every distinct
+unfolding orderLine every distinct
 loop-holds c =
     let line-length-was = c .line-length in
     let given = c .before .before .before .args in
-    let pre-was = c .before .before .before .pre in
-    let whole : line-length-was .result ≡ length (orderLine (given .r .now)) = line-length-was .ensures .0 ∙ ap length (sym (line-is (given .r .now))) in
-    (omega arith, whole, omega (arith, line-most (given .r .now) pre-was), used-none, refl, refl)
+    let line-room-was = c .before .line-room in
+    let whole : line-length-was .result ≡ length (orderLine (given .r .now)) = line-length-was .ensures .0 ∙ ap (λ (t : List ℕ). length (upTo0 t)) (line-room-was .ensures) in
+    (omega arith, whole, omega (arith, line-most (given .r .now)), used-none, refl, refl)
 
-add-long : tie.Need-add-long Inv-loop μ-loop
-add-long c = search needs
-
-shared-slice-read-long : tie.Need-shared-slice-read-long Inv-loop μ-loop
-shared-slice-read-long c = search needs
-
-long-requires : tie.Need-long-requires Inv-loop μ-loop
-long-requires c κs = search needs
+line-place-requires : tie.Need-line-place-requires Inv-loop μ-loop
+line-place-requires c κs =
+    let pre-was = c .before .before .before .before .before .pre in
+    (pre-was, omega arith)
 
 returns : tie.Need-returns Inv-loop μ-loop
 returns c =
-    let given = c .before .before .before .before .before .before .before .before .args in
-    let loop-was = c .before .before .before .before .loop in
-    let pre-was = c .before .before .before .before .before .before .before .before .pre in
-    let long-was = c .before .long in
-    line-high (given .r .now) (loop-was .i) (omega arith) (omega (arith, line-at (given .r .now) (loop-was .i) pre-was (omega arith), long-was .ensures .0))
+    let given = c .before .before .before .before .before .before .before .args in
+    let loop-was = c .before .before .before .loop in
+    let line-place-was = c .before .line-place in
+    line-high (given .r .now) (loop-was .i) (omega arith) (omega (arith, line-at (given .r .now) (loop-was .i) (omega arith), line-place-was .ensures .0))
 
 in-use-requires : tie.Need-in-use-requires Inv-loop μ-loop
 in-use-requires c κs =
-    let given = c .before .before .before .before .before .before .before .before .args in
-    let loop-was = c .before .before .before .before .loop in
-    let pre-was = c .before .before .before .before .before .before .before .before .pre in
-    let long-was = c .before .long in
-    (omega (arith, line-low (given .r .now) (loop-was .i) pre-was (omega arith), long-was .ensures .0), omega arith)
-
--- the way on comes before the way out, so that what is passed wrongly is refused here
-loop-again : tie.Need-loop-again Inv-loop μ-loop
-loop-again c =
-    let given = c .before .before .before .before .before .before .before .before .before .before .before .args in
-    let loop-was = c .before .before .before .before .before .before .before .loop in
-    let long-was = c .before .before .before .before .long in
-    let pre-was = c .before .before .before .before .before .before .before .before .before .before .before .pre in
-    let with-place-was = c .with-place in
-    let in-use-was = c .before .before .in-use in
-    let test2 = c .before .if2 in
-    let this : getD (orderLine (given .r .now)) (loop-was .i) 0 ≡ long-was .result = line-at (given .r .now) (loop-was .i) pre-was (omega arith) ∙ sym (long-was .ensures .0) in
-    let low : 1 ≤ long-was .result = omega (arith, line-low (given .r .now) (loop-was .i) pre-was (omega arith), long-was .ensures .0) in
-    let next = line-turn (orderLine (given .r .now)) (loop-was .i) (loop-was .used) (with-place-was .result) (omega arith) (rw this low) (omega arith) (loop-was .inv .3) (rw this (sym (in-use-was .ensures) ∙ test2 .left)) (rw this (with-place-was .ensures)) (loop-was .inv .4) (loop-was .inv .5) in
-    (omega arith, loop-was .inv .1, omega arith, next .0, next .1, next .2)
+    let given = c .before .before .before .before .before .before .before .args in
+    let loop-was = c .before .before .before .loop in
+    let line-place-was = c .before .line-place in
+    (omega (arith, line-low (given .r .now) (loop-was .i) (omega arith), line-place-was .ensures .0), omega arith)
 
 returns-2 : tie.Need-returns-2 Inv-loop μ-loop
 returns-2 c =
-    let given = c .before .before .before .before .before .before .before .before .before .before .args in
-    let loop-was = c .before .before .before .before .before .before .loop in
-    let long-was = c .before .before .before .long in
-    let pre-was = c .before .before .before .before .before .before .before .before .before .before .pre in
+    let given = c .before .before .before .before .before .before .before .before .before .args in
+    let loop-was = c .before .before .before .before .before .loop in
+    let line-place-was = c .before .before .before .line-place in
     let in-use-was = c .before .in-use in
     let test2 = c .if2 in
-    let this : getD (orderLine (given .r .now)) (loop-was .i) 0 ≡ long-was .result = line-at (given .r .now) (loop-was .i) pre-was (omega arith) ∙ sym (long-was .ensures .0) in
-    let low : 1 ≤ long-was .result = omega (arith, line-low (given .r .now) (loop-was .i) pre-was (omega arith), long-was .ensures .0) in
-    let was : eqb (loop-was .used / 2 ^ (long-was .result - 1) % 2) 1 ≡ true = sym (in-use-was .ensures) ∙ test2 .taken in
-    let set-already : eqb (usedBits (take (loop-was .i) (orderLine (given .r .now))) / 2 ^ (long-was .result - 1) % 2) 1 ≡ true = rw (loop-was .inv .3) at was in
-    line-twice (given .r .now) (loop-was .i) (omega arith) (rw this (sym (used-bit (take (loop-was .i) (orderLine (given .r .now))) (long-was .result) low (omega arith)) ∙ set-already))
+    let this : getD (orderLine (given .r .now)) (loop-was .i) 0 ≡ line-place-was .result = line-at (given .r .now) (loop-was .i) (omega arith) ∙ sym (line-place-was .ensures .0) in
+    let low : 1 ≤ line-place-was .result = omega (arith, line-low (given .r .now) (loop-was .i) (omega arith), line-place-was .ensures .0) in
+    let was : eqb (loop-was .used / 2 ^ (line-place-was .result - 1) % 2) 1 ≡ true = sym (in-use-was .ensures) ∙ test2 .taken in
+    let set-already : eqb (usedBits (take (loop-was .i) (orderLine (given .r .now))) / 2 ^ (line-place-was .result - 1) % 2) 1 ≡ true = rw (loop-was .inv .3) at was in
+    line-twice (given .r .now) (loop-was .i) (omega arith) (rw this (sym (used-bit (take (loop-was .i) (orderLine (given .r .now))) (line-place-was .result) low (omega arith)) ∙ set-already))
 
 with-place-requires : tie.Need-with-place-requires Inv-loop μ-loop
 with-place-requires c κs =
-    let given = c .before .before .before .before .before .before .before .before .before .before .args in
-    let loop-was = c .before .before .before .before .before .before .loop in
-    let pre-was = c .before .before .before .before .before .before .before .before .before .before .pre in
-    let long-was = c .before .before .before .long in
+    let given = c .before .before .before .before .before .before .before .before .before .args in
+    let loop-was = c .before .before .before .before .before .loop in
+    let line-place-was = c .before .before .before .line-place in
     let in-use-was = c .before .in-use in
     let test2 = c .if2 in
-    (omega (arith, line-low (given .r .now) (loop-was .i) pre-was (omega arith), long-was .ensures .0), omega arith, sym (in-use-was .ensures) ∙ test2 .left)
+    (omega (arith, line-low (given .r .now) (loop-was .i) (omega arith), line-place-was .ensures .0), omega arith, sym (in-use-was .ensures) ∙ test2 .left)
 
 add-i : tie.Need-add-i Inv-loop μ-loop
 add-i c = search needs
@@ -111,14 +82,28 @@ add-i c = search needs
 loop-less : tie.Need-loop-less Inv-loop μ-loop
 loop-less c = search needs
 
-shared-slice-read-result : tie.Need-shared-slice-read-result Inv-loop μ-loop
-shared-slice-read-result c = search needs
+loop-again : tie.Need-loop-again Inv-loop μ-loop
+loop-again c =
+    let given = c .before .before .before .before .before .before .before .before .before .before .args in
+    let loop-was = c .before .before .before .before .before .before .loop in
+    let line-place-was = c .before .before .before .before .line-place in
+    let with-place-was = c .with-place in
+    let in-use-was = c .before .before .in-use in
+    let test2 = c .before .if2 in
+    let this : getD (orderLine (given .r .now)) (loop-was .i) 0 ≡ line-place-was .result = line-at (given .r .now) (loop-was .i) (omega arith) ∙ sym (line-place-was .ensures .0) in
+    let low : 1 ≤ line-place-was .result = omega (arith, line-low (given .r .now) (loop-was .i) (omega arith), line-place-was .ensures .0) in
+    let next = line-turn (orderLine (given .r .now)) (loop-was .i) (loop-was .used) (with-place-was .result) (omega arith) (rw this low) (omega arith) (loop-was .inv .3) (rw this (sym (in-use-was .ensures) ∙ test2 .left)) (rw this (with-place-was .ensures)) (loop-was .inv .4) (loop-was .inv .5) in
+    (omega arith, loop-was .inv .1, omega arith, next .0, next .1, next .2)
+
+used-bits-requires : tie.Need-used-bits-requires Inv-loop μ-loop
+used-bits-requires c κs = search needs
 
 returns-3 : tie.Need-returns-3 Inv-loop μ-loop
 returns-3 c =
-    let given = c .before .before .before .before .before .before .args in
     let loop-was = c .before .before .loop in
-    line-end (given .r .now) (loop-was .i) (loop-was .used) (omega arith) (loop-was .inv .3) (loop-was .inv .4) (loop-was .inv .5)
+    let used-bits-was = c .used-bits in
+    let given = c .before .before .before .before .before .before .args in
+    ap (λ (x : ℕ). eqb x (loop-was .used)) (used-bits-was .ensures) ∙ line-end (given .r .now) (loop-was .i) (loop-was .used) (omega arith) (loop-was .inv .3) (loop-was .inv .4) (loop-was .inv .5)
 
 pub line-exact-spec : {M : Type 1} → statement M
 line-exact-spec =
@@ -126,14 +111,10 @@ line-exact-spec =
     (tie.spec
     Inv-loop
     μ-loop
-    sub-line-length
-    part-line-length-start
-    part-line-length-end
+    line-room-requires
     line-length-requires
     loop-holds
-    add-long
-    shared-slice-read-long
-    long-requires
+    line-place-requires
     returns
     in-use-requires
     returns-2
@@ -141,5 +122,5 @@ line-exact-spec =
     add-i
     loop-less
     loop-again
-    shared-slice-read-result
+    used-bits-requires
     returns-3)

@@ -1,9 +1,18 @@
 -- The tests in the code's order are the paper's clauses: `sound-by` of Tested. Each way out is the first that fails.
+use mathlib.Core.Path.{_∙_, ap}
+use mathlib.Core.List.{List}
+use Prim.Native.Nat.{ℕ}
 use native.Mathlib.Omega.{arith}
-use borrow.Author.Needs.{needs}
+use lib.ListN.{length, take}
+use Rattle.octets.specs.Lists.{every}
+use Rattle.octets.specs.Texts.{part, same}
+use Rattle.forms.specs.RowTests.{placeSound}
 use Rattle.table.specs.Soundness.{sumsAgree}
+use Rattle.table.specs.TheTable.{places, sums}
+use Rattle.table.proofs.Form.{length-block}
 use Rattle.table.proofs.Tests.{fails, passes-on}
 use Rattle.soundness.proofs.Tested.{few-entries, sound-by, tested}
+use borrow.Author.Needs.{needs}
 use Rattle.soundness.proofs.row_sound.Statement.{statement}
 use Rattle.soundness.proofs.row_sound.Tie as tie
 
@@ -33,8 +42,8 @@ returns-2 c =
     let test2 = c .if2 in
     rw (sound-by (given .r .now) pre-was, passes-on (head-sound-was .ensures) (test1 .left), fails (line-exact-was .ensures) (test2 .taken))
 
-shared-slice-read-places-sound : tie.Need-shared-slice-read-places-sound
-shared-slice-read-places-sound c = search needs
+entry-count-requires : tie.Need-entry-count-requires
+entry-count-requires c κs = search needs
 
 places-sound-requires : tie.Need-places-sound-requires
 places-sound-requires c κs = search needs
@@ -49,8 +58,9 @@ returns-3 c =
     let line-exact-was = c .before .before .before .before .line-exact in
     let test2 = c .before .before .before .if2 in
     let places-sound-was = c .before .places-sound in
+    let entry-count-was = c .before .before .entry-count in
     let test3 = c .if3 in
-    rw (sound-by (given .r .now) pre-was, passes-on (head-sound-was .ensures) (test1 .left), passes-on (line-exact-was .ensures) (test2 .left), fails (places-sound-was .ensures) (test3 .taken))
+    rw (sound-by (given .r .now) pre-was, passes-on (head-sound-was .ensures) (test1 .left), passes-on (line-exact-was .ensures) (test2 .left), fails (places-sound-was .ensures ∙ ap (λ (n : ℕ). every (placeSound n (given .r .now)) places) (entry-count-was .ensures)) (test3 .taken))
 
 sessions-differ-requires : tie.Need-sessions-differ-requires
 sessions-differ-requires c κs =
@@ -69,74 +79,75 @@ returns-4 c =
     let line-exact-was = c .before .before .before .before .before .before .line-exact in
     let test2 = c .before .before .before .before .before .if2 in
     let places-sound-was = c .before .before .before .places-sound in
+    let entry-count-was = c .before .before .before .before .entry-count in
     let test3 = c .before .before .if3 in
     let sessions-differ-was = c .before .sessions-differ in
     let test4 = c .if4 in
-    rw (sound-by (given .r .now) pre-was, passes-on (head-sound-was .ensures) (test1 .left), passes-on (line-exact-was .ensures) (test2 .left), passes-on (places-sound-was .ensures) (test3 .left), fails (sessions-differ-was .ensures) (test4 .taken))
-
-shared-slice-read-long : tie.Need-shared-slice-read-long
-shared-slice-read-long c = search needs
+    rw (sound-by (given .r .now) pre-was, passes-on (head-sound-was .ensures) (test1 .left), passes-on (line-exact-was .ensures) (test2 .left), passes-on (places-sound-was .ensures ∙ ap (λ (n : ℕ). every (placeSound n (given .r .now)) places) (entry-count-was .ensures)) (test3 .left), fails (sessions-differ-was .ensures) (test4 .taken))
 
 long-requires : tie.Need-long-requires
 long-requires c κs = search needs
 
 under-limits-requires : tie.Need-under-limits-requires
 under-limits-requires c κs =
-    let pre-was = c .before .before .before .before .before .before .before .before .before .before .before .before .pre in
-    let line-exact-was = c .before .before .before .before .before .before .before .before .line-exact in
-    let test2 = c .before .before .before .before .before .before .before .if2 in
+    let pre-was = c .before .before .before .before .before .before .before .before .before .before .before .pre in
+    let line-exact-was = c .before .before .before .before .before .before .before .line-exact in
+    let test2 = c .before .before .before .before .before .before .if2 in
     let long-was = c .long in
-    let given = c .before .before .before .before .before .before .before .before .before .before .before .before .args in
-    let head-sound-was = c .before .before .before .before .before .before .before .before .before .before .head-sound in
-    let test1 = c .before .before .before .before .before .before .before .before .before .if1 in
-    (pre-was, passes-on (line-exact-was .ensures) (test2 .left), long-was .ensures .0, omega (arith, few-entries (given .r .now) (passes-on (head-sound-was .ensures) (test1 .left)), long-was .ensures .0))
+    let entry-count-was = c .before .before .before .before .before .entry-count in
+    let given = c .before .before .before .before .before .before .before .before .before .before .before .args in
+    let head-sound-was = c .before .before .before .before .before .before .before .before .before .head-sound in
+    let test1 = c .before .before .before .before .before .before .before .before .if1 in
+    (pre-was, passes-on (line-exact-was .ensures) (test2 .left), long-was .ensures .0 ∙ entry-count-was .ensures, omega (arith, few-entries (given .r .now) (passes-on (head-sound-was .ensures) (test1 .left)), long-was .ensures .0 ∙ entry-count-was .ensures))
 
 returns-5 : tie.Need-returns-5
 unfolding tested
 returns-5 c =
-    let given = c .before .before .before .before .before .before .before .before .before .before .before .before .before .before .args in
-    let pre-was = c .before .before .before .before .before .before .before .before .before .before .before .before .before .before .pre in
-    let head-sound-was = c .before .before .before .before .before .before .before .before .before .before .before .before .head-sound in
-    let test1 = c .before .before .before .before .before .before .before .before .before .before .before .if1 in
-    let line-exact-was = c .before .before .before .before .before .before .before .before .before .before .line-exact in
-    let test2 = c .before .before .before .before .before .before .before .before .before .if2 in
-    let places-sound-was = c .before .before .before .before .before .before .before .places-sound in
-    let test3 = c .before .before .before .before .before .before .if3 in
-    let sessions-differ-was = c .before .before .before .before .before .sessions-differ in
-    let test4 = c .before .before .before .before .if4 in
+    let given = c .before .before .before .before .before .before .before .before .before .before .before .before .before .args in
+    let pre-was = c .before .before .before .before .before .before .before .before .before .before .before .before .before .pre in
+    let head-sound-was = c .before .before .before .before .before .before .before .before .before .before .before .head-sound in
+    let test1 = c .before .before .before .before .before .before .before .before .before .before .if1 in
+    let line-exact-was = c .before .before .before .before .before .before .before .before .before .line-exact in
+    let test2 = c .before .before .before .before .before .before .before .before .if2 in
+    let places-sound-was = c .before .before .before .before .before .before .places-sound in
+    let entry-count-was = c .before .before .before .before .before .before .before .entry-count in
+    let test3 = c .before .before .before .before .before .if3 in
+    let sessions-differ-was = c .before .before .before .before .sessions-differ in
+    let test4 = c .before .before .before .if4 in
     let under-limits-was = c .before .under-limits in
     let test5 = c .if5 in
-    rw (sound-by (given .r .now) pre-was, passes-on (head-sound-was .ensures) (test1 .left), passes-on (line-exact-was .ensures) (test2 .left), passes-on (places-sound-was .ensures) (test3 .left), passes-on (sessions-differ-was .ensures) (test4 .left), fails (under-limits-was .ensures) (test5 .taken))
+    rw (sound-by (given .r .now) pre-was, passes-on (head-sound-was .ensures) (test1 .left), passes-on (line-exact-was .ensures) (test2 .left), passes-on (places-sound-was .ensures ∙ ap (λ (n : ℕ). every (placeSound n (given .r .now)) places) (entry-count-was .ensures)) (test3 .left), passes-on (sessions-differ-was .ensures) (test4 .left), fails (under-limits-was .ensures) (test5 .taken))
 
-sub-block-sums-agree : tie.Need-sub-block-sums-agree
-sub-block-sums-agree c = search needs
-
-part-block-sums-agree-start : tie.Need-part-block-sums-agree-start
-part-block-sums-agree-start c = search needs
-
-part-block-sums-agree-end : tie.Need-part-block-sums-agree-end
-part-block-sums-agree-end c = search needs
+head-requires : tie.Need-head-requires
+head-requires c κs = search needs
 
 block-sums-agree-requires : tie.Need-block-sums-agree-requires
-block-sums-agree-requires c κs = search needs
+block-sums-agree-requires c κs =
+    let head-was = c .head in
+    let given = c .before .before .before .before .before .before .before .before .before .before .before .before .before .before .args in
+    let pre-was = c .before .before .before .before .before .before .before .before .before .before .before .before .before .before .pre in
+    ap length (head-was .ensures) ∙ length-block (given .r .now) 0 pre-was (omega arith)
 
 returns-6 : tie.Need-returns-6
 unfolding tested sumsAgree
 returns-6 c =
-    let given = c .before .before .before .before .before .before .before .before .before .before .before .before .before .before .before .before .args in
-    let pre-was = c .before .before .before .before .before .before .before .before .before .before .before .before .before .before .before .before .pre in
-    let head-sound-was = c .before .before .before .before .before .before .before .before .before .before .before .before .before .before .head-sound in
-    let test1 = c .before .before .before .before .before .before .before .before .before .before .before .before .before .if1 in
-    let line-exact-was = c .before .before .before .before .before .before .before .before .before .before .before .before .line-exact in
-    let test2 = c .before .before .before .before .before .before .before .before .before .before .before .if2 in
-    let places-sound-was = c .before .before .before .before .before .before .before .before .before .places-sound in
-    let test3 = c .before .before .before .before .before .before .before .before .if3 in
-    let sessions-differ-was = c .before .before .before .before .before .before .before .sessions-differ in
-    let test4 = c .before .before .before .before .before .before .if4 in
+    let given = c .before .before .before .before .before .before .before .before .before .before .before .before .before .before .before .args in
+    let pre-was = c .before .before .before .before .before .before .before .before .before .before .before .before .before .before .before .pre in
+    let head-sound-was = c .before .before .before .before .before .before .before .before .before .before .before .before .before .head-sound in
+    let test1 = c .before .before .before .before .before .before .before .before .before .before .before .before .if1 in
+    let line-exact-was = c .before .before .before .before .before .before .before .before .before .before .before .line-exact in
+    let test2 = c .before .before .before .before .before .before .before .before .before .before .if2 in
+    let places-sound-was = c .before .before .before .before .before .before .before .before .places-sound in
+    let entry-count-was = c .before .before .before .before .before .before .before .before .before .entry-count in
+    let test3 = c .before .before .before .before .before .before .before .if3 in
+    let sessions-differ-was = c .before .before .before .before .before .before .sessions-differ in
+    let test4 = c .before .before .before .before .before .if4 in
     let under-limits-was = c .before .before .before .under-limits in
     let test5 = c .before .before .if5 in
     let block-sums-agree-was = c .block-sums-agree in
-    rw (sound-by (given .r .now) pre-was, passes-on (head-sound-was .ensures) (test1 .left), passes-on (line-exact-was .ensures) (test2 .left), passes-on (places-sound-was .ensures) (test3 .left), passes-on (sessions-differ-was .ensures) (test4 .left), passes-on (under-limits-was .ensures) (test5 .left)) (block-sums-agree-was .ensures)
+    let head-was = c .before .head in
+    rw (sound-by (given .r .now) pre-was, passes-on (head-sound-was .ensures) (test1 .left), passes-on (line-exact-was .ensures) (test2 .left), passes-on (places-sound-was .ensures ∙ ap (λ (n : ℕ). every (placeSound n (given .r .now)) places) (entry-count-was .ensures)) (test3 .left), passes-on (sessions-differ-was .ensures) (test4 .left), passes-on (under-limits-was .ensures) (test5 .left))
+    (block-sums-agree-was .ensures ∙ ap (λ (b : List ℕ). same (part b 510 2) (sums (take 510 b))) (head-was .ensures))
 
 pub row-sound-spec : {M : Type 1} → statement M
 row-sound-spec =
@@ -146,17 +157,14 @@ row-sound-spec =
     returns
     line-exact-requires
     returns-2
-    shared-slice-read-places-sound
+    entry-count-requires
     places-sound-requires
     returns-3
     sessions-differ-requires
     returns-4
-    shared-slice-read-long
     long-requires
     under-limits-requires
     returns-5
-    sub-block-sums-agree
-    part-block-sums-agree-start
-    part-block-sums-agree-end
+    head-requires
     block-sums-agree-requires
     returns-6)

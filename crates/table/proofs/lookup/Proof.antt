@@ -1,28 +1,28 @@
 -- The search from row i on finds what the lookup finds: `search-here`, `search-on` and `search-end` of Rows.
-use mathlib.Core.Path.{_∙_, _≡_, refl, sym}
+use mathlib.Core.Path.{_∙_, _≡_, ap, refl, sym}
 use mathlib.Core.Bool.{false, true}
 use Prim.Native.Nat.{_*_, _-_, _/_, _<_, _≤_}
 use native.Mathlib.Omega.{arith}
 use lib.ListN.{length}
 use borrow.Author.Needs.{needs}
-use Rattle.table.specs.TheTable.{isRowOf, lookup, rowAt}
+use Rattle.table.specs.TheTable.{isRowOf, lookup, rowAt, rowLength, rows}
 use Rattle.table.proofs.Tests.{lent-length}
-use Rattle.table.proofs.Rows.{lent-test, rows-most, search-all, search-end, search-here, search-on, search-skip, searched, whole-rows}
+use Rattle.table.proofs.Rows.{lent-test, piece-row, rows-most, search-all, search-end, search-here, search-on, search-skip, searched, whole-rows}
 use Rattle.table.proofs.lookup.Statement.{statement}
 use Rattle.table.proofs.lookup.Tie as tie
 
 abbrev Inv-loop : tie.InvT-loop
-Inv-loop t name n₀ at₀ n at = (at ≡ 4608 * n) × (n ≤ length t / 4608) × (searched (isRowOf name) t n ≡ lookup t name)
+Inv-loop t name n₀ at₀ n at = (at ≡ rowLength * n) × (n ≤ length t / rowLength) × (searched (isRowOf name) rowLength (length t / rowLength) t n ≡ lookup t name)
 
 abbrev μ-loop : tie.MeasureT-loop
 μ-loop t name n₀ at₀ n at = length t - at
 
 loop-holds : tie.Need-loop-holds Inv-loop μ-loop
-unfolding lookup
+unfolding lookup rows
 loop-holds c =
     let given = c .before .before .before .args in
     let passed = c .rows-passed .ensures in
-    (refl, passed .0, search-skip (isRowOf (given .name .now)) (given .t .now) (c .rows-passed .result) (passed .0) (passed .1) ∙ search-all (isRowOf (given .name .now)) (given .t .now))
+    (refl, passed .0, search-skip (isRowOf (given .name .now)) rowLength (length (given .t .now) / rowLength) (given .t .now) (c .rows-passed .result) (passed .0) (λ j l. ap (isRowOf (given .name .now)) (piece-row (given .t .now) j) ∙ passed .1 j l) ∙ search-all (isRowOf (given .name .now)) rowLength (length (given .t .now) / rowLength) (given .t .now))
 
 rows-passed-requires : tie.Need-rows-passed-requires Inv-loop μ-loop
 rows-passed-requires c κs = search needs
@@ -58,7 +58,7 @@ is-row-of-requires c κs =
     let given = c .before .before .before .before .before .before .args in
     let loop-was = c .before .before .loop in
     let pre-was = c .before .before .before .before .before .before .pre in
-    lent-length (given .t .now) (loop-was .at) 4608 (omega (arith, whole-rows (given .t .now) pre-was))
+    lent-length (given .t .now) (loop-was .at) rowLength (omega (arith, whole-rows (given .t .now) pre-was))
 
 returns : tie.Need-returns Inv-loop μ-loop
 returns c =
@@ -68,7 +68,7 @@ returns c =
     let test1 = c .if1 in
     let pre-was = c .before .before .before .before .before .before .before .before .pre in
     let here : isRowOf (given .name .now) (rowAt (given .t .now) (loop-was .n)) ≡ true = lent-test (isRowOf (given .name .now)) (given .t .now) (loop-was .at) (loop-was .n) _ true (loop-was .inv .0) (is-row-of-was .ensures) (test1 .taken) in
-    (sym (search-here (isRowOf (given .name .now)) (given .t .now) (loop-was .n) (omega (arith, whole-rows (given .t .now) pre-was)) here) ∙ loop-was .inv .2, omega (arith, whole-rows (given .t .now) pre-was))
+    (sym (search-here (isRowOf (given .name .now)) rowLength (length (given .t .now) / rowLength) (given .t .now) (loop-was .n) (omega (arith, whole-rows (given .t .now) pre-was)) (ap (isRowOf (given .name .now)) (piece-row (given .t .now) (loop-was .n)) ∙ here)) ∙ loop-was .inv .2, omega (arith, whole-rows (given .t .now) pre-was))
 
 add-n : tie.Need-add-n Inv-loop μ-loop
 add-n c =
@@ -90,15 +90,15 @@ loop-again c =
     let test1 = c .if1 in
     let pre-was = c .before .before .before .before .before .before .before .before .pre in
     let other : isRowOf (given .name .now) (rowAt (given .t .now) (loop-was .n)) ≡ false = lent-test (isRowOf (given .name .now)) (given .t .now) (loop-was .at) (loop-was .n) _ false (loop-was .inv .0) (is-row-of-was .ensures) (test1 .left) in
-    let inside : loop-was .n < length (given .t .now) / 4608 = omega (arith, whole-rows (given .t .now) pre-was) in
-    (omega arith, omega arith, search-on (isRowOf (given .name .now)) (given .t .now) (loop-was .n) inside other ∙ loop-was .inv .2)
+    let inside : loop-was .n < length (given .t .now) / rowLength = omega (arith, whole-rows (given .t .now) pre-was) in
+    (omega arith, omega arith, search-on (isRowOf (given .name .now)) rowLength (length (given .t .now) / rowLength) (given .t .now) (loop-was .n) inside (ap (isRowOf (given .name .now)) (piece-row (given .t .now) (loop-was .n)) ∙ other) ∙ loop-was .inv .2)
 
 returns-2 : tie.Need-returns-2 Inv-loop μ-loop
 returns-2 c =
     let given = c .before .before .before .before .before .args in
     let loop-was = c .before .loop in
     let pre-was = c .before .before .before .before .before .pre in
-    (sym (search-end (isRowOf (given .name .now)) (given .t .now) (loop-was .n) (omega (arith, whole-rows (given .t .now) pre-was))) ∙ loop-was .inv .2, omega arith)
+    (sym (search-end (isRowOf (given .name .now)) rowLength (length (given .t .now) / rowLength) (given .t .now) (loop-was .n) (omega (arith, whole-rows (given .t .now) pre-was))) ∙ loop-was .inv .2, omega arith)
 
 pub lookup-spec : {M : Type 1} → statement M
 lookup-spec =

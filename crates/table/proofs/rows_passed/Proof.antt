@@ -8,13 +8,13 @@ use mathlib.Core.Bool.{false}
 use lib.Dec.{eqb}
 use borrow.Author.Tests.{eqb-true, eqb-false}
 use Rattle.octets.proofs.Lists.{by-test}
-use Rattle.table.specs.TheTable.{isRowOf, rowAt}
+use Rattle.table.specs.TheTable.{isRowOf, rowAt, rowLength}
 use Rattle.table.proofs.Rows.{other-end, whole-rows}
 use Rattle.table.proofs.rows_passed.Statement.{statement}
 use Rattle.table.proofs.rows_passed.Tie as tie
 
 abbrev Inv-loop : tie.InvT-loop
-Inv-loop t name n end at₀ at = (at % 4608 ≡ length name - 6) × (at / 4608 ≤ length t / 4608) × ((j : ℕ) → j < at / 4608 → isRowOf name (rowAt t j) ≡ false)
+Inv-loop t name n end at₀ at = (at % rowLength ≡ length name - 6) × (at / rowLength ≤ length t / rowLength) × ((j : ℕ) → j < at / rowLength → isRowOf name (rowAt t j) ≡ false)
 
 abbrev μ-loop : tie.MeasureT-loop
 μ-loop t name n end at₀ at = length t - at
@@ -51,8 +51,8 @@ loop-again c =
     let l = c .before .before .before .loop in
     let name = start .args .name .now in
     let t = start .args .t .now in
-    let i : ℕ = l .at / 4608 in
-    let here : l .at ≡ 4608 * i + (length name - 6) = omega arith in
+    let i : ℕ = l .at / rowLength in
+    let here : l .at ≡ rowLength * i + (length name - 6) = omega arith in
     let other : isRowOf name (rowAt t i) ≡ false =
     other-end t name i (l .at) (omega arith) (omega arith) here (λ e. c .if3 .left (c .before .eight2 .ensures .0 ∙ e ∙ sym (c .before .before .before .before .eight .ensures .0))) in
     (omega arith, omega (arith, whole-rows t (start .pre)), λ j h. by-test (eqb j i) (λ e. ap (λ (k : ℕ). isRowOf name (rowAt t k)) (eqb-true j i e) ∙ other) (λ e. l .inv .2 j (omega (arith, eqb-false j i e))))

@@ -8,7 +8,7 @@ use borrow.Author.Tests.{not-true, not-false}
 use Rattle.octets.specs.Choice.{pick}
 use Rattle.message.specs.Kinds.{codeFrom}
 use Rattle.message.specs.Spans.{bytesOf}
-use Rattle.table.specs.TheTable.{lookup, row, nothing, rowAt}
+use Rattle.table.specs.TheTable.{lookup, nothing, row, rowAt, rowLength}
 use Rattle.table.specs.Soundness.{sound}
 use Rattle.table.specs.Answers.{found}
 use Rattle.table.proofs.Rows.{lent-test}
@@ -57,7 +57,7 @@ mul-a c =
     let t = a .table .now in
     let m = a .m .now in
     let i = c .before .found .given .0 .0 in
-    let end : 4608 * i + 4608 ≤ length t = rw (c .before .found .given .1) at (c .before .before .before .lookup .ensures .1) in
+    let end : rowLength * i + rowLength ≤ length t = rw (c .before .found .given .1) at (c .before .before .before .lookup .ensures .1) in
     omega (arith, end)
 
 add-e : tie.Need-add-e
@@ -67,7 +67,7 @@ add-e c =
     let t = a .table .now in
     let m = a .m .now in
     let i = c .before .found .given .0 .0 in
-    let end : 4608 * i + 4608 ≤ length t = rw (c .before .found .given .1) at (c .before .before .before .lookup .ensures .1) in
+    let end : rowLength * i + rowLength ≤ length t = rw (c .before .found .given .1) at (c .before .before .before .lookup .ensures .1) in
     omega (arith, end)
 
 sub-row-sound : tie.Need-sub-row-sound
@@ -83,7 +83,7 @@ part-row-sound-end c =
     let t = a .table .now in
     let m = a .m .now in
     let i = c .before .before .found .given .0 .0 in
-    let end : 4608 * i + 4608 ≤ length t = rw (c .before .before .found .given .1) at (c .before .before .before .before .lookup .ensures .1) in
+    let end : rowLength * i + rowLength ≤ length t = rw (c .before .before .found .given .1) at (c .before .before .before .before .lookup .ensures .1) in
     omega (arith, end)
 
 row-sound-requires : tie.Need-row-sound-requires
@@ -105,7 +105,7 @@ returns-2 c =
     let i = c .before .before .before .before .before .before .found .given .0 .0 in
     let name : c .before .before .before .before .before .before .before .before .before .text .result .now ≡ bytesOf m (a .user) = c .before .before .before .before .before .before .before .before .before .text .ensures in
     let is : lookup t (bytesOf m (a .user)) ≡ row i = ap (lookup t) (sym name) ∙ sym (c .before .before .before .before .before .before .before .before .lookup .ensures .0) ∙ ap found (c .before .before .before .before .before .before .found .given .1) in
-    let unsound : sound (rowAt t i) ≡ false = lent-test sound t (4608 * i) i (c .before .before .row-sound .result) false refl (c .before .before .row-sound .ensures) (not-true _ (c .before .if1 .taken)) in (
+    let unsound : sound (rowAt t i) ≡ false = lent-test sound t (rowLength * i) i (c .before .before .row-sound .result) false refl (c .before .before .row-sound .ensures) (not-true _ (c .before .if1 .taken)) in (
       nobody-named m _ (λ e. omega (arith, c .refused2 .ensures .0, e)) (omega (arith, c .refused2 .ensures .0)),
       λ host realm room. rw (is, unsound) (c .refused2 .ensures .1 m host realm room t (a .notice .now) (a .wag)),
     )
@@ -117,8 +117,8 @@ settle-requires c κs =
     let t = a .table .now in
     let m = a .m .now in
     let i = c .before .before .before .before .before .before .before .found .given .0 .0 in
-    let end : 4608 * i + 4608 ≤ length t = rw (c .before .before .before .before .before .before .before .found .given .1) at (c .before .before .before .before .before .before .before .before .before .lookup .ensures .1) in
-    let sounds : sound (rowAt t i) ≡ true = lent-test sound t (4608 * i) i (c .before .before .before .row-sound .result) true refl (c .before .before .before .row-sound .ensures) (not-false _ (c .before .before .if1 .left)) in
+    let end : rowLength * i + rowLength ≤ length t = rw (c .before .before .before .before .before .before .before .found .given .1) at (c .before .before .before .before .before .before .before .before .before .lookup .ensures .1) in
+    let sounds : sound (rowAt t i) ≡ true = lent-test sound t (rowLength * i) i (c .before .before .before .row-sound .result) true refl (c .before .before .before .row-sound .ensures) (not-false _ (c .before .before .if1 .left)) in
     (start .pre .0, end, sounds, start .pre .2, start .pre .3, start .pre .4)
 
 same-length-3 : tie.Need-same-length-3
@@ -137,7 +137,7 @@ returns-3 c =
     let i = c .before .before .before .before .before .before .before .before .before .before .before .before .found .given .0 .0 in
     let name : c .before .before .before .before .before .before .before .before .before .before .before .before .before .before .before .text .result .now ≡ bytesOf m (a .user) = c .before .before .before .before .before .before .before .before .before .before .before .before .before .before .before .text .ensures in
     let is : lookup t (bytesOf m (a .user)) ≡ row i = ap (lookup t) (sym name) ∙ sym (c .before .before .before .before .before .before .before .before .before .before .before .before .before .before .lookup .ensures .0) ∙ ap found (c .before .before .before .before .before .before .before .before .before .before .before .before .found .given .1) in
-    let sounds : sound (rowAt t i) ≡ true = lent-test sound t (4608 * i) i (c .before .before .before .before .before .before .before .before .row-sound .result) true refl (c .before .before .before .before .before .before .before .before .row-sound .ensures) (not-false _ (c .before .before .before .before .before .before .before .if1 .left)) in
+    let sounds : sound (rowAt t i) ≡ true = lent-test sound t (rowLength * i) i (c .before .before .before .before .before .before .before .before .row-sound .result) true refl (c .before .before .before .before .before .before .before .before .row-sound .ensures) (not-false _ (c .before .before .before .before .before .before .before .if1 .left)) in
     (c .before .before .before .before .settle .ensures .0, λ host realm room. rw (is, sounds) (c .before .before .before .before .settle .ensures .1 host realm room))
 
 pub on-request-spec : {M : Type 1} → statement M

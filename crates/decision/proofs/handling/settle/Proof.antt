@@ -11,7 +11,7 @@ use Prim.Native.Nat.{_-_, _*_}
 use native.Mathlib.Omega.{arith}
 use lib.ListN.{length}
 use Rattle.message.specs.Spans.{asks}
-use Rattle.table.specs.TheTable.{rowAt, readRow}
+use Rattle.table.specs.TheTable.{readRow, rowAt, rowLength}
 use Rattle.table.specs.Soundness.{sound}
 use Rattle.table.proofs.Rows.{lent-row}
 use Rattle.decision.proofs.Answered.{request-fits, user-holds, user-short, session-short, host-short, plan-code, plan-small, settled-is}
@@ -27,7 +27,7 @@ returns c =
     let session = c .before .before .before .before .before .before .before .before .before .before .before .before .before .text .ensures ∙ c .before .before .before .before .before .before .before .before .before .before .before .before .before .before .session-span .ensures m .0 in
     let gateway = c .before .before .before .before .before .before .before .before .before .before .before .text2 .ensures ∙ c .before .before .before .before .before .before .before .before .before .before .before .before .host-span .ensures m .0 in
     let route = c .before .before .before .before .before .before .before .before .before .text3 .ensures ∙ c .before .before .before .before .before .before .before .before .before .before .route-span .ensures m .0 in
-    let row = lent-row (a .table .now) (4608 * a .i) (a .i) refl in
+    let row = lent-row (a .table .now) (rowLength * a .i) (a .i) refl in
     let plan = c .before .before .before .before .before .before .before .before .before .before .before .before .before .before .before .plan-for .result in
     let s = readRow (rowAt (a .table .now) (a .i)) in
     let v = decide (asks m (a .asked)) (a .wag) s in
@@ -68,7 +68,7 @@ plan-for-requires : tie.Need-plan-for-requires
 plan-for-requires c κs =
     let start = c .before .before .before .before .before in
     let a = start .args in
-    (ap sound (lent-row (a .table .now) (4608 * a .i) (a .i) refl) ∙ start .pre .2, start .pre .3)
+    (ap sound (lent-row (a .table .now) (rowLength * a .i) (a .i) refl) ∙ start .pre .2, start .pre .3)
 
 session-span-requires : tie.Need-session-span-requires
 session-span-requires c κs = search needs
@@ -102,7 +102,7 @@ carry-requires c κs =
     let session = c .before .before .before .before .before .before .text .ensures ∙ c .before .before .before .before .before .before .before .session-span .ensures m .0 in
     let gateway = c .before .before .before .before .text2 .ensures ∙ c .before .before .before .before .before .host-span .ensures m .0 in
     let route = c .before .before .text3 .ensures ∙ c .before .before .before .route-span .ensures m .0 in
-    let row = lent-row (a .table .now) (4608 * a .i) (a .i) refl in
+    let row = lent-row (a .table .now) (rowLength * a .i) (a .i) refl in
     let fit = c .before .before .before .before .before .before .before .before .plan-for .ensures .1 (request-fits m _ (start .pre .5)) in
     let fits : fitPlan (c .before .before .text3 .result .now) (c .before .before .before .before .before .before .before .before .plan-for .result) (rowAt (a .table .now) (a .i)) ≡ true = rw (← route, row) at fit in (
       start .pre .0,
