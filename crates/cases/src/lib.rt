@@ -5,12 +5,12 @@ use words::octet;
 use words::say;
 
 // A step is three signs: what is done, the Session-Id, and the first letter of the label.
-// # is the case of that number, < the cases 1 to 3 again, + a fresh table, s the sums, r the result in the last answer, and a letter else a
-// request (`case_requests`).
+// # is the case of that number, < the cases 1 to 3 again, ? what to look at, ! what was seen, + a fresh table, s the sums, r the result in the
+// last answer, and a letter else a request (`case_requests`).
 fn sign(i: usize) -> u8 {
     let signs =
-        b"#01+..oab#02obb#03ocb#04odb<..+..oabobbocb#05obb#06tcbtab#07veyvebveBoeBteB#08s..#09ofbr..#10ugbr..#11l8.l9.m6.m0.b..";
-    if i < 117 {
+        b"#01+..oab#02obb#03?..ocb!..#04odb<..+..oabobbocb#05obb#06tcbtab#07veyvebveBoeBteB#08s..#09ofbr..#10ugbr..#11l8.l9.m6.m0.b..";
+    if i < 123 {
         return signs[i];
     }
     0
@@ -27,6 +27,24 @@ fn heading(out: &mut [u8; 4096], tens: u8, ones: u8) -> usize {
     }
     let b = say(out, a, &two);
     say(out, b, b"\n")
+}
+
+// Before the first cut.
+fn watch(out: &mut [u8; 4096]) -> usize {
+    say(
+        out,
+        0,
+        b"  WATCH: board is full, two tunnels of two. The next one is let in all the same, and the one opened first, a, goes.\n",
+    )
+}
+
+// Behind it.
+fn seen(out: &mut [u8; 4096]) -> usize {
+    say(
+        out,
+        0,
+        b"  SEEN: c is in, at the place that a had; a is cut, and its gateway is named, so that it can be told; b is the oldest now.\n",
+    )
 }
 
 fn set(out: &mut [u8; 4096], at: usize, what: &[u8], n: u32) -> usize {
@@ -134,7 +152,7 @@ pub fn step(
     notice: &mut [u8; 256],
     out: &mut [u8; 4096],
 ) -> usize {
-    if 38 < k {
+    if 40 < k {
         return 0;
     }
     let what = sign(3 * k);
@@ -145,6 +163,12 @@ pub fn step(
     }
     if what == b'<' {
         return say(out, 0, b"cases 1 to 3 again\n");
+    }
+    if what == b'?' {
+        return watch(out);
+    }
+    if what == b'!' {
+        return seen(out);
     }
     if what == b'+' {
         return fresh(table, out);

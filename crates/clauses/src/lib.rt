@@ -28,7 +28,8 @@ pub enum Clause {
 
 // THE FORM AND THE SUMS
 
-fn place_form(r: &[u8], k: usize) -> bool
+// Place k: the form of an access where it is in use, and zeros where it is not.
+pub fn place_form(r: &[u8], k: usize) -> bool
     requires { ⌜ (length (now r) ≡ rowLength) × (1 ≤ k) × (k ≤ 8) ⌝ }
     ensures { λ x. ⌜ x ≡ placeForm (now (r .entry)) k ⌝ }
 {

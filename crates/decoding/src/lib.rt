@@ -30,7 +30,7 @@ fn direction(out: &mut [u8; 4096], at: usize, x: u8) -> usize {
 // The command, by its name and its number.
 fn command(out: &mut [u8; 4096], at: usize, m: &[u8]) -> usize {
     if m.len() < 20 {
-        return at;
+        return say(out, at, b"no whole header");
     }
     let code = octets::read24(m, 5) as u32;
     let a = names::command(out, at, code);
@@ -53,11 +53,11 @@ fn identifiers(out: &mut [u8; 4096], at: usize, m: &[u8]) -> usize {
     words::octets(out, e, &m[16..20])
 }
 
-// The line of message k, which stands at byte `from` of its file.
-pub fn header(out: &mut [u8; 4096], k: usize, from: usize, m: &[u8]) -> usize {
+// The line of message k, which stands at `from` of its file; what that counts, `place` says.
+pub fn header(out: &mut [u8; 4096], k: usize, place: &[u8], from: usize, m: &[u8]) -> usize {
     let a = say(out, 0, b"message ");
     let b = number(out, a, k as u64);
-    let c = say(out, b, b" at byte ");
+    let c = say(out, b, place);
     let d = number(out, c, from as u64);
     let e = say(out, d, b", ");
     let f = number(out, e, m.len() as u64);

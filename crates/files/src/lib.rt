@@ -3,9 +3,21 @@ use libc::STDERR_FILENO;
 use libc::STDOUT_FILENO;
 
 // A program of Rattle has no exit status. So a failure is marked on descriptor 9, which the script that starts this program turns into one.
-// Where nobody opened that descriptor the mark is lost: no more than six files are open here at a time, so none of them has that number.
+// Where nobody opened that descriptor the mark is lost: no more than six files are open here at a time, so none of them has that number, but for
+// a command that opens more, and that asks first (`is_marking`).
 pub fn mark() {
     io::write_all(9, b"failed");
+}
+
+// Whether somebody opened that descriptor, so that no file can get its number; if not, that is said.
+pub fn is_marking() -> bool {
+    let none = [0u8; 1];
+    let line: &[u8] = &none;
+    if libc::write(9, &line[0..0]) < 0 {
+        refuse(b"descriptor 9 is not open: start the tool by its script, play");
+        return false;
+    }
+    true
 }
 
 // The first n bytes of a line of words, to standard error.

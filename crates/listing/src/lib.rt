@@ -1,5 +1,6 @@
-// The command that says what messages a file has, as far as it can be followed.
+// The command that says what messages a file has, as far as it can be followed, or what notices.
 use reader::Step;
+use streams::Source;
 use streams::Way;
 
 // ONE MESSAGE
@@ -23,10 +24,10 @@ fn one(m: &[u8], at: usize, margin: &[u8]) -> usize {
     }
 }
 
-// The AVPs of a group, up to its end. A message has at most 512 AVPs.
+// The AVPs of a group, up to its end. A message has at most 1,024 AVPs.
 fn inner(m: &[u8], from: usize) {
     let mut at = from;
-    let mut turns: usize = 512;
+    let mut turns: usize = 1024;
     while turns > 0 {
         turns -= 1;
         at = one(m, at, b"    ");
@@ -77,7 +78,7 @@ fn unknown(m: &[u8], at: usize) {
 // The AVPs of a message.
 fn outer(m: &[u8]) {
     let mut at: usize = 20;
-    let mut turns: usize = 512;
+    let mut turns: usize = 1024;
     while turns > 0 {
         turns -= 1;
         let next = one(m, at, b"  ");
@@ -90,16 +91,27 @@ fn outer(m: &[u8]) {
     }
 }
 
+// The first line of message k; whether it could be said.
+fn say_header(hex: bool, k: usize, from: usize, m: &[u8]) -> bool {
+    let mut out = [0u8; 4096];
+    if hex {
+        let n = decoding::header(&mut out, k, b" at line ", from, m);
+        return files::print(&out, n);
+    }
+    let n = decoding::header(&mut out, k, b" at byte ", from, m);
+    files::print(&out, n)
+}
+
 // Header, AVPs, and the first test that fails; whether they could be said.
-fn is_told(k: usize, from: usize, room: &[u8; 4096], n: usize) -> bool {
+fn is_told(hex: bool, w: Way, room: &[u8; 8192]) -> bool {
     let mut out = [0u8; 4096];
     let all: &[u8] = room;
+    let n = w.last;
     if all.len() < n {
         return false;
     }
     let m = &all[0..n];
-    let a = decoding::header(&mut out, k, from, m);
-    if !files::print(&out, a) {
+    if !say_header(hex, w.messages, w.from, m) {
         return false;
     }
     outer(m);
@@ -109,46 +121,94 @@ fn is_told(k: usize, from: usize, room: &[u8; 4096], n: usize) -> bool {
 
 // A FILE
 
-fn step(fd: i32, path: &[u8], w: Way) -> Way {
-    let mut room = [0u8; 4096];
-    let v = streams::look(fd, path, w, &mut room);
+fn step(s: Source, path: &[u8], w: Way) -> Way {
+    let mut room = [0u8; 8192];
+    let v = streams::look(s, path, w, &mut room);
     if v.last == 0 {
         return v;
     }
-    if is_told(v.messages, v.from, &room, v.last) {
+    if is_told(s.hex, v, &room) {
+        totals::progress(v.messages, 0);
         return v;
     }
     streams::over(v, false)
 }
 
 // A proved loop has to end, and nothing says that a file does, so the turns are counted down.
-fn list(fd: i32, path: &[u8]) {
+fn list(s: Source, path: &[u8]) {
     let mut w = streams::start();
     let mut turns: usize = 4294967296;
     while turns > 0 {
         turns -= 1;
-        w = step(fd, path, w);
+        w = step(s, path, w);
         if w.last == 0 {
             return;
         }
     }
 }
 
-fn open(path: &[u8]) {
+// A file that is no folder, or -1, which is then said. It may be a pipe.
+fn open(path: &[u8]) -> i32 {
     let fd = os::open_read(path);
     if fd < 0 {
         files::refuse_file(path);
-        return;
+        return -1;
     }
     if status::is_folder(status::of(fd)) {
         files::refuse_word(path, b": a directory");
+        return -1;
+    }
+    fd
+}
+
+// THE COMMAND
+
+fn decode_messages(path: &[u8]) {
+    let fd = open(path);
+    if 0 <= fd {
+        list(Source { fd, hex: false }, path);
+    }
+}
+
+// Lines are read from plain files only.
+fn decode_hex(path: &[u8]) {
+    let fd = files::open_plain(path);
+    if 0 <= fd {
+        list(Source { fd, hex: true }, path);
+    }
+}
+
+fn decode_notices(path: &[u8]) {
+    let fd = open(path);
+    if 0 <= fd {
+        tool_notices::list(fd, path);
+    }
+}
+
+// The word behind the file says what it has, if that is not messages back to back.
+fn decode_as(path: &[u8], word: &[u8]) {
+    if octets::same_bytes(word, b"hex") {
+        decode_hex(path);
         return;
     }
-    list(fd, path);
+    if octets::same_bytes(word, b"notices") {
+        decode_notices(path);
+        return;
+    }
+    files::refuse_word(
+        word,
+        b": behind FILE there may stand hex or notices, and nothing else",
+    );
 }
 
 pub fn decode() {
     let mut path = io::buffer();
     let n = os::arg(2, &mut path);
-    open(&path[..n]);
+    if os::arg_count() < 4 {
+        decode_messages(&path[..n]);
+        return;
+    }
+    let mut word = io::buffer();
+    let k = os::arg(3, &mut word);
+    decode_as(&path[..n], &word[..k]);
 }

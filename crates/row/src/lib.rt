@@ -2,6 +2,7 @@
 ghost use mathlib.Core.Path.{_≡_};
 ghost use Prim.Native.Nat.{_+_, _*_, _≤_, _<_};
 ghost use lib.ListN.{length, getD};
+ghost use Rattle.octets.specs.Choice.{within};
 ghost use Rattle.octets.specs.Texts.{part};
 ghost use Rattle.table.specs.TheTable.{block, lineRoom, entriesRoom, readAccess, readEntry, rowAt, rowLength};
 
@@ -106,7 +107,24 @@ pub fn host(r: &[u8], k: usize) -> &[u8]
     &r[at..end]
 }
 
-// The rooms of the two, side by side, as a cut notice has them.
+// How long its policy is, 0 for none; and the policy, where it ends within the block.
+pub fn policy_length(r: &[u8], k: usize) -> usize
+    requires { ⌜ (length (now r) ≡ rowLength) × (k ≤ 8) ⌝ }
+    ensures { λ n. ⌜ (n ≡ getD (block (now (r .entry)) k) 5 0) × (n < 256) ⌝ }
+{
+    octets::long(r[512 * k + 5])
+}
+
+pub fn policy(r: &[u8], k: usize) -> &[u8]
+    requires { ⌜ (length (now r) ≡ rowLength) × (k ≤ 8) × (getD (block (now r) k) 5 0 ≤ 248) ⌝ }
+    ensures { λ t. ⌜ now t ≡ (readAccess k (block (now (r .entry)) k)) .policy ⌝ }
+{
+    let at = 512 * k + 264;
+    let end = at + policy_length(r, k);
+    &r[at..end]
+}
+
+// The rooms of the first two, side by side, as a cut notice has them.
 pub fn notice_rooms(r: &[u8], k: usize) -> &[u8]
     requires { ⌜ (length (now r) ≡ rowLength) × (k ≤ 8) ⌝ }
     ensures { λ t. ⌜ now t ≡ part (block (now (r .entry)) k) 8 256 ⌝ }
@@ -118,7 +136,28 @@ pub fn notice_rooms(r: &[u8], k: usize) -> &[u8]
 
 // AN ENTRY, in the room of the entries, counted from 0
 
-// Its label, where its length is one that a label may have.
+// Its 104 bytes.
+pub fn entry(room: &[u8], i: usize) -> &[u8]
+    requires { ⌜ (length (now room) ≡ 416) × (i < 4) ⌝ }
+    ensures { λ b. ⌜ now b ≡ part (now (room .entry)) (104 * i) 104 ⌝ }
+{
+    let at = 104 * i;
+    let end = at + 104;
+    &room[at..end]
+}
+
+// Whether its label has 1 to 100 bytes; and the label, where it has no more.
+pub fn has_label(room: &[u8], i: usize) -> bool
+    requires { ⌜ (length (now room) ≡ 416) × (i < 4) ⌝ }
+    ensures { λ x. ⌜ x ≡ within 1 100 (getD (now (room .entry)) (104 * i) 0) ⌝ }
+{
+    let n = room[104 * i];
+    if n < 1 {
+        return false;
+    }
+    n <= 100
+}
+
 pub fn label(room: &[u8], i: usize) -> &[u8]
     requires { ⌜ (length (now room) ≡ 416) × (i < 4) × (getD (now room) (104 * i) 0 ≤ 100) ⌝ }
     ensures { λ t. ⌜ now t ≡ (readEntry (part (now (room .entry)) (104 * i) 104)) .label ⌝ }

@@ -1,68 +1,171 @@
-// The messages of a file put to the server: each answer and each notice written, and a line said.
+// The messages of a file put to the server, in order: each answer and each notice written, and a line said.
 use decision::Outcome;
 use reasons::Why;
+use streams::Source;
+use tool_outcomes::Sheets;
 use totals::Totals;
-use words::number;
-use words::say;
 
-// The files that are open, and what the gateway says.
+// The files that are open, -1 for one that was not asked for; the words that were said, by their numbers; and what the gateway says where no
+// file has it.
 pub struct Desk {
     pub requests: i32,
     pub answers: i32,
     pub notices: i32,
+    pub wags: i32,
+    pub codes: i32,
+    pub hex: bool,
+    pub quiet: bool,
     pub wag: bool,
+    pub host: usize,
+    pub realm: usize,
+    pub only: usize,
 }
 
-// The first n bytes of a room, written; why not is said of the file.
-fn is_put(fd: i32, path: &[u8], room: &[u8], n: usize) -> bool {
-    if room.len() < n {
-        return false;
-    }
-    if io::write_all(fd, &room[0..n]) {
-        return true;
-    }
-    files::refuse_file(path);
-    false
+// ONE MESSAGE
+
+// What goes with a message: what the gateway says to a policy, yes or no, and the code that is expected; 0 for nothing.
+struct Beside {
+    wag: usize,
+    expected: usize,
 }
 
-// The answer, and the notice of a cut.
-fn is_kept(
+fn written_to(d: Desk) -> Sheets {
+    Sheets {
+        answers: d.answers,
+        notices: d.notices,
+    }
+}
+
+// What came of a message, written, counted and said.
+fn report(
     d: Desk,
     answers: &[u8],
     notices: &[u8],
+    m: &[u8],
+    b: Beside,
     o: Outcome,
+    why: Why,
     answer: &[u8; 5120],
     notice: &[u8; 256],
-) -> bool {
-    if !is_put(d.answers, answers, answer, o.length) {
-        return false;
+    t: Totals,
+) -> Totals {
+    if !tool_outcomes::keep(written_to(d), answers, notices, o, answer, notice) {
+        return totals::broken(t);
     }
-    let cut = o.cut;
-    if totals::is_cut(cut) {
-        return is_put(d.notices, notices, notice, 256);
+    let u = totals::counted(t, o, tool_expecting::is_expected(o, b.expected));
+    if tool_outcomes::tell_unless_quiet(d.quiet, b.expected, u.messages, m, o, why, notice) {
+        return u;
     }
-    true
+    totals::broken(u)
 }
 
-// The line of a message: what it asks, what came of it, and why; whether it could be said.
-fn is_told(k: usize, m: &[u8], o: Outcome, why: Why, notice: &[u8; 256]) -> bool {
-    let mut out = [0u8; 4096];
-    let a = number(&mut out, 0, k as u64);
-    let b = say(&mut out, a, b". ");
-    let c = asking::asked(&mut out, b, m);
-    let d = say(&mut out, c, b": ");
-    let e = telling::outcome(&mut out, d, o, why, notice);
-    let f = say(&mut out, e, b"\n");
-    files::print(&out, f)
-}
-
-// One message, and what comes of it.
+// A message put to the server, and what comes of it.
 fn serve_one(
     d: Desk,
     answers: &[u8],
     notices: &[u8],
     table: &mut [u8],
-    room: &[u8; 4096],
+    host: &[u8],
+    realm: &[u8],
+    m: &[u8],
+    b: Beside,
+    t: Totals,
+) -> Totals {
+    let mut answer = [0u8; 5120];
+    let mut notice = [0u8; 256];
+    let wag = b.wag == tool_expecting::YES;
+    let why = reasons::first_failed(table, host, realm, m, wag, &answer, &notice);
+    let o = decision::handle(table, host, realm, m, wag, &mut answer, &mut notice);
+    report(d, answers, notices, m, b, o, why, &answer, &notice, t)
+}
+
+// How long the server's own names are, each of which stands at the start of its room.
+struct Lengths {
+    host: usize,
+    realm: usize,
+}
+
+// The same under names of so many bytes.
+fn serve_under(
+    d: Desk,
+    answers: &[u8],
+    notices: &[u8],
+    table: &mut [u8],
+    host: &[u8; 4096],
+    realm: &[u8; 4096],
+    n: Lengths,
+    m: &[u8],
+    b: Beside,
+    t: Totals,
+) -> Totals {
+    let own: &[u8] = host;
+    let ours: &[u8] = realm;
+    let h = n.host;
+    let r = n.realm;
+    if own.len() < h {
+        return totals::broken(t);
+    }
+    if ours.len() < r {
+        return totals::broken(t);
+    }
+    serve_one(d, answers, notices, table, &own[0..h], &ours[0..r], m, b, t)
+}
+
+// The same under the names that the words say.
+fn serve_named(
+    d: Desk,
+    answers: &[u8],
+    notices: &[u8],
+    table: &mut [u8],
+    m: &[u8],
+    b: Beside,
+    t: Totals,
+) -> Totals {
+    let mut host = [0u8; 4096];
+    let mut realm = [0u8; 4096];
+    let n = Lengths {
+        host: tool_options::host(d.host, &mut host),
+        realm: tool_options::realm(d.realm, &mut realm),
+    };
+    serve_under(d, answers, notices, table, &host, &realm, n, m, b, t)
+}
+
+// What the gateway says to the next message: its line of the file, or where there is none what it says to all.
+fn take_wag(d: Desk) -> usize {
+    if 0 <= d.wags {
+        return tool_expecting::take(d.wags, tool_expecting::WAGS);
+    }
+    if d.wag {
+        return tool_expecting::YES;
+    }
+    tool_expecting::NO
+}
+
+fn take_beside(d: Desk) -> Beside {
+    Beside {
+        wag: take_wag(d),
+        expected: tool_expecting::take(d.codes, tool_expecting::CODES),
+    }
+}
+
+// Whether one of the files has come to an end before the messages. It had not when it was counted, so somebody has changed it since.
+fn is_lost(d: Desk, b: Beside) -> bool {
+    if b.wag == 0 {
+        return true;
+    }
+    if d.codes < 0 {
+        return false;
+    }
+    b.expected == 0
+}
+
+// The first n bytes of the room as the next message. Its lines of the other files are taken in any case.
+fn serve_next(
+    d: Desk,
+    answers: &[u8],
+    notices: &[u8],
+    table: &mut [u8],
+    room: &[u8; 8192],
     n: usize,
     t: Totals,
 ) -> Totals {
@@ -71,18 +174,24 @@ fn serve_one(
         return totals::broken(t);
     }
     let m = &all[0..n];
-    let mut answer = [0u8; 5120];
-    let mut notice = [0u8; 256];
-    let why = telling::why(table, m, d.wag, &answer, &notice);
-    let o = telling::ask(table, m, d.wag, &mut answer, &mut notice);
-    if !is_kept(d, answers, notices, o, &answer, &notice) {
+    let b = take_beside(d);
+    if is_lost(d, b) {
+        files::refuse(b"a line of wags= or codes= could not be read again");
         return totals::broken(t);
     }
-    let u = totals::counted(t, o, true);
-    if is_told(u.messages, m, o, why, &notice) {
-        return u;
+    if !tool_choosing::is_chosen(d.only, m) {
+        return totals::passed(t);
     }
-    totals::broken(u)
+    serve_named(d, answers, notices, table, m, b, t)
+}
+
+// ALL MESSAGES
+
+fn source(d: Desk) -> Source {
+    Source {
+        fd: d.requests,
+        hex: d.hex,
+    }
 }
 
 // The next message of the file.
@@ -94,13 +203,13 @@ fn turn(
     table: &mut [u8],
     t: Totals,
 ) -> Totals {
-    let mut room = [0u8; 4096];
-    let n = streams::read(d.requests, &mut room);
+    let mut room = [0u8; 8192];
+    let n = streams::read(source(d), &mut room);
     if n == 0 {
         files::refuse_word(requests, b": a message could not be read again");
         return totals::broken(t);
     }
-    serve_one(d, answers, notices, table, &room, n, t)
+    serve_next(d, answers, notices, table, &room, n, t)
 }
 
 // All messages of the file, in order, up to the first that could not be served, which is then said.

@@ -87,7 +87,7 @@ pub fn outcome(out: &mut [u8; 4096], at: usize, o: Outcome, why: Why, notice: &[
 
 // A place of the line, with the Session-Id of its access.
 fn standing(out: &mut [u8; 4096], at: usize, row: &[u8], k: usize) -> usize {
-    if row.len() < 4608 {
+    if row.len() != table::ROW_LENGTH {
         return at;
     }
     if k < 1 {
@@ -96,24 +96,22 @@ fn standing(out: &mut [u8; 4096], at: usize, row: &[u8], k: usize) -> usize {
     if 8 < k {
         return at;
     }
-    let from = 512 * k + 8;
-    let end = from + octets::long(row[512 * k + 2]);
     let a = say(out, at, b" ");
     let b = number(out, a, k as u64);
     let c = say(out, b, b" (");
-    let d = text(out, c, &row[from..end]);
+    let d = text(out, c, row::session(row, k));
     say(out, d, b")")
 }
 
 // The order line, first opened first.
 pub fn line(out: &mut [u8; 4096], at: usize, row: &[u8]) -> usize {
-    if row.len() < 28 {
+    if row.len() != table::ROW_LENGTH {
         return at;
     }
     let mut a = say(out, at, b"line:");
-    let mut i: usize = 20;
-    while i < 28 {
-        a = standing(out, a, row, octets::long(row[i]));
+    let mut i: usize = 0;
+    while i < 8 {
+        a = standing(out, a, row, row::line_place(row, i));
         i += 1;
     }
     a

@@ -1,5 +1,4 @@
 // The command that shows a table.
-use clauses::Clause;
 use table::RowFound;
 use words::say;
 
@@ -23,30 +22,29 @@ fn accesses(row: &[u8], out: &mut [u8; 4096]) {
     }
 }
 
-// The clause of soundness that is broken.
-fn reason(out: &mut [u8; 4096], at: usize, broken: Clause) -> usize {
-    match broken {
-        Clause::NoClause => say(out, at, b"no clause is broken\n"),
-        Clause::HeadForm => say(out, at, b"block 0 has not its form\n"),
-        Clause::EntryForm => say(out, at, b"an entry has not its form\n"),
-        Clause::PlaceForm => say(out, at, b"a place has not its form\n"),
-        Clause::Sums => say(out, at, b"a block's sums do not agree\n"),
-        Clause::Line => say(
-            out,
-            at,
-            b"the order line does not list the places in use, once each\n",
-        ),
-        Clause::Labels => say(out, at, b"a label stands twice\n"),
-        Clause::Limits => say(out, at, b"the limits sum to over 8\n"),
-        Clause::Sessions => say(out, at, b"a Session-Id stands twice\n"),
-        Clause::NoEntry => say(out, at, b"an access names an entry that is not there\n"),
-        Clause::OverLimit => say(out, at, b"an entry has more accesses than its limit\n"),
-        Clause::PolicyMark => say(
-            out,
-            at,
-            b"byte 4 of a place does not fit the length of its policy\n",
-        ),
+// The line below a row that no lookup finds.
+fn say_hidden(table: &[u8], i: usize, row: &[u8], out: &mut [u8; 4096]) {
+    let n = tool_faults::hidden(out, table, i, row);
+    files::print(out, n);
+}
+
+// A row that is not free.
+fn show_row(table: &[u8], i: usize, row: &[u8], out: &mut [u8; 4096]) {
+    if row.len() != table::ROW_LENGTH {
+        return;
     }
+    if !soundness::row_sound(row) {
+        let n = showing::unsound(out, i, row);
+        let end = tool_faults::reason(out, n, row, clauses::broken(row));
+        files::print(out, end);
+        say_hidden(table, i, row, out);
+        return;
+    }
+    let n = showing::head(out, i, row);
+    files::print(out, n);
+    say_hidden(table, i, row, out);
+    entries(row, out);
+    accesses(row, out);
 }
 
 // Row i, said; whether it is free, and nothing is said.
@@ -54,8 +52,8 @@ fn is_free(table: &[u8], i: usize, out: &mut [u8; 4096]) -> bool {
     if 1024 < i {
         return false;
     }
-    let a = 4608 * i;
-    let e = a + 4608;
+    let a = table::ROW_LENGTH * i;
+    let e = a + table::ROW_LENGTH;
     if table.len() < e {
         return false;
     }
@@ -63,16 +61,7 @@ fn is_free(table: &[u8], i: usize, out: &mut [u8; 4096]) -> bool {
     if octets::all_zero(row) {
         return true;
     }
-    if !soundness::row_sound(row) {
-        let n = showing::unsound(out, i, row);
-        let end = reason(out, n, clauses::broken(row));
-        files::print(out, end);
-        return false;
-    }
-    let n = showing::head(out, i, row);
-    files::print(out, n);
-    entries(row, out);
-    accesses(row, out);
+    show_row(table, i, row, out);
     false
 }
 
@@ -101,7 +90,7 @@ fn show_all(table: &[u8], out: &mut [u8; 4096]) {
     let free = free_rows(table, out);
     let a = words::number(out, 0, free as u64);
     let b = say(out, a, b" of ");
-    let c = words::number(out, b, (table.len() / 4608) as u64);
+    let c = words::number(out, b, (table.len() / table::ROW_LENGTH) as u64);
     let d = say(out, c, b" rows free\n");
     files::print(out, d);
 }

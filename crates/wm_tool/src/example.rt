@@ -7,7 +7,7 @@ pub fn play() {
     let mut notice = [0u8; 256];
     let mut out = [0u8; 4096];
     let mut k: usize = 0;
-    while k < 39 {
+    while k < 41 {
         let n = cases::step(k, &mut table, &mut room, &mut answer, &mut notice, &mut out);
         files::print(&out, n);
         k += 1;

@@ -20,23 +20,112 @@ fn tables() {
     );
 }
 
-// The commands on messages.
-fn messages() {
-    line(b"play handle TABLE REQUESTS ANSWERS NOTICES [no-wag]\n");
+// The command that serves messages.
+fn serving() {
+    line(b"play handle TABLE REQUESTS ANSWERS NOTICES [WORD ..]\n");
     line(
-        b"                                  the messages of REQUESTS put to the server, a line each; no-wag: the\n",
+        b"                                  the messages of REQUESTS put to the server, a line each; the table\n",
     );
     line(
-        b"                                  gateway refuses every policy; the table changes once all is written\n",
+        b"                                  changes once all is written. The words, in any order:\n",
     );
+    line(
+        b"    hex                           REQUESTS has a message a line, two digits of base 16 for each byte\n",
+    );
+    line(b"    quiet                         only the totals, and what is not as expected\n");
+    line(
+        b"    host=NAME realm=NAME          the server's own names, otherwise wm.example and example\n",
+    );
+    line(
+        b"    wag=yes wag=no wags=FILE      the gateway takes every policy, as without a word; or none; or\n",
+    );
+    line(b"                                  as FILE says, yes or no, a line for each message\n");
+    line(
+        b"    only=NAME                     only the messages of that User-Name; the others are passed over\n",
+    );
+}
+
+// The rest of it: what is expected, and the command that only reads.
+fn expecting() {
+    line(
+        b"    codes=FILE                    what is expected, a line for each message: a code, as 2001; one of\n",
+    );
+    line(
+        b"                                  an Experimental-Result, as x5001; or the number of a message that\n",
+    );
+    line(
+        b"                                  gets no answer, as 6. If something differs, that is said, the table\n",
+    );
+    line(b"                                  is as it was, and the status is 1\n");
     line(b"play decode FILE                  the messages of a file in words\n");
+    line(b"play decode FILE hex              the same of a file with a message a line\n");
+    line(b"play decode FILE notices          the notices of a file: Session-Id and gateway\n");
     line(
-        b"Messages stand back to back in their files, notices too, of 256 bytes each. The server's own host\n",
+        b"play prove                        proves the tool and all below it, and says how far it is\n",
     );
-    line(b"is wm.example and its realm is example.\n");
+    line(
+        b"play help, play version           this, and what is proved on this machine; so do --help and --version\n",
+    );
+    line(
+        b"Messages stand back to back in their files, if it is not said that they are lines of hex; notices\n",
+    );
+    line(b"too, of 256 bytes each.\n");
 }
 
 pub fn say() {
     tables();
-    messages();
+    serving();
+    expecting();
+}
+
+// HOW A COMMAND IS USED
+
+// Whether a word is a command; how it is used is then said.
+fn is_used(word: &[u8], name: &[u8], usage: &[u8]) -> bool {
+    if !octets::same_bytes(word, name) {
+        return false;
+    }
+    files::refuse(usage);
+    true
+}
+
+// A command that was called with too few words or too many.
+fn is_set_up(word: &[u8]) -> bool {
+    if is_used(word, b"new", b"usage: play new TABLE ROWS") {
+        return true;
+    }
+    if is_used(word, b"enter", b"usage: play enter TABLE NAME") {
+        return true;
+    }
+    is_used(
+        word,
+        b"add",
+        b"usage: play add TABLE NAME LABEL LIMIT [barred] [roam]",
+    )
+}
+
+// Likewise, for those that set nothing up.
+fn is_other(word: &[u8]) -> bool {
+    if is_used(word, b"show", b"usage: play show TABLE [NAME]") {
+        return true;
+    }
+    if is_used(
+        word,
+        b"handle",
+        b"usage: play handle TABLE REQUESTS ANSWERS NOTICES [hex] [quiet] [host=NAME] [realm=NAME] [wag=yes|wag=no|wags=FILE] [only=NAME] [codes=FILE]",
+    ) {
+        return true;
+    }
+    is_used(word, b"decode", b"usage: play decode FILE [hex|notices]")
+}
+
+// What was meant can not be done with these words.
+pub fn refuse(word: &[u8]) {
+    if is_set_up(word) {
+        return;
+    }
+    if is_other(word) {
+        return;
+    }
+    files::refuse_word(word, b": no such command: see play help");
 }

@@ -13,8 +13,19 @@ fn is_called(word: &[u8], name: &[u8], least: usize, most: usize) -> bool {
     os::arg_count() <= most
 }
 
+// The word for help, as it stands in this tool and in others. What stands behind it does not matter.
+fn is_help(word: &[u8]) -> bool {
+    if octets::same_bytes(word, b"help") {
+        return true;
+    }
+    if octets::same_bytes(word, b"--help") {
+        return true;
+    }
+    octets::same_bytes(word, b"-h")
+}
+
 fn run(word: &[u8], table: &mut [u8; 4718593]) {
-    if is_called(word, b"help", 2, 2) {
+    if is_help(word) {
         help::say();
         return;
     }
@@ -34,18 +45,15 @@ fn run(word: &[u8], table: &mut [u8; 4718593]) {
         viewing::show(table);
         return;
     }
-    if is_called(word, b"handle", 6, 7) {
-        handling::handle(table);
+    if is_called(word, b"handle", 6, 13) {
+        tool_handling::handle(table);
         return;
     }
-    if is_called(word, b"decode", 3, 3) {
+    if is_called(word, b"decode", 3, 4) {
         listing::decode();
         return;
     }
-    files::refuse_word(
-        word,
-        b": no such command, or not with so many words: see help",
-    );
+    help::refuse(word);
 }
 
 // Whether a word fits the room that words are read to. One that does not would be read as an empty one.
@@ -65,7 +73,7 @@ fn is_whole(i: usize) -> bool {
 // The words that a command may have, all of them.
 fn are_whole() -> bool {
     let mut i: usize = 1;
-    while i < 8 {
+    while i < 14 {
         if !is_whole(i) {
             return false;
         }

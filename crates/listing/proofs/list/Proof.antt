@@ -5,10 +5,10 @@ use Rattle.listing.proofs.list.Statement.{statement}
 use Rattle.listing.proofs.list.Tie as tie
 
 abbrev Inv-loop : tie.InvT-loop
-Inv-loop fd path w₀ turns₀ w turns = turns ≤ 4294967296
+Inv-loop s path w₀ turns₀ w turns = turns ≤ 4294967296
 
 abbrev μ-loop : tie.MeasureT-loop
-μ-loop fd path w₀ turns₀ w turns = turns
+μ-loop s path w₀ turns₀ w turns = turns
 
 start-requires : tie.Need-start-requires Inv-loop μ-loop
 start-requires c κs = search needs

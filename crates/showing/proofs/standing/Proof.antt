@@ -16,14 +16,8 @@ returns c = search needs
 loop-holds : tie.Need-loop-holds Inv-loop μ-loop
 loop-holds c = search needs
 
-mul-long : tie.Need-mul-long Inv-loop μ-loop
-mul-long c = search needs
-
-add-long : tie.Need-add-long Inv-loop μ-loop
-add-long c = search needs
-
-shared-slice-read-long : tie.Need-shared-slice-read-long Inv-loop μ-loop
-shared-slice-read-long c = search needs
+entry-of-requires : tie.Need-entry-of-requires Inv-loop μ-loop
+entry-of-requires c κs = search needs
 
 long-requires : tie.Need-long-requires Inv-loop μ-loop
 long-requires c κs = search needs
@@ -51,9 +45,7 @@ standing-spec =
     μ-loop
     returns
     loop-holds
-    mul-long
-    add-long
-    shared-slice-read-long
+    entry-of-requires
     long-requires
     more-requires
     add-k

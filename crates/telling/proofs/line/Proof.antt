@@ -5,10 +5,10 @@ use Rattle.telling.proofs.line.Statement.{statement}
 use Rattle.telling.proofs.line.Tie as tie
 
 abbrev Inv-loop : tie.InvT-loop
-Inv-loop out₀ at row a₀ i₀ out a i = i ≤ 28
+Inv-loop out₀ at row a₀ i₀ out a i = i ≤ 8
 
 abbrev μ-loop : tie.MeasureT-loop
-μ-loop out₀ at row a₀ i₀ out a i = 28 - i
+μ-loop out₀ at row a₀ i₀ out a i = 8 - i
 
 returns : tie.Need-returns Inv-loop μ-loop
 returns c = search needs
@@ -22,11 +22,8 @@ say-requires c κs = search needs
 loop-holds : tie.Need-loop-holds Inv-loop μ-loop
 loop-holds c = search needs
 
-shared-slice-read-long : tie.Need-shared-slice-read-long Inv-loop μ-loop
-shared-slice-read-long c = search needs
-
-long-requires : tie.Need-long-requires Inv-loop μ-loop
-long-requires c κs = search needs
+line-place-requires : tie.Need-line-place-requires Inv-loop μ-loop
+line-place-requires c κs = search needs
 
 standing-requires : tie.Need-standing-requires Inv-loop μ-loop
 standing-requires c κs = search needs
@@ -53,8 +50,7 @@ line-spec =
     slice-aggregate-say
     say-requires
     loop-holds
-    shared-slice-read-long
-    long-requires
+    line-place-requires
     standing-requires
     add-i
     loop-less

@@ -5,10 +5,10 @@ use Rattle.wm_tool.proofs.example.play.Statement.{statement}
 use Rattle.wm_tool.proofs.example.play.Tie as tie
 
 abbrev Inv-loop : tie.InvT-loop
-Inv-loop table₀ room₀ answer₀ notice₀ out₀ k₀ table room answer notice out k = k ≤ 39
+Inv-loop table₀ room₀ answer₀ notice₀ out₀ k₀ table room answer notice out k = k ≤ 41
 
 abbrev μ-loop : tie.MeasureT-loop
-μ-loop table₀ room₀ answer₀ notice₀ out₀ k₀ table room answer notice out k = 39 - k
+μ-loop table₀ room₀ answer₀ notice₀ out₀ k₀ table room answer notice out k = 41 - k
 
 loop-holds : tie.Need-loop-holds Inv-loop μ-loop
 loop-holds c = search needs

@@ -1,5 +1,6 @@
-// The two files that are written, ANSWERS and NOTICES: opened as they are, emptied only once both are known to be files of their own.
+// The two files that `handle` writes, ANSWERS and NOTICES: opened as they are, emptied only once both are known to be files of their own.
 use holding::Held;
+use tool_inputs::Inputs;
 
 // A file to be written, -1 where there is none, and whether it was made here.
 struct Sheet {
@@ -62,8 +63,19 @@ fn is_apart(a: i32, b: i32) -> bool {
     !status::are_one(s, status::of(b))
 }
 
-// Whether a file is none of those that are in use otherwise: the table, its lock, the new table, the requests, and what the lines go to.
-fn is_own(fd: i32, h: Held, requests: i32) -> bool {
+// Whether a file is none of those that are read.
+fn is_none_of(fd: i32, i: Inputs) -> bool {
+    if !is_apart(fd, i.requests) {
+        return false;
+    }
+    if !is_apart(fd, i.wags) {
+        return false;
+    }
+    is_apart(fd, i.codes)
+}
+
+// Whether a file is none of those that are in use otherwise: the table, its lock, the new table, what is read, and what the lines go to.
+fn is_own(fd: i32, h: Held, i: Inputs) -> bool {
     if !is_apart(fd, h.table) {
         return false;
     }
@@ -73,7 +85,7 @@ fn is_own(fd: i32, h: Held, requests: i32) -> bool {
     if !is_apart(fd, h.new) {
         return false;
     }
-    if !is_apart(fd, requests) {
+    if !is_none_of(fd, i) {
         return false;
     }
     if is_apart(fd, libc::STDOUT_FILENO) {
@@ -83,8 +95,8 @@ fn is_own(fd: i32, h: Held, requests: i32) -> bool {
 }
 
 // Whether a file may be written: it is none of the others, and its mode lets it be written. Why not is said.
-fn is_free(fd: i32, path: &[u8], h: Held, requests: i32) -> bool {
-    if !is_own(fd, h, requests) {
+fn is_free(fd: i32, path: &[u8], h: Held, i: Inputs) -> bool {
+    if !is_own(fd, h, i) {
         files::refuse_word(
             path,
             b": in use here already: ANSWERS and NOTICES have to be files of their own",
@@ -127,11 +139,11 @@ pub fn is_kept(fd: i32, path: &[u8]) -> bool {
 }
 
 // Whether both may be written.
-fn are_free(a: i32, n: i32, answers: &[u8], notices: &[u8], h: Held, requests: i32) -> bool {
-    if !is_free(a, answers, h, requests) {
+fn are_free(a: i32, n: i32, answers: &[u8], notices: &[u8], h: Held, i: Inputs) -> bool {
+    if !is_free(a, answers, h, i) {
         return false;
     }
-    if !is_free(n, notices, h, requests) {
+    if !is_free(n, notices, h, i) {
         return false;
     }
     if is_apart(a, n) {
@@ -168,7 +180,7 @@ fn start(a: i32, n: i32, answers: &[u8], notices: &[u8]) -> Sheets {
 }
 
 // ANSWERS and NOTICES, or nothing made and nothing changed, which is then said.
-pub fn open(h: Held, requests: i32, answers: &[u8], notices: &[u8]) -> Sheets {
+pub fn open(h: Held, i: Inputs, answers: &[u8], notices: &[u8]) -> Sheets {
     let a = open_one(answers);
     if a.fd < 0 {
         return bad();
@@ -178,7 +190,7 @@ pub fn open(h: Held, requests: i32, answers: &[u8], notices: &[u8]) -> Sheets {
         give_up(a, answers);
         return bad();
     }
-    if are_free(a.fd, n.fd, answers, notices, h, requests) {
+    if are_free(a.fd, n.fd, answers, notices, h, i) {
         return start(a.fd, n.fd, answers, notices);
     }
     give_up(n, notices);

@@ -1,14 +1,14 @@
 -- The number of turns left falls.
 use Prim.Native.Nat.{_≤_}
 use borrow.Author.Needs.{needs}
-use Rattle.handling.proofs.following.count.Statement.{statement}
-use Rattle.handling.proofs.following.count.Tie as tie
+use Rattle.tool_inputs.proofs.following.count.Statement.{statement}
+use Rattle.tool_inputs.proofs.following.count.Tie as tie
 
 abbrev Inv-loop : tie.InvT-loop
-Inv-loop fd path w₀ turns₀ w turns = turns ≤ 4294967296
+Inv-loop s path w₀ turns₀ w turns = turns ≤ 4294967296
 
 abbrev μ-loop : tie.MeasureT-loop
-μ-loop fd path w₀ turns₀ w turns = turns
+μ-loop s path w₀ turns₀ w turns = turns
 
 start-requires : tie.Need-start-requires Inv-loop μ-loop
 start-requires c κs = search needs

@@ -1,0 +1,97 @@
+// The files that `handle` reads: the requests, and those that have a line for each of them.
+mod following;
+
+pub use following::count;
+use streams::Source;
+
+// What is open, -1 for a file that was not asked for.
+pub struct Inputs {
+    pub requests: i32,
+    pub wags: i32,
+    pub codes: i32,
+}
+
+pub fn is_hex() -> bool {
+    tool_options::find(tool_options::HEX) != 0
+}
+
+pub fn source(fd: i32) -> Source {
+    Source { fd, hex: is_hex() }
+}
+
+// A file that is not well, in the place of one that is: -1 is one that was not asked for.
+const BAD: i32 = -2;
+
+// A file with a line for each of so many messages, open at its start.
+fn open_lines(path: &[u8], kind: u8, all: usize) -> i32 {
+    if path.len() < 1 {
+        files::refuse(b"behind wags= and codes= stands the name of a file");
+        return BAD;
+    }
+    if !files::is_marking() {
+        return BAD;
+    }
+    let fd = files::open_plain(path);
+    if fd < 0 {
+        return BAD;
+    }
+    if tool_expecting::check_lines(fd, path, kind, all) {
+        return fd;
+    }
+    BAD
+}
+
+// The same of the file with the name of n bytes.
+fn open_named(name: &[u8; 4096], n: usize, kind: u8, all: usize) -> i32 {
+    let path: &[u8] = name;
+    if path.len() < n {
+        return BAD;
+    }
+    open_lines(&path[0..n], kind, all)
+}
+
+// What the gateway says to each message, where a file has it.
+fn open_wags(all: usize) -> i32 {
+    let i = tool_options::find(tool_options::WAG);
+    if !tool_options::is_file_of_wags(i) {
+        return -1;
+    }
+    let mut path = [0u8; 4096];
+    let n = tool_options::wags(i, &mut path);
+    open_named(&path, n, tool_expecting::WAGS, all)
+}
+
+// The codes that are expected, where a file has them.
+fn open_codes(all: usize) -> i32 {
+    let i = tool_options::find(tool_options::CODES);
+    if i == 0 {
+        return -1;
+    }
+    let mut path = [0u8; 4096];
+    let n = tool_options::codes(i, &mut path);
+    open_named(&path, n, tool_expecting::CODES, all)
+}
+
+// What is read besides the requests, which are so many. Why one of the files is not well is said.
+pub fn open(requests: i32, all: usize) -> Inputs {
+    let wags = open_wags(all);
+    if wags == BAD {
+        return Inputs {
+            requests,
+            wags,
+            codes: BAD,
+        };
+    }
+    Inputs {
+        requests,
+        wags,
+        codes: open_codes(all),
+    }
+}
+
+pub fn are_there(i: Inputs) -> bool {
+    if i.wags == BAD {
+        return false;
+    }
+    i.codes != BAD
+}

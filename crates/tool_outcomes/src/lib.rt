@@ -1,0 +1,78 @@
+// What came of a message: the answer and the notice written, and the message's line said.
+use decision::Outcome;
+use reasons::Why;
+use words::number;
+use words::say;
+
+// The first n bytes of a room, written; why not is said of the file.
+fn put(fd: i32, path: &[u8], room: &[u8], n: usize) -> bool {
+    if room.len() < n {
+        return false;
+    }
+    if io::write_all(fd, &room[0..n]) {
+        return true;
+    }
+    files::refuse_file(path);
+    false
+}
+
+// The files that answers and notices go to.
+pub struct Sheets {
+    pub answers: i32,
+    pub notices: i32,
+}
+
+// The answer and, where there was a cut, its notice; whether both are written.
+pub fn keep(
+    s: Sheets,
+    answers: &[u8],
+    notices: &[u8],
+    o: Outcome,
+    answer: &[u8; 5120],
+    notice: &[u8; 256],
+) -> bool {
+    if !put(s.answers, answers, answer, o.length) {
+        return false;
+    }
+    let cut = o.cut;
+    if totals::is_cut(cut) {
+        return put(s.notices, notices, notice, 256);
+    }
+    true
+}
+
+// The line of a message: what it asks, what came of it, and why; whether it could be said.
+fn tell(k: usize, m: &[u8], o: Outcome, why: Why, notice: &[u8; 256]) -> bool {
+    let mut out = [0u8; 4096];
+    let a = number(&mut out, 0, k as u64);
+    let b = say(&mut out, a, b". ");
+    let c = asking::asked(&mut out, b, m);
+    let d = say(&mut out, c, b": ");
+    let e = telling::outcome(&mut out, d, o, why, notice);
+    let f = say(&mut out, e, b"\n");
+    files::print(&out, f)
+}
+
+// The line of a message, and below it that something else was expected. Where all is quiet only such a message has a line.
+pub fn tell_unless_quiet(
+    quiet: bool,
+    expected: usize,
+    k: usize,
+    m: &[u8],
+    o: Outcome,
+    why: Why,
+    notice: &[u8; 256],
+) -> bool {
+    if tool_expecting::is_expected(o, expected) {
+        if quiet {
+            return true;
+        }
+        return tell(k, m, o, why, notice);
+    }
+    if !tell(k, m, o, why, notice) {
+        return false;
+    }
+    let mut out = [0u8; 4096];
+    let n = tool_expecting::tell(&mut out, o, expected);
+    files::print(&out, n)
+}
