@@ -6,6 +6,7 @@
 #define WM_OWN_TYPES
 typedef __UINT8_TYPE__ uint8_t;
 typedef __UINT32_TYPE__ uint32_t;
+typedef __UINT64_TYPE__ uint64_t;
 typedef __SIZE_TYPE__ size_t;
 typedef _Bool bool;
 #define true 1

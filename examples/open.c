@@ -1,9 +1,10 @@
-/* A table of one row: a subscriber with one W-APN opens a tunnel. Prints the outcome, and the answer's bytes. */
+/* A table of one row: a subscriber with one W-APN opens a tunnel. Prints the outcome, the answer's bytes, and the report of that hour. */
 
 /* The kit's compiler comes without headers, so the types and the one function of the C library stand here. */
 #define WM_OWN_TYPES
 typedef __UINT8_TYPE__ uint8_t;
 typedef __UINT32_TYPE__ uint32_t;
+typedef __UINT64_TYPE__ uint64_t;
 typedef __SIZE_TYPE__ size_t;
 typedef _Bool bool;
 #define false 0
@@ -12,6 +13,7 @@ int printf(const char *, ...);
 
 #include "../include/wm.h"
 
+static struct wm_report report;
 static uint8_t table[WM_ROW], message[512], answer[WM_ANSWER_LEAST], notice[WM_NOTICE_LEAST];
 
 #define TEXT(s) (const uint8_t *)(s), sizeof(s) - 1
@@ -68,5 +70,10 @@ int main(void) {
     for (uint32_t i = 0; i < o.length; i++)
         printf(i % 16 == 0 ? "\n %02X" : " %02X", answer[i]);
     printf("\n");
+    struct wm_told told = {21, 0, o.code, o.kind, o.place, o.cut};
+    printf("count: %u\n", wm_report_count(&report, &told, 1));
+    struct wm_rate rate = wm_report_rate(&report);
+    printf("hour 21: %llu opened; the year: %llu cuts to %llu opened\n", (unsigned long long)report.totals[21][0],
+           (unsigned long long)rate.cuts, (unsigned long long)rate.opened);
     return o.code == 2001 && o.kind == 1 ? 0 : 1;
 }

@@ -1,4 +1,5 @@
-/* The Wm side of a tunnel access server: three set-up operations and one request at a time. docs/RULES.md has the rules.
+/* The Wm side of a tunnel access server: three set-up operations and one request at a time; and a report of what came of requests, by hour.
+ * docs/RULES.md has the rules.
  *
  * Everything is lent by the caller: a pointer and a length. No function keeps a pointer, allocates, locks or waits, and none has
  * state of its own. Any length and any contents are allowed: what does not fit the rules is refused by its number, and a refusal
@@ -8,9 +9,10 @@
  *
  * - A pointer is valid for its length: that many bytes can be read, and written where it is not const.
  * - No pointer is null, not even with length 0: any address of the program's own will do there, it is neither read nor written.
- * - Any alignment will do.
+ * - Any alignment will do for bytes. A report and a list of results are aligned as their types ask.
  * - Buffers of one call do not overlap where one of them is not const: table, answer and notice stand apart from each other
- *   and from all the rest. Those that are const may overlap each other: host, realm, message, name, label.
+ *   and from all the rest, and a report that is changed from the other one and from the list. Those that are const may overlap each other: host,
+ *   realm, message, name, label.
  * - While a call runs no other thread writes to anything that was lent to it, and none reads table, answer or notice.
  *   So calls on one table come one after another, in any threads, with whatever lock the caller likes. Calls with tables and rooms of
  *   their own may run at once, and may share host, realm and messages.
@@ -43,9 +45,9 @@ enum wm_flag { WM_BARRED = 1, WM_MAY_ROAM = 2 };
 enum wm_kind { WM_NO_ANSWER = 0, WM_RESULT_CODE = 1, WM_EXPERIMENTAL_RESULT = 2 };
 
 /* The numbers of refusals that are no Diameter codes. A set-up operation gives 0, 1 or 9 to 17. A request gives 1 to 8, with the
- * kind WM_NO_ANSWER, or a code that goes into its answer. The first that holds is given, in the order of these lines. */
+ * kind WM_NO_ANSWER, or a code that goes into its answer. A report gives 0, 29 or 30. The first that holds is given, in the order of these lines. */
 enum wm_number {
-    WM_DONE = 0,             /* set-up: it is done */
+    WM_DONE = 0,             /* set-up, and a report: it is done */
     WM_TABLE_LENGTH = 1,     /* the table is not 1 to 1,024 rows of WM_ROW bytes */
     WM_OWN_NAMES = 2,        /* the own host or realm has not 1 to 128 bytes */
     WM_ANSWER_ROOM = 3,      /* the answer room is under WM_ANSWER_LEAST */
@@ -62,7 +64,9 @@ enum wm_number {
     WM_LABEL_FORM = 14,      /* adding: the label has not 1 to 100 bytes, the limit is not 1 to 8, or the flags are over 3 */
     WM_LABEL_HELD = 15,      /* adding: the subscriber has that label, its letters in either case */
     WM_FOUR_LABELS = 16,     /* adding: the subscriber has four labels */
-    WM_LIMITS_OVER_8 = 17    /* adding: the limits would sum to over 8 */
+    WM_LIMITS_OVER_8 = 17,   /* adding: the limits would sum to over 8 */
+    WM_HOUR_OVER_23 = 29,    /* counting: an hour of the list is over 23 */
+    WM_OVER_64_BITS = 30     /* a report: an hour's or the year's total of some column passes 64 bits */
 };
 
 /* code: the number 1 to 8 of a call that gets no answer, or the Diameter code.
@@ -83,6 +87,30 @@ uint32_t wm_add(uint8_t *table, size_t table_length, const uint8_t *name, size_t
 struct wm_outcome wm_handle(uint8_t *table, size_t table_length, const uint8_t *host, size_t host_length,
                             const uint8_t *realm, size_t realm_length, const uint8_t *message, size_t message_length,
                             bool wag, uint8_t *answer, size_t answer_length, uint8_t *notice, size_t notice_length);
+
+/* THE YEAR BY HOUR. A report is numbers alone: all zero to begin with, and it may be stored and lent again as the caller likes. It may hold anything:
+ * where its own totals pass 64 bits the number is WM_OVER_64_BITS.
+ * totals: for each hour accesses opened, cuts, terminations that succeeded, every other result. */
+struct wm_report {
+    uint64_t totals[24][4];
+};
+/* A result as it is told. hour: 0 to 23. which: the request's kind, 0 and 1 for the types of an authorization, 2 for a termination.
+ * code, kind, place, cut: of its outcome. */
+struct wm_told {
+    uint32_t hour, which, code, kind, place, cut;
+};
+/* cuts, opened: in lowest terms; 0 and 1 if no access was opened, and with a number other than 0. */
+struct wm_rate {
+    uint32_t number;
+    uint64_t cuts, opened;
+};
+
+/* A list of results counted into a report, all of it or, with a number other than 0, none. told_length: how many they are. */
+uint32_t wm_report_count(struct wm_report *report, const struct wm_told *told, size_t told_length);
+/* A second report added to the first. */
+uint32_t wm_report_add(struct wm_report *report, const struct wm_report *more);
+/* The year's rate of cuts to accesses opened. */
+struct wm_rate wm_report_rate(const struct wm_report *report);
 
 #ifdef __cplusplus
 }

@@ -11,6 +11,7 @@ pub mod reading_a_message;
 pub mod rules;
 pub mod set_up;
 pub mod the_table;
+pub mod the_year;
 pub mod writing_the_answer;
 
 pub mod cases;
@@ -24,8 +25,10 @@ pub mod program;
 pub mod random;
 pub mod recorder;
 pub mod report;
+pub mod rollover;
 pub mod script;
 pub mod sequences;
+pub mod year_calls;
 
 /// The code of an outcome and its kind.
 #[derive(Clone, Copy, Debug, PartialEq, Eq)]

@@ -8,9 +8,10 @@ use oracle::framing::{read, write};
 use oracle::generator::generate;
 use oracle::rules::DOCUMENT_01;
 use oracle::script::{Record, judge, spoil};
+use oracle::the_year::REQUEST_W9;
+use oracle::year_calls::{self, year_calls};
 
-const USAGE: &str =
-    "usage: oracle script [--seed N] [--calls M] [--out FILE] [--spoil 0|1] | oracle check FILE";
+const USAGE: &str = "usage: oracle script|year [--seed N] [--calls M] [--out FILE] [--spoil 0|1] | oracle check FILE | oracle rollover";
 
 /// From this size on, a script in which something never comes up is a failure.
 const FULL_SIZE: usize = 5_000;
@@ -20,7 +21,12 @@ fn main() -> ExitCode {
     let words: Vec<&str> = arguments.iter().map(String::as_str).collect();
     let done = match words.as_slice() {
         ["script", options @ ..] => Options::read(options).map(|o| script(&o)),
+        ["year", options @ ..] => Options::read(options).map(|o| year(&o)),
         ["check", file] => Ok(check(file)),
+        ["rollover"] => {
+            print!("{}", oracle::rollover::picture(1));
+            Ok(Ok(()))
+        }
         _ => Err(USAGE.to_string()),
     };
     match done {
@@ -73,18 +79,39 @@ fn script(options: &Options) -> Result<(), String> {
     if options.spoil != 0 {
         eprintln!("{} calls are spoiled", spoil(&mut recorder.records));
     }
-    let bytes = write(&recorder.records);
-    let written = match &options.out {
-        Some(file) => fs::write(file, &bytes),
-        None => io::stdout().write_all(&bytes),
-    };
-    written.map_err(|error| format!("the script can not be written: {error}"))?;
+    put(options, &write(&recorder.records))?;
     eprint!("{}", recorder.report);
-    let missing = recorder.report.missing();
-    if options.calls >= FULL_SIZE && !missing.is_empty() {
-        return Err(format!("never came up: {}", missing.join(", ")));
+    all_came_up(options, recorder.report.missing())
+}
+
+/// A script of the report's calls (W9).
+fn year(options: &Options) -> Result<(), String> {
+    let mut made = year_calls(&REQUEST_W9, options.seed, options.calls);
+    if options.spoil != 0 {
+        let spoiled = year_calls::spoil(&mut made.calls);
+        eprintln!("{spoiled} calls are spoiled");
     }
-    Ok(())
+    put(options, &year_calls::script(&made.calls))?;
+    for (what, times) in &made.came_up {
+        eprintln!("{times:7} {what}");
+    }
+    all_came_up(options, made.missing())
+}
+
+fn put(options: &Options, bytes: &[u8]) -> Result<(), String> {
+    let written = match &options.out {
+        Some(file) => fs::write(file, bytes),
+        None => io::stdout().write_all(bytes),
+    };
+    written.map_err(|error| format!("the script can not be written: {error}"))
+}
+
+fn all_came_up<What: AsRef<str>>(options: &Options, missing: Vec<What>) -> Result<(), String> {
+    if options.calls < FULL_SIZE || missing.is_empty() {
+        return Ok(());
+    }
+    let missing: Vec<&str> = missing.iter().map(AsRef::as_ref).collect();
+    Err(format!("never came up: {}", missing.join(", ")))
 }
 
 /// Reads a script and performs it with the oracle.

@@ -10,6 +10,10 @@ use borrow.Fn.Kinds.{Dens, endedOf}
 use Rattle.setup.proofs.clear.Reads as Clearing
 use Rattle.setup.proofs.enter.Reads as Entering
 use Rattle.setup.proofs.add.Reads as Adding
+use Rattle.report.proofs.count.Reads as Counting
+use Rattle.report.proofs.add.Reads as AddingReports
+use Rattle.report.proofs.rate.Reads as Rating
+use Rattle.report.specs.declared.Ratio.{Ratio}
 use Rattle.wm.specs.declared.WmOutcome.{WmOutcome}
 use Rattle.wm.specs.NoSecondAnswer.{GivenInC}
 use Rattle.wm.proofs.wm_clear.Kinds as Clear
@@ -20,6 +24,12 @@ use Rattle.wm.proofs.wm_add.Kinds as Add
 use Rattle.wm.proofs.wm_add.Reads as WmAdd
 use Rattle.wm.proofs.wm_handle.Kinds as Handle
 use Rattle.wm.proofs.wm_handle.Reads as Handling
+use Rattle.wm.proofs.wm_report_count.Kinds as ReportCount
+use Rattle.wm.proofs.wm_report_count.Reads as WmReportCount
+use Rattle.wm.proofs.wm_report_add.Kinds as ReportAdd
+use Rattle.wm.proofs.wm_report_add.Reads as WmReportAdd
+use Rattle.wm.proofs.wm_report_rate.Kinds as ReportRate
+use Rattle.wm.proofs.wm_report_rate.Reads as WmReportRate
 use Rattle.wm.proofs.NoSecondAnswer.{one-answer-in-c}
 
 -- table, host, realm, message, wag, answer, notice
@@ -45,3 +55,17 @@ enter-as-set-up κs a n x e = e
 
 pub add-as-set-up : (κs : Lfts 3) (a : Dens κs Add.ps) (n : ℕ) (x : AtExit (endedOf 3 Add.ps Add.r) κs) → WmAdd.Learnt κs a n x → Adding.Learnt κs a n x
 add-as-set-up κs a n x e = e
+
+-- THE REPORT: each ensures what the operation of `report` does, word for word, so that `Rattle.report` has its "no second answer" too.
+
+pub count-as-report : (κs : Lfts 2) (a : Dens κs ReportCount.ps) (n : ℕ) (x : AtExit (endedOf 2 ReportCount.ps ReportCount.r) κs)
+    → WmReportCount.Learnt κs a n x → Counting.Learnt κs a n x
+count-as-report κs a n x e = e
+
+pub add-as-report : (κs : Lfts 2) (a : Dens κs ReportAdd.ps) (n : ℕ) (x : AtExit (endedOf 2 ReportAdd.ps ReportAdd.r) κs)
+    → WmReportAdd.Learnt κs a n x → AddingReports.Learnt κs a n x
+add-as-report κs a n x e = e
+
+pub rate-as-report : (κs : Lfts 1) (a : Dens κs ReportRate.ps) (r : Ratio) (x : AtExit (endedOf 1 ReportRate.ps ReportRate.r) κs)
+    → WmReportRate.Learnt κs a r x → Rating.Learnt κs a r x
+rate-as-report κs a r x e = e

@@ -1,7 +1,8 @@
-// The server for C: the four operations under their C names (include/wm.h).
+// The server for C: the four operations under their C names (include/wm.h), and those of the report.
 use carrying::Cut;
 use decision::Outcome;
 use message::Kind;
+use report::Ratio;
 ghost use mathlib.Core.Path.{_≡_};
 ghost use Prim.Native.Nat.{ℕ, _<_};
 ghost use Rattle.message.specs.Codes.{kindOf};
@@ -9,6 +10,9 @@ ghost use Rattle.message.specs.Kinds.{codeFrom};
 ghost use Rattle.setup.specs.SetUp.{left, clear, enter, add};
 ghost use Rattle.rules.specs.Calls.{handle};
 ghost use Rattle.decision.specs.Outcomes.{callOf, cutHost, cutMade, cutSession, resultSaid};
+ghost use Rattle.report.specs.TheReport.{count, add as addReport};
+ghost use Rattle.report.specs.Rates.{rate};
+ghost use Rattle.report.specs.Code.{toldBy, leaves, ratioSaid};
 ghost use Rattle.wm.specs.InC.{leavesInC, saidInC, In32};
 
 // SET-UP: 0 on success, else the number
@@ -130,4 +134,30 @@ pub extern "C" fn wm_handle(
         ≡ handle (now (table .entry)) (callOf (now (message .entry)) (now (host .entry)) (now (realm .entry)) (now (answer .entry)) (now (notice .entry)) wag) ⌝ }
 {
     outcome_in_c(decision::handle(table, host, realm, message, wag, answer, notice))
+}
+
+// THE YEAR BY HOUR: 0, or 29 and 30, with which the report is as it was
+
+// A list of results counted into the report.
+#[no_mangle]
+pub extern "C" fn wm_report_count(report: &mut [u64; 96], told: &[[u32; 6]]) -> u32
+    ensures { λ r. ⌜ leaves r (now (report .exit)) ≡ count (now (report .entry)) (toldBy (now (told .entry))) ⌝ }
+{
+    report::count(report, told)
+}
+
+// A second report added to the first.
+#[no_mangle]
+pub extern "C" fn wm_report_add(report: &mut [u64; 96], more: &[u64; 96]) -> u32
+    ensures { λ r. ⌜ leaves r (now (report .exit)) ≡ addReport (now (report .entry)) (now (more .entry)) ⌝ }
+{
+    report::add(report, more)
+}
+
+// The year's rate of cuts to accesses opened.
+#[no_mangle]
+pub extern "C" fn wm_report_rate(report: &[u64; 96]) -> Ratio
+    ensures { λ r. ⌜ ratioSaid r ≡ rate (now (report .entry)) ⌝ }
+{
+    report::rate(report)
 }

@@ -60,6 +60,27 @@ fn expecting() {
     line(b"play decode FILE                  the messages of a file in words\n");
     line(b"play decode FILE hex              the same of a file with a message a line\n");
     line(b"play decode FILE notices          the notices of a file: Session-Id and gateway\n");
+}
+
+// The commands on reports.
+fn reports() {
+    line(b"play report new REPORT            a report by hour, nothing counted\n");
+    line(b"play report count REPORT TABLE REQUESTS HOURS\n");
+    line(
+        b"                                  what the messages come to on TABLE, which stays as it is, counted at the\n",
+    );
+    line(
+        b"                                  hours of HOURS, a line from 0 to 23 for each message\n",
+    );
+    line(b"play report add REPORT OTHER      a second report added to the first\n");
+    line(
+        b"play report show REPORT           a bar for each hour, cuts as x beside the other openings\n",
+    );
+    line(b"play report draw REPORT           the same as a picture (SVG) on standard output\n");
+}
+
+// What else there is, and how files are read.
+fn rest() {
     line(
         b"play prove                        proves the tool and all below it, and says how far it is\n",
     );
@@ -76,6 +97,8 @@ pub fn say() {
     tables();
     serving();
     expecting();
+    reports();
+    rest();
 }
 
 // HOW A COMMAND IS USED
@@ -116,7 +139,14 @@ fn is_other(word: &[u8]) -> bool {
     ) {
         return true;
     }
-    is_used(word, b"decode", b"usage: play decode FILE [hex|notices]")
+    if is_used(word, b"decode", b"usage: play decode FILE [hex|notices]") {
+        return true;
+    }
+    is_used(
+        word,
+        b"report",
+        b"usage: play report new|count|add|show|draw REPORT [TABLE REQUESTS HOURS|OTHER]",
+    )
 }
 
 // What was meant can not be done with these words.

@@ -53,6 +53,10 @@ fn run(word: &[u8], table: &mut [u8; 4718593]) {
         listing::decode();
         return;
     }
+    if is_called(word, b"report", 4, 7) {
+        tool_report::run(table);
+        return;
+    }
     help::refuse(word);
 }
 

@@ -1,0 +1,10 @@
+pub mod Columns
+pub mod Tables
+pub mod Counting
+pub mod Writing
+pub mod Divisors
+pub mod Loops
+pub mod Leaving
+pub mod TheYear
+pub mod Ensured
+pub mod WorkedCases

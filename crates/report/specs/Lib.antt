@@ -1,0 +1,5 @@
+pub mod TheReport
+pub mod Rates
+pub mod Code
+pub mod TheYear
+pub mod WorkedCases
