@@ -41,7 +41,7 @@ fn put_avp(room: &mut [u8], at: usize, code: u32, value: &[u8]) -> usize
     let padding = [0u8; 4];
     octets::put_bytes(room, next - 4, &padding);
     put_head(room, at, code, 8 + n);
-    copying::put_text(room, at + 8, value);
+    texts::put_text(room, at + 8, value);
     next
 }
 
@@ -191,7 +191,7 @@ fn put_stretch(m: &[u8], start: usize, end: usize, room: &mut [u8], to: usize) -
     if start == end {
         return to;
     }
-    copying::put_text(room, to, &m[start..end]);
+    texts::put_text(room, to, &m[start..end]);
     to + (end - start)
 }
 
@@ -243,7 +243,7 @@ fn put_header(m: &[u8], code: u32, n: usize, room: &mut [u8])
         answer_flags(m, code),
     ];
     octets::put_bytes(room, 0, &head);
-    copying::put_text(room, 5, &m[5..20]);
+    texts::put_text(room, 5, &m[5..20]);
 }
 
 // The answer of a kind and a code at the start of the room: its length. What stands behind it stays.

@@ -104,8 +104,8 @@ fn write_access(block: &mut [u8], entry: u8, session: &[u8], host: &[u8])
     octets::clear(block);
     let head = [2, entry, session.len() as u8, host.len() as u8];
     octets::put_bytes(block, 0, &head);
-    copying::put_text(block, 8, session);
-    copying::put_text(block, 136, host);
+    texts::put_text(block, 8, session);
+    texts::put_text(block, 136, host);
     seal(block);
 }
 
@@ -117,7 +117,7 @@ fn write_policy(block: &mut [u8], policy: &[u8])
     block[4] = 1;
     block[5] = policy.len() as u8;
     octets::put_zeros(block, 264, 128);
-    copying::put_text(block, 264, policy);
+    texts::put_text(block, 264, policy);
     seal(block);
 }
 

@@ -35,7 +35,7 @@ pub fn place_form(r: &[u8], k: usize) -> bool
 {
     let block = row::place(r, k);
     if soundness::in_use(row::used_bits(r), k) {
-        return forms::access_form(block);
+        return blocks::access_form(block);
     }
     octets::all_zero(block)
 }
@@ -60,7 +60,7 @@ fn sums_agree(r: &[u8]) -> bool
 {
     let mut k: usize = 0;
     while k < 9 {
-        if !forms::block_sums_agree(row::place(r, k)) {
+        if !blocks::block_sums_agree(row::place(r, k)) {
             return false;
         }
         k += 1;
@@ -72,10 +72,10 @@ fn broken_form(r: &[u8]) -> Clause
     requires { ⌜ length (now r) ≡ rowLength ⌝ }
     ensures { λ x. ⌜ clauseNumber x ≡ brokenForm (now (r .entry)) ⌝ }
 {
-    if !forms::head_form(row::head(r)) {
+    if !blocks::head_form(row::head(r)) {
         return Clause::HeadForm;
     }
-    if !forms::entries_form(row::entries_room(r), octets::long(row::entry_count(r))) {
+    if !blocks::entries_form(row::entries_room(r), octets::long(row::entry_count(r))) {
         return Clause::EntryForm;
     }
     if !places_form(r) {
@@ -99,7 +99,7 @@ fn entries_exist(r: &[u8]) -> bool
     let mut i: usize = 0;
     while i < n {
         let on = row::entry_of(r, row::line_place(r, i));
-        if !forms::is_within(1, most, on) {
+        if !blocks::is_within(1, most, on) {
             return false;
         }
         i += 1;
@@ -116,7 +116,7 @@ fn policies_marked(r: &[u8]) -> bool
     let mut i: usize = 0;
     while i < n {
         let block = row::place(r, row::line_place(r, i));
-        if !forms::policy_marked(block[4], block[5]) {
+        if !blocks::policy_marked(block[4], block[5]) {
             return false;
         }
         i += 1;
@@ -133,10 +133,10 @@ fn broken_contents(r: &[u8]) -> Clause
     }
     let n = octets::long(row::entry_count(r));
     let entries = row::entries_room(r);
-    if !forms::labels_differ(entries, n) {
+    if !blocks::labels_differ(entries, n) {
         return Clause::Labels;
     }
-    if 8 < forms::limits_sum(entries, n) {
+    if 8 < blocks::limits_sum(entries, n) {
         return Clause::Limits;
     }
     if !soundness::sessions_differ(r) {

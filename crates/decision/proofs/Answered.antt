@@ -21,15 +21,15 @@ use Rattle.message.specs.declared.Asked.{Asked}
 use Rattle.message.specs.declared.Asked.the-variants.{Tunnel, Policy, Termination}
 use Rattle.message.proofs.Lengths.{passing, user-length, tunnel-lengths, policy-lengths, termination-lengths}
 use Rattle.table.specs.TheTable.{Access, Subscriber}
-use Rattle.deciding.specs.declared.Plan.{Plan}
-use Rattle.deciding.specs.declared.Plan.the-variants.{NotSubscribed, Barred, RoamingNotAllowed, UnableToComply, UnusedByUser, Open, Route, Free}
+use Rattle.plans.specs.declared.Plan.{Plan}
+use Rattle.plans.specs.declared.Plan.the-variants.{NotSubscribed, Barred, RoamingNotAllowed, UnableToComply, UnusedByUser, Open, Route, Free}
 use Rattle.message.specs.WritingTheAnswer.{answer, answerRoom}
-use Rattle.carrying.specs.declared.Done.{Done}
+use Rattle.effects.specs.declared.Done.{Done}
 use Rattle.decision.specs.declared.Decided.{Decided}
 use Rattle.rules.specs.Deciding.{Verdict, refuse, grant, openOn}
-use Rattle.deciding.specs.Plans.{planned, fitting}
+use Rattle.plans.specs.Plans.{planned, fitting}
 use Rattle.rules.specs.Calls.{resultOf, noticeRoom, reply, settled}
-use Rattle.carrying.specs.Carrying.{cutFor, doneFor, tableAfter}
+use Rattle.effects.specs.Carrying.{cutFor, doneFor, tableAfter}
 use Rattle.decision.specs.Outcomes.{Named, answeredBy, cutMade, cutSession, cutHost, resultSaid, planKind, planCode, sessionText, hostText, leaves, callOf}
 
 -- CODES

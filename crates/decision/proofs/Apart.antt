@@ -7,8 +7,8 @@ use Rattle.message.specs.Codes.{kindOf}
 use Rattle.message.specs.Kinds.{codeFrom}
 use Rattle.message.specs.declared.Kind.{Kind}
 use Rattle.message.specs.declared.Kind.the-variants.{NoAnswer, Plain, Experimental}
-use Rattle.carrying.specs.declared.Cut.{Cut}
-use Rattle.carrying.specs.declared.Cut.the-variants.{NoCut, Lengths}
+use Rattle.effects.specs.declared.Cut.{Cut}
+use Rattle.effects.specs.declared.Cut.the-variants.{NoCut, Lengths}
 use Rattle.decision.specs.declared.Outcome.{Outcome}
 use Rattle.decision.specs.Outcomes.{cutMade, cutSession, cutHost, resultSaid}
 use Rattle.rules.specs.Calls.{Result}

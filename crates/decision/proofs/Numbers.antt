@@ -15,7 +15,7 @@ use Rattle.message.specs.Kinds.{codeFrom}
 use Rattle.message.specs.ReadingAMessage.{read}
 use Rattle.message.specs.declared.Kind.the-variants.{NoAnswer}
 use Rattle.message.proofs.Callers.{message-length}
-use Rattle.carrying.specs.declared.Cut.the-variants.{NoCut}
+use Rattle.effects.specs.declared.Cut.the-variants.{NoCut}
 use Rattle.message.specs.CallsThatGetNoAnswer.{messageNumber}
 use Rattle.table.specs.TheTable.{tableNumber}
 use Rattle.rules.specs.Calls.{Call, callNumber, handle, onReading, silent}

@@ -13,10 +13,10 @@ use Rattle.message.specs.declared.Kind.{Kind}
 use Rattle.message.specs.declared.Kind.the-variants.{Plain, Experimental}
 use Rattle.message.specs.declared.Asked.{Asked}
 use Rattle.message.specs.declared.Asked.the-variants.{Tunnel, Policy, Termination}
-use Rattle.deciding.specs.declared.Plan.{Plan}
-use Rattle.deciding.specs.declared.Plan.the-variants.{NotSubscribed, Barred, RoamingNotAllowed, UnableToComply, UnusedByUser, Open, Route, Free}
-use Rattle.carrying.specs.declared.Cut.{Cut}
-use Rattle.carrying.specs.declared.Cut.the-variants.{NoCut, Lengths}
+use Rattle.plans.specs.declared.Plan.{Plan}
+use Rattle.plans.specs.declared.Plan.the-variants.{NotSubscribed, Barred, RoamingNotAllowed, UnableToComply, UnusedByUser, Open, Route, Free}
+use Rattle.effects.specs.declared.Cut.{Cut}
+use Rattle.effects.specs.declared.Cut.the-variants.{NoCut, Lengths}
 use Rattle.decision.specs.declared.Outcome.{Outcome}
 use Rattle.decision.specs.declared.Decided.{Decided}
 use Rattle.rules.specs.Calls.{Call, Result, Left}

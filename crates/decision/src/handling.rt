@@ -1,12 +1,12 @@
 // A whole call.
 use super::Decided;
 use super::Outcome;
-use carrying::Cut;
-use deciding::Plan;
+use effects::Cut;
 use message::Asked;
 use message::Kind;
 use message::Span;
 use message::Told;
+use plans::Plan;
 use table::RowFound;
 ghost use mathlib.Core.Path.{_≡_};
 ghost use mathlib.Core.Bool.{Bool, true};
@@ -22,7 +22,7 @@ ghost use Rattle.message.specs.ReadingAMessage.{read, request};
 ghost use Rattle.table.specs.TheTable.{lookup, readRow, rowAt, rowLength, tableNumber};
 ghost use Rattle.table.specs.Soundness.{sound};
 ghost use Rattle.rules.specs.Deciding.{decide};
-ghost use Rattle.deciding.specs.Plans.{planned, fitPlan, fitting};
+ghost use Rattle.plans.specs.Plans.{planned, fitPlan, fitting};
 ghost use Rattle.decision.specs.Outcomes.{Named, answeredBy, callOf, hostText, leaves, planCode, planKind, routeText, sessionText};
 
 // An own name of 1 to 128 bytes.
@@ -166,13 +166,13 @@ fn plan_for(row: &[u8], m: &[u8], asked: Asked, wag: bool) -> Plan
             label,
             visited,
         } => {
-            return deciding::plan_tunnel(row, text(m, session), text(m, label), visited);
+            return plans::plan_tunnel(row, text(m, session), text(m, label), visited);
         }
         Asked::Policy { session, route } => {
-            return deciding::plan_policy(row, text(m, session), wag);
+            return plans::plan_policy(row, text(m, session), wag);
         }
         Asked::Termination { session, label } => {
-            return deciding::plan_termination(row, text(m, session), text(m, label));
+            return plans::plan_termination(row, text(m, session), text(m, label));
         }
     }
 }
@@ -214,7 +214,7 @@ fn settle(
     let session = text(m, session_span(asked));
     let gateway = text(m, host_span(asked));
     let route = text(m, route_span(asked));
-    let done = carrying::carry(table, i, plan, session, gateway, route, notice);
+    let done = effects::carry(table, i, plan, session, gateway, route, notice);
     let kind = kind_of(plan);
     let code = code_of(plan);
     let place = done.place;
@@ -296,7 +296,7 @@ pub fn handle(
             cut: Cut::NoCut,
         };
     }
-    let heard = reading::read(message);
+    let heard = request::read(message);
     let told = heard.told;
     let proxies = heard.proxies;
     let decided = on_reading(table, message, wag, told, notice);

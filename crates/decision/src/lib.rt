@@ -1,7 +1,7 @@
 // A whole call.
 mod handling;
 
-use carrying::Cut;
+use effects::Cut;
 pub use handling::call_number;
 pub use handling::handle;
 pub use handling::text;

@@ -15,7 +15,7 @@ use Rattle.table.specs.TheTable.{Access, Subscriber, line}
 use Rattle.table.specs.Soundness.{onEntry}
 use Rattle.table.proofs.Good.{Good}
 use Rattle.rules.specs.Deciding.{atLimit, atPlace, entryAt, entryNamed, firstOn, placeOf}
-use Rattle.deciding.proofs.Stay.{entry-found, limit-is, limit-some}
+use Rattle.plans.proofs.Stay.{entry-found, limit-is, limit-some}
 use Rattle.order.specs.ChecksInOrder.{check, noneFails, decidingChecks}
 use Rattle.order.specs.Demand2.{exceeds, onAsked, firstAlone}
 use Rattle.order.proofs.Decided.{cutBy}

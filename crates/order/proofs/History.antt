@@ -22,7 +22,7 @@ use Rattle.table.proofs.Good.{Good, Standing, goodAccess, standing}
 use Rattle.changes.specs.Changes.{freed, hold, newAccess, opened, routed}
 use Rattle.rules.specs.Deciding.{entryAt, entryNamed, none, placeOf, withSession}
 use Rattle.rules.specs.Calls.{Call, Reply, noticeRoom, reply, resultOf}
-use Rattle.deciding.proofs.Stay.{entry-found}
+use Rattle.plans.proofs.Stay.{entry-found}
 use Rattle.order.specs.ChecksInOrder.{check, decidingChecks, noneFails}
 use Rattle.order.specs.Demand2.{afterwards, cutFor, exceeds, firstAlone, onAsked, spared}
 use Rattle.order.specs.OpenedFirst.{labelAsked, labelIn, lineAfter, onLabel, sessionCut, tunnelCut, tunnelOf, tunnels, without}

@@ -20,7 +20,7 @@ use Rattle.message.proofs.Gathering.{next-on}
 use Rattle.table.specs.TheTable.{tableNumber}
 use Rattle.rules.specs.Calls.{Call, callNumber}
 use Rattle.decision.proofs.Answered.{request-fits}
-use Rattle.deciding.specs.Plans.{fitting}
+use Rattle.plans.specs.Plans.{fitting}
 use Rattle.order.specs.ChecksInOrder.{Failure, sessionIdNotFirst, Check, pass, fail, check, firstFailed, noneFails, headerChecks, avpChecks, walkFrom, walkChecks, fieldChecks, listChecks, readingChecks, shortSecond, TellsTheByte, unknownSecond, TellsTheUnknown}
 
 -- CHECKS BEFORE OTHERS

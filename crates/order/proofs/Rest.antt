@@ -20,7 +20,7 @@ use Rattle.table.proofs.Rows.{row-other, row-with, whole-rows}
 use Rattle.table.proofs.Sound.{says-good, sound-row}
 use Rattle.rules.specs.Deciding.{Verdict}
 use Rattle.rules.specs.Calls.{Call, Left, callNumber, silent, refusal, settled, handle, ranFirst, run}
-use Rattle.deciding.proofs.Stay.{stays}
+use Rattle.plans.proofs.Stay.{stays}
 use Rattle.order.specs.ChecksInOrder.{noneFails}
 use Rattle.order.specs.Demand2.{requestIn, found, checks, afterwards, Replaced, SuccessReplacesRow, OtherRowsStay, SoundStaysSound, SoundStaysInList}
 use Rattle.order.proofs.Finding.{same-row}
@@ -29,7 +29,7 @@ use Rattle.order.proofs.Answered.{Went, OnRow, unanswered, stopped, rea
 use Rattle.order.proofs.Decided.{granting}
 use Rattle.order.proofs.Checks.{Won, won, won-went, granted, written}
 use Rattle.order.proofs.Handling.{There, there}
-use Rattle.deciding.specs.Plans.{fitting}
+use Rattle.plans.specs.Plans.{fitting}
 
 -- the table of a call that is answered has rows
 pub rows-there : (t : List ℕ) (c : Call) → callNumber t c ≡ 0 → tableNumber t ≡ 0

@@ -17,10 +17,10 @@ use Rattle.table.specs.TheTable.{Subscriber, Found, row, nothing, isFound, look
 use Rattle.table.specs.Soundness.{sound, onEntry}
 use Rattle.rules.specs.Deciding.{Verdict, type0, type1, terminate, refuse, grant, heldAlready, entryNamed, entryAt, withSession, none}
 use Rattle.rules.specs.Calls.{Call, callNumber}
-use Rattle.deciding.specs.declared.Plan.{Plan}
-use Rattle.deciding.specs.declared.Plan.the-variants.{NotSubscribed, Barred, RoamingNotAllowed, UnableToComply, UnusedByUser, Open, Route, Free}
-use Rattle.deciding.proofs.Plan.{the-type}
-use Rattle.deciding.specs.Plans.{planned}
+use Rattle.plans.specs.declared.Plan.{Plan}
+use Rattle.plans.specs.declared.Plan.the-variants.{NotSubscribed, Barred, RoamingNotAllowed, UnableToComply, UnusedByUser, Open, Route, Free}
+use Rattle.plans.proofs.Plan.{the-type}
+use Rattle.plans.specs.Plans.{planned}
 use Rattle.decision.specs.Outcomes.{planKind, planCode}
 use Rattle.decision.proofs.Answered.{number-from, plan-code}
 use Rattle.order.specs.ChecksInOrder.{Check, pass, fail, noRow, unsoundRow, notEntered, entryBarred, mayNotRoam, sessionHeld, noAccess, gatewaySaysNo, unused, check, firstFailed, readingChecks, decidingChecks}

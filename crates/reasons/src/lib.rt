@@ -1,9 +1,9 @@
 // Why a call is answered as it is: the first of the paper's checks that fails.
-use deciding::Plan;
 use message::Asked;
 use message::Got;
 use message::Span;
 use message::Told;
+use plans::Plan;
 use reader::Fault;
 use reader::Step;
 use table::RowFound;
@@ -249,7 +249,7 @@ fn lists_failed(m: &[u8], index: &[usize]) -> Reason
     requires { ⌜ (20 ≤ length (now m)) × (walkCode (now m) ≡ 0) × Gathered (now m) (now index) ⌝ }
     ensures { λ r. ⌜ checkNamed r ≡ firstFailed (listChecks (now (m .entry))) ⌝ }
 {
-    if !reading::starts(m) {
+    if !request::starts(m) {
         return Reason::SessionIdNotFirst;
     }
     let both = both_failed(m, index);
@@ -284,7 +284,7 @@ fn tunnel_failed(row: &[u8], session: &[u8], label: &[u8], visited: bool) -> Rea
     ensures { λ r. ⌜ ((host : List ℕ) (wag : Bool) → checkNamed r
         ≡ firstFailed (decidingChecks (tunnel (now (session .entry)) host (now (label .entry)) visited) wag (readRow (now (row .entry))))) ⌝ }
 {
-    match deciding::plan_tunnel(row, session, label, visited) {
+    match plans::plan_tunnel(row, session, label, visited) {
         Plan::NotSubscribed => Reason::NotEntered,
         Plan::Barred => Reason::EntryBarred,
         Plan::RoamingNotAllowed => Reason::MayNotRoam,
@@ -298,7 +298,7 @@ fn policy_failed(row: &[u8], session: &[u8], wag: bool) -> Reason
     requires { ⌜ sound (now row) ≡ true ⌝ }
     ensures { λ r. ⌜ ((route : List ℕ) → checkNamed r ≡ firstFailed (decidingChecks (policy (now (session .entry)) route) wag (readRow (now (row .entry))))) ⌝ }
 {
-    let plan = deciding::plan_policy(row, session, true);
+    let plan = plans::plan_policy(row, session, true);
     if let Plan::UnableToComply = plan {
         return Reason::NoAccess;
     }
@@ -313,7 +313,7 @@ fn termination_failed(row: &[u8], session: &[u8], label: &[u8]) -> Reason
     ensures { λ r. ⌜ ((wag : Bool) → checkNamed r
         ≡ firstFailed (decidingChecks (termination (now (session .entry)) (now (label .entry))) wag (readRow (now (row .entry))))) ⌝ }
 {
-    match deciding::plan_termination(row, session, label) {
+    match plans::plan_termination(row, session, label) {
         Plan::UnusedByUser => Reason::Unused,
         _ => Reason::Passes,
     }
@@ -369,7 +369,7 @@ fn answered_for(table: &[u8], m: &[u8], wag: bool) -> Reason
     requires { ⌜ (tableNumber (now table) ≡ 0) × (20 ≤ length (now m)) ⌝ }
     ensures { λ r. ⌜ ((host realm answer notice : List ℕ) → checkNamed r ≡ firstFailed (checks (now (table .entry)) (callOf (now (m .entry)) host realm answer notice wag))) ⌝ }
 {
-    let heard = reading::read(m);
+    let heard = request::read(m);
     let told = heard.told;
     match told {
         Told::Refused(_) => {

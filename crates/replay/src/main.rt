@@ -1,9 +1,9 @@
 // Plays a script of the independent program on the proved server: `replay FILE`, or `replay` with the script on standard input.
 // It says which calls differ, at most twenty of them, and then how many. A script that is damaged gets one line.
 use libc::STDOUT_FILENO;
-use replaying::Damage;
-use replaying::Progress;
-use replaying::Turn;
+use replay_run::Damage;
+use replay_run::Progress;
+use replay_run::Turn;
 
 fn say(text: &[u8]) {
     io::write_all(STDOUT_FILENO, text);
@@ -128,11 +128,11 @@ fn turn(
     if rest < n {
         return Turn::Broken(Damage::Ends);
     }
-    if !script::is_checked(&room[0..e]) {
+    if !replay_script::is_checked(&room[0..e]) {
         return Turn::Broken(Damage::Check);
     }
     let b = e - 4;
-    replaying::on_record(room[0], &room[5..b], table, answer, notice, notes, p)
+    replay_run::on_record(room[0], &room[5..b], table, answer, notice, notes, p)
 }
 
 // Whether the input goes on behind END.
@@ -161,7 +161,7 @@ fn run(
     notice: &mut [u8; 1024],
     notes: &mut [usize; 100],
 ) {
-    let mut p = replaying::begin();
+    let mut p = replay_run::begin();
     let mut turns: usize = 4294967296;
     while turns > 0 {
         turns -= 1;

@@ -35,7 +35,7 @@ fn is_name(name: &[u8]) -> bool
     if 15 < name.len() {
         return false;
     }
-    forms::digits(name)
+    blocks::digits(name)
 }
 
 // Row i is that of a new subscriber.
@@ -76,7 +76,7 @@ fn label_new(room: &[u8], n: usize, label: &[u8]) -> bool
 {
     let mut i: usize = 0;
     while i < n {
-        if forms::same_label(row::label(room, i), label) {
+        if blocks::same_label(row::label(room, i), label) {
             return false;
         }
         i += 1;
@@ -119,7 +119,7 @@ fn next_number(row: &[u8], label: &[u8], limit: u8, flags: u8) -> u32
     if 4 <= n {
         return 16;
     }
-    if 8 < forms::limits_sum(entries, n) + octets::wide(limit) {
+    if 8 < blocks::limits_sum(entries, n) + octets::wide(limit) {
         return 17;
     }
     0

@@ -16,7 +16,7 @@ use Rattle.table.proofs.Form.{every-on, length-block}
 use Rattle.soundness.proofs.Line.{Exact, exact}
 use Rattle.table.proofs.Sound.{Clauses, Headed, at-place, clauses, clauses-sound, each-on, each-place-of, head-of, in-use, sums-tail, sums-zero}
 use Rattle.table.proofs.Tests.{clash}
-use Rattle.forms.specs.RowTests.{accessSound, headSound, placeSound}
+use Rattle.blocks.specs.RowTests.{accessSound, headSound, placeSound}
 use Rattle.table.specs.Soundness.{accessForm, entriesForm, headForm, inUse, isName, labels, limits, lineExact, placeForm, policyMarked, sameLabel, sessions, sound, sumsAgree, underLimits}
 use Rattle.table.specs.TheTable.{block, entriesRoom, orderLine, places, readAccess, readEntries, readRow, rowLength}
 

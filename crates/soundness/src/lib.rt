@@ -9,7 +9,7 @@ ghost use Rattle.octets.specs.Texts.{same};
 ghost use Rattle.table.specs.TheTable.{block, orderLine, places, readRow, rowLength};
 ghost use Rattle.octets.specs.Lists.{every, distinct};
 ghost use Rattle.table.specs.Soundness.{labels, limits, lineExact, sessions, onEntry, underLimits, sound};
-ghost use Rattle.forms.specs.RowTests.{placeSound, headSound};
+ghost use Rattle.blocks.specs.RowTests.{placeSound, headSound};
 
 // THE ORDER LINE, AND BYTE 17
 
@@ -34,7 +34,7 @@ pub fn line_exact(r: &[u8]) -> bool
     requires { ⌜ length (now r) ≡ rowLength ⌝ }
     ensures { λ x. ⌜ x ≡ lineExact (now (r .entry)) ⌝ }
 {
-    let n = forms::line_length(row::line_room(r));
+    let n = blocks::line_length(row::line_room(r));
     let mut used: u8 = 0;
     let mut i: usize = 0;
     while i < n {
@@ -67,7 +67,7 @@ fn place_sound(r: &[u8], k: usize, n: u8) -> bool
 {
     let block = row::place(r, k);
     if in_use(row::used_bits(r), k) {
-        return forms::access_sound(block, n);
+        return blocks::access_sound(block, n);
     }
     octets::all_zero(block)
 }
@@ -161,18 +161,18 @@ fn head_sound(r: &[u8]) -> bool
     requires { ⌜ length (now r) ≡ rowLength ⌝ }
     ensures { λ x. ⌜ x ≡ headSound (now (r .entry)) ⌝ }
 {
-    if !forms::head_form(row::head(r)) {
+    if !blocks::head_form(row::head(r)) {
         return false;
     }
     let n = octets::long(row::entry_count(r));
     let entries = row::entries_room(r);
-    if !forms::entries_form(entries, n) {
+    if !blocks::entries_form(entries, n) {
         return false;
     }
-    if !forms::labels_differ(entries, n) {
+    if !blocks::labels_differ(entries, n) {
         return false;
     }
-    forms::limits_sum(entries, n) <= 8
+    blocks::limits_sum(entries, n) <= 8
 }
 
 // A row is sound. The cheap tests come first, the sums of block 0 last.
@@ -196,5 +196,5 @@ pub fn row_sound(r: &[u8]) -> bool
     if !under_limits(r, octets::long(n)) {
         return false;
     }
-    forms::block_sums_agree(row::head(r))
+    blocks::block_sums_agree(row::head(r))
 }

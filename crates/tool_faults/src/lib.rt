@@ -1,8 +1,8 @@
 // Where a row is unsound: the first block, entry or place at which the clause fails, in words; and the row that hides another.
 use clauses::Clause;
 use table::RowFound;
-use words::number;
-use words::say;
+use tool_words::number;
+use tool_words::say;
 
 // ENTRIES, counted from 1
 
@@ -23,7 +23,7 @@ fn is_entry_bent(row: &[u8], e: usize) -> bool {
     }
     let mut room = [0u8; 416];
     octets::put_bytes(&mut room, 0, bytes);
-    !forms::entries_form(&room, 1)
+    !blocks::entries_form(&room, 1)
 }
 
 // Whether two entries have the same label.
@@ -50,7 +50,7 @@ fn are_alike(row: &[u8], e: usize, f: usize) -> bool {
     if !row::has_label(entries, f - 1) {
         return false;
     }
-    forms::same_label(row::label(entries, e - 1), row::label(entries, f - 1))
+    blocks::same_label(row::label(entries, e - 1), row::label(entries, f - 1))
 }
 
 // Whether an entry in use has the label of one before it.
@@ -83,7 +83,7 @@ fn is_over_limit(row: &[u8], e: usize) -> bool {
         return false;
     }
     let limit = row::limit(row::entries_room(row), e - 1);
-    octets::long(limit) < showing::standing(row, e)
+    octets::long(limit) < tool_row_lines::standing(row, e)
 }
 
 // PLACES, counted from 1
@@ -156,7 +156,7 @@ fn is_entry_missing(row: &[u8], k: usize) -> bool {
     if !is_in_use(row, k) {
         return false;
     }
-    !forms::is_within(1, row::entry_count(row), row::entry_of(row, k))
+    !blocks::is_within(1, row::entry_count(row), row::entry_of(row, k))
 }
 
 fn is_mark_wrong(row: &[u8], k: usize) -> bool {
@@ -170,7 +170,7 @@ fn is_mark_wrong(row: &[u8], k: usize) -> bool {
         return false;
     }
     let block = row::place(row, k);
-    !forms::policy_marked(block[4], block[5])
+    !blocks::policy_marked(block[4], block[5])
 }
 
 // BLOCKS, counted from 0
@@ -182,7 +182,7 @@ fn are_sums_wrong(row: &[u8], k: usize) -> bool {
     if 8 < k {
         return false;
     }
-    !forms::block_sums_agree(row::place(row, k))
+    !blocks::block_sums_agree(row::place(row, k))
 }
 
 // THE FIRST OF THEM
@@ -232,9 +232,9 @@ fn line(out: &mut [u8; 4096], at: usize, row: &[u8]) -> usize {
         at,
         b"the order line does not list the places in use, once each: bytes 20 to 27 are",
     );
-    let b = words::octets(out, a, row::line_room(row));
+    let b = tool_words::octets(out, a, row::line_room(row));
     let c = say(out, b, b", byte 17 is ");
-    let d = words::octet(out, c, row::used_bits(row));
+    let d = tool_words::octet(out, c, row::used_bits(row));
     say(out, d, b"\n")
 }
 

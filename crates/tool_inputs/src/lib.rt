@@ -2,7 +2,7 @@
 mod following;
 
 pub use following::count;
-use streams::Source;
+use tool_streams::Source;
 
 // What is open, -1 for a file that was not asked for.
 pub struct Inputs {
@@ -25,17 +25,17 @@ const BAD: i32 = -2;
 // A file with a line for each of so many messages, open at its start.
 fn open_lines(path: &[u8], kind: u8, all: usize) -> i32 {
     if path.len() < 1 {
-        files::refuse(b"behind wags= and codes= stands the name of a file");
+        tool_files::refuse(b"behind wags= and codes= stands the name of a file");
         return BAD;
     }
-    if !files::is_marking() {
+    if !tool_files::check_mark() {
         return BAD;
     }
-    let fd = files::open_plain(path);
+    let fd = tool_files::open_plain(path);
     if fd < 0 {
         return BAD;
     }
-    if tool_expecting::check_lines(fd, path, kind, all) {
+    if tool_expected::check_lines(fd, path, kind, all) {
         return fd;
     }
     BAD
@@ -58,7 +58,7 @@ fn open_wags(all: usize) -> i32 {
     }
     let mut path = [0u8; 4096];
     let n = tool_options::wags(i, &mut path);
-    open_named(&path, n, tool_expecting::WAGS, all)
+    open_named(&path, n, tool_expected::WAGS, all)
 }
 
 // The codes that are expected, where a file has them.
@@ -69,7 +69,7 @@ fn open_codes(all: usize) -> i32 {
     }
     let mut path = [0u8; 4096];
     let n = tool_options::codes(i, &mut path);
-    open_named(&path, n, tool_expecting::CODES, all)
+    open_named(&path, n, tool_expected::CODES, all)
 }
 
 // What is read besides the requests, which are so many. Why one of the files is not well is said.

@@ -1,7 +1,7 @@
 // A file of cut notices in words. A notice has 256 bytes: the Session-Id of the tunnel in the first 128, the host of its gateway in the others,
 // each with zeros behind it.
-use words::number;
-use words::say;
+use tool_words::number;
+use tool_words::say;
 
 // How many bytes stand before the zeros at the end.
 fn text_length(half: &[u8; 128]) -> usize {
@@ -30,7 +30,7 @@ fn say_half(out: &mut [u8; 4096], at: usize, notice: &[u8], from: usize) -> usiz
     if all.len() < n {
         return at;
     }
-    words::text(out, at, &all[0..n])
+    tool_words::text(out, at, &all[0..n])
 }
 
 // The line of notice k; whether it could be said.
@@ -43,18 +43,18 @@ fn tell(k: usize, notice: &[u8; 256]) -> bool {
     let e = say(&mut out, d, b" of ");
     let f = say_half(&mut out, e, notice, 128);
     let g = say(&mut out, f, b"\n");
-    files::print(&out, g)
+    tool_files::print(&out, g)
 }
 
 fn refuse(path: &[u8], k: usize) {
     let mut out = [0u8; 4096];
     let a = say(&mut out, 0, b"play: ");
-    let b = words::text(&mut out, a, path);
+    let b = tool_words::text(&mut out, a, path);
     let c = say(&mut out, b, b": the file ends inside notice ");
     let d = number(&mut out, c, k as u64);
     let e = say(&mut out, d, b": one has 256 bytes\n");
-    files::note(&out, e);
-    files::mark();
+    tool_files::note(&out, e);
+    tool_files::mark();
 }
 
 // How many notices there are, at the end.
@@ -62,7 +62,7 @@ fn say_count(n: usize) {
     let mut out = [0u8; 4096];
     let a = number(&mut out, 0, n as u64);
     let b = say(&mut out, a, b" notices\n");
-    files::print(&out, b);
+    tool_files::print(&out, b);
 }
 
 // Notice k read and said; whether there may be one more.
@@ -90,7 +90,7 @@ pub fn list(fd: i32, path: &[u8]) {
         if !pass(fd, path, k) {
             return;
         }
-        totals::progress(k, 0);
+        tool_totals::progress(k, 0);
         k += 1;
     }
 }

@@ -94,13 +94,13 @@ fn check_word(i: usize) -> bool {
     let n = os::arg(i, &mut word);
     let kind = kind_of(&word[..n]);
     if kind == 0 {
-        files::refuse_word(&word[..n], b": no word that handle takes: see play help");
+        tool_files::refuse_word(&word[..n], b": no word that handle takes: see play help");
         return false;
     }
     if find(kind) == i {
         return true;
     }
-    files::refuse_word(&word[..n], b": a word for the same stands before it");
+    tool_files::refuse_word(&word[..n], b": a word for the same stands before it");
     false
 }
 

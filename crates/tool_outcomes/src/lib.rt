@@ -1,8 +1,8 @@
 // What came of a message: the answer and the notice written, and the message's line said.
 use decision::Outcome;
 use reasons::Why;
-use words::number;
-use words::say;
+use tool_words::number;
+use tool_words::say;
 
 // The first n bytes of a room, written; why not is said of the file.
 fn put(fd: i32, path: &[u8], room: &[u8], n: usize) -> bool {
@@ -12,7 +12,7 @@ fn put(fd: i32, path: &[u8], room: &[u8], n: usize) -> bool {
     if io::write_all(fd, &room[0..n]) {
         return true;
     }
-    files::refuse_file(path);
+    tool_files::refuse_file(path);
     false
 }
 
@@ -35,7 +35,7 @@ pub fn keep(
         return false;
     }
     let cut = o.cut;
-    if totals::is_cut(cut) {
+    if tool_totals::is_cut(cut) {
         return put(s.notices, notices, notice, 256);
     }
     true
@@ -46,11 +46,11 @@ fn tell(k: usize, m: &[u8], o: Outcome, why: Why, notice: &[u8; 256]) -> bool {
     let mut out = [0u8; 4096];
     let a = number(&mut out, 0, k as u64);
     let b = say(&mut out, a, b". ");
-    let c = asking::asked(&mut out, b, m);
+    let c = tool_request_line::asked(&mut out, b, m);
     let d = say(&mut out, c, b": ");
-    let e = telling::outcome(&mut out, d, o, why, notice);
+    let e = tool_reply_line::outcome(&mut out, d, o, why, notice);
     let f = say(&mut out, e, b"\n");
-    files::print(&out, f)
+    tool_files::print(&out, f)
 }
 
 // The line of a message, and below it that something else was expected. Where all is quiet only such a message has a line.
@@ -63,7 +63,7 @@ pub fn tell_unless_quiet(
     why: Why,
     notice: &[u8; 256],
 ) -> bool {
-    if tool_expecting::is_expected(o, expected) {
+    if tool_expected::is_expected(o, expected) {
         if quiet {
             return true;
         }
@@ -73,6 +73,6 @@ pub fn tell_unless_quiet(
         return false;
     }
     let mut out = [0u8; 4096];
-    let n = tool_expecting::tell(&mut out, o, expected);
-    files::print(&out, n)
+    let n = tool_expected::tell(&mut out, o, expected);
+    tool_files::print(&out, n)
 }

@@ -1,10 +1,10 @@
 // The tool's commands on reports. A report is kept in a file of 768 bytes: its 96 numbers, eight bytes each, the lowest first, as C has them on x86-64.
-use carrying::Cut;
 use decision::Outcome;
-use files::Said;
+use effects::Cut;
 use message::Kind;
-use streams::Source;
-use streams::Way;
+use tool_files::Said;
+use tool_streams::Source;
+use tool_streams::Way;
 
 // NUMBERS AND BYTES
 
@@ -49,8 +49,8 @@ fn pack(room: &mut [u8; 768], report: &[u64; 96]) {
 // FILES
 
 // The report of a file; whether there is one. Why not is said.
-fn is_read(path: &[u8], report: &mut [u64; 96]) -> bool {
-    let fd = files::open_plain(path);
+fn read_report(path: &[u8], report: &mut [u64; 96]) -> bool {
+    let fd = tool_files::open_plain(path);
     if fd < 0 {
         return false;
     }
@@ -58,32 +58,32 @@ fn is_read(path: &[u8], report: &mut [u64; 96]) -> bool {
     let n = io::read_full(fd, &mut room);
     libc::close(fd);
     if n != 768 {
-        files::refuse_word(path, b": no report: it has not 768 bytes");
+        tool_files::refuse_word(path, b": no report: it has not 768 bytes");
         return false;
     }
     unpack(&room, report);
     true
 }
 
-fn is_put(fd: i32, room: &[u8; 768]) -> bool {
+fn put_all(fd: i32, room: &[u8; 768]) -> bool {
     io::write_all(fd, room)
 }
 
 // A report written to a new file that no file had the name of; whether it is. Why not is said.
-fn is_made(path: &[u8], report: &[u64; 96]) -> bool {
+fn make_file(path: &[u8], report: &[u64; 96]) -> bool {
     let fd = os::create(path);
     if fd < 0 {
-        files::refuse_file(path);
+        tool_files::refuse_file(path);
         return false;
     }
     let mut room = [0u8; 768];
     pack(&mut room, report);
-    let done = is_put(fd, &room);
+    let done = put_all(fd, &room);
     libc::close(fd);
     if done {
         return true;
     }
-    files::refuse_file(path);
+    tool_files::refuse_file(path);
     os::unlink(path);
     false
 }
@@ -94,21 +94,21 @@ fn put_beside(name: &[u8; 4096], n: usize, path: &[u8], report: &[u64; 96], said
     if all.len() < n {
         return;
     }
-    if !is_made(&all[0..n], report) {
+    if !make_file(&all[0..n], report) {
         return;
     }
     if os::rename(&all[0..n], path) != 0 {
-        files::refuse_file(path);
+        tool_files::refuse_file(path);
         return;
     }
-    files::say_word(path, said);
+    tool_files::say_word(path, said);
 }
 
 // A report's file replaced by a whole one: the new one is written beside it and takes its name.
 fn replace(path: &[u8], report: &[u64; 96], said: &[u8]) {
     let mut name = [0u8; 4096];
-    let a = words::say(&mut name, 0, path);
-    let n = words::say(&mut name, a, b".new");
+    let a = tool_words::say(&mut name, 0, path);
+    let n = tool_words::say(&mut name, a, b".new");
     put_beside(&name, n, path, report, said);
 }
 
@@ -161,15 +161,15 @@ fn told(hour: u32, m: &[u8], o: Outcome) -> [u32; 6] {
 }
 
 // What a number of the report means; whether it is 0.
-fn is_well(number: u32, path: &[u8]) -> bool {
+fn check_number(number: u32, path: &[u8]) -> bool {
     if number == 0 {
         return true;
     }
     if number == 29 {
-        files::refuse_word(path, b": an hour is over 23 (number 29)");
+        tool_files::refuse_word(path, b": an hour is over 23 (number 29)");
         return false;
     }
-    files::refuse_word(path, b": its totals would pass 64 bits (number 30)");
+    tool_files::refuse_word(path, b": its totals would pass 64 bits (number 30)");
     false
 }
 
@@ -178,7 +178,7 @@ fn line_number(line: &[u8; 5], n: usize) -> Said {
     if all.len() < n {
         return Said::Nothing;
     }
-    files::number(&all[0..n])
+    tool_files::number(&all[0..n])
 }
 
 // The hour on the next line of a file, at most four digits.
@@ -200,7 +200,13 @@ fn next_hour(fd: i32) -> Said {
 }
 
 // One message served on the table in memory and counted; whether it could be.
-fn is_counted(table: &mut [u8], m: &[u8], hour: u32, report: &mut [u64; 96], path: &[u8]) -> bool {
+fn count_message(
+    table: &mut [u8],
+    m: &[u8],
+    hour: u32,
+    report: &mut [u64; 96],
+    path: &[u8],
+) -> bool {
     let mut answer = [0u8; 5120];
     let mut notice = [0u8; 256];
     let o = decision::handle(
@@ -213,7 +219,7 @@ fn is_counted(table: &mut [u8], m: &[u8], hour: u32, report: &mut [u64; 96], pat
         &mut notice,
     );
     let list = [told(hour, m, o)];
-    is_well(report::count(report, &list), path)
+    check_number(report::count(report, &list), path)
 }
 
 // The files that are open while messages are counted.
@@ -223,7 +229,7 @@ pub struct Desk {
 }
 
 // The message of n bytes in the room, counted at the next hour of the file; whether it could be.
-fn is_taken(
+fn take_message(
     d: Desk,
     table: &mut [u8],
     room: &[u8; 8192],
@@ -236,13 +242,13 @@ fn is_taken(
         return false;
     }
     let Said::Number(hour) = next_hour(d.hours) else {
-        files::refuse_word(hours, b": no hour on a line, or fewer lines than messages");
+        tool_files::refuse_word(hours, b": no hour on a line, or fewer lines than messages");
         return false;
     };
     if hour > 9999 {
         return false;
     }
-    is_counted(table, &all[0..n], hour as u32, report, hours)
+    count_message(table, &all[0..n], hour as u32, report, hours)
 }
 
 // The messages stand back to back in their file.
@@ -263,25 +269,25 @@ fn step(
     w: Way,
 ) -> Way {
     let mut room = [0u8; 8192];
-    let v = streams::look(source(d.requests), requests, w, &mut room);
+    let v = tool_streams::look(source(d.requests), requests, w, &mut room);
     if v.last == 0 {
         return v;
     }
-    if is_taken(d, table, &room, v.last, report, hours) {
+    if take_message(d, table, &room, v.last, report, hours) {
         return v;
     }
-    streams::over(v, false)
+    tool_streams::over(v, false)
 }
 
 // All messages; whether the file was followed to its end. A proved loop has to end, so the turns are counted down.
-fn is_followed(
+fn follow(
     d: Desk,
     requests: &[u8],
     hours: &[u8],
     table: &mut [u8],
     report: &mut [u64; 96],
 ) -> bool {
-    let mut w = streams::start();
+    let mut w = tool_streams::start();
     let mut turns: usize = 4294967296;
     while turns > 0 {
         turns -= 1;
@@ -294,12 +300,17 @@ fn is_followed(
 }
 
 // Messages and hours opened, followed, closed.
-fn is_opened(requests: &[u8], hours: &[u8], table: &mut [u8], report: &mut [u64; 96]) -> bool {
-    let m = files::open_plain(requests);
+fn open_and_follow(
+    requests: &[u8],
+    hours: &[u8],
+    table: &mut [u8],
+    report: &mut [u64; 96],
+) -> bool {
+    let m = tool_files::open_plain(requests);
     if m < 0 {
         return false;
     }
-    let h = files::open_plain(hours);
+    let h = tool_files::open_plain(hours);
     if h < 0 {
         libc::close(m);
         return false;
@@ -308,7 +319,7 @@ fn is_opened(requests: &[u8], hours: &[u8], table: &mut [u8], report: &mut [u64;
         requests: m,
         hours: h,
     };
-    let done = is_followed(d, requests, hours, table, report);
+    let done = follow(d, requests, hours, table, report);
     libc::close(m);
     libc::close(h);
     done
@@ -316,17 +327,17 @@ fn is_opened(requests: &[u8], hours: &[u8], table: &mut [u8], report: &mut [u64;
 
 fn count_at(path: &[u8], from: &[u8], requests: &[u8], hours: &[u8], table: &mut [u8]) {
     let mut report = [0u64; 96];
-    if !is_read(path, &mut report) {
+    if !read_report(path, &mut report) {
         return;
     }
-    let n = files::read_table(from, table);
+    let n = tool_files::read_table(from, table);
     if n == 0 {
         return;
     }
     if table.len() < n {
         return;
     }
-    if is_opened(requests, hours, &mut table[0..n], &mut report) {
+    if open_and_follow(requests, hours, &mut table[0..n], &mut report) {
         replace(path, &report, b": the messages are counted");
     }
 }
@@ -338,8 +349,8 @@ fn new() {
     let mut path = io::buffer();
     let n = os::arg(3, &mut path);
     let report = [0u64; 96];
-    if is_made(&path[..n], &report) {
-        files::say_word(&path[..n], b": a new report, nothing counted");
+    if make_file(&path[..n], &report) {
+        tool_files::say_word(&path[..n], b": a new report, nothing counted");
     }
 }
 
@@ -363,13 +374,13 @@ fn add() {
     let k = os::arg(4, &mut other);
     let mut report = [0u64; 96];
     let mut more = [0u64; 96];
-    if !is_read(&path[..n], &mut report) {
+    if !read_report(&path[..n], &mut report) {
         return;
     }
-    if !is_read(&other[..k], &mut more) {
+    if !read_report(&other[..k], &mut more) {
         return;
     }
-    if is_well(report::add(&mut report, &more), &path[..n]) {
+    if check_number(report::add(&mut report, &more), &path[..n]) {
         replace(&path[..n], &report, b": the other report is added");
     }
 }
@@ -379,7 +390,7 @@ fn look(drawn: bool) {
     let mut path = io::buffer();
     let n = os::arg(3, &mut path);
     let mut report = [0u64; 96];
-    if !is_read(&path[..n], &mut report) {
+    if !read_report(&path[..n], &mut report) {
         return;
     }
     if drawn {
@@ -417,7 +428,7 @@ fn run_word(word: &[u8], table: &mut [u8]) {
         look(true);
         return;
     }
-    files::refuse_word(
+    tool_files::refuse_word(
         word,
         b": nothing that report does, or not with so many words: see help",
     );

@@ -1,5 +1,5 @@
 // The two files that `handle` writes, ANSWERS and NOTICES: opened as they are, emptied only once both are known to be files of their own.
-use holding::Held;
+use tool_hold::Held;
 use tool_inputs::Inputs;
 
 // A file to be written, -1 where there is none, and whether it was made here.
@@ -29,12 +29,12 @@ fn open_one(path: &[u8]) -> Sheet {
         return Sheet { fd, made: false };
     }
     if os::errno() != libc::ENOENT {
-        files::refuse_file(path);
+        tool_files::refuse_file(path);
         return none();
     }
     let fresh = os::create(path);
     if fresh < 0 {
-        files::refuse_file(path);
+        tool_files::refuse_file(path);
         return none();
     }
     Sheet {
@@ -56,11 +56,11 @@ fn give_up(s: Sheet, path: &[u8]) {
 
 // Whether two open files are not one and the same plain file. What is no plain file, as /dev/null, loses nothing when it is written twice.
 fn is_apart(a: i32, b: i32) -> bool {
-    let s = status::of(a);
-    if !status::is_plain(s) {
+    let s = tool_status::of(a);
+    if !tool_status::is_plain(s) {
         return true;
     }
-    !status::are_one(s, status::of(b))
+    !tool_status::are_one(s, tool_status::of(b))
 }
 
 // Whether a file is none of those that are read.
@@ -95,61 +95,61 @@ fn is_own(fd: i32, h: Held, i: Inputs) -> bool {
 }
 
 // Whether a file may be written: it is none of the others, and its mode lets it be written. Why not is said.
-fn is_free(fd: i32, path: &[u8], h: Held, i: Inputs) -> bool {
+fn check_free(fd: i32, path: &[u8], h: Held, i: Inputs) -> bool {
     if !is_own(fd, h, i) {
-        files::refuse_word(
+        tool_files::refuse_word(
             path,
             b": in use here already: ANSWERS and NOTICES have to be files of their own",
         );
         return false;
     }
-    let s = status::of(fd);
-    if !status::is_plain(s) {
+    let s = tool_status::of(fd);
+    if !tool_status::is_plain(s) {
         return true;
     }
-    if !status::is_writable(s) {
-        files::refuse_word(path, b": its mode does not let it be written");
+    if !tool_status::is_writable(s) {
+        tool_files::refuse_word(path, b": its mode does not let it be written");
         return false;
     }
     true
 }
 
 // Whether a file is empty from here on; what is no plain file has nothing that could be lost.
-fn is_emptied(fd: i32, path: &[u8]) -> bool {
-    if !status::is_plain(status::of(fd)) {
+fn empty(fd: i32, path: &[u8]) -> bool {
+    if !tool_status::is_plain(tool_status::of(fd)) {
         return true;
     }
     if libc::ftruncate(fd, 0) == 0 {
         return true;
     }
-    files::refuse_file(path);
+    tool_files::refuse_file(path);
     false
 }
 
 // Whether what was written to a file is forced out. Only a plain file can be asked for that.
-pub fn is_kept(fd: i32, path: &[u8]) -> bool {
-    if !status::is_plain(status::of(fd)) {
+pub fn force_out(fd: i32, path: &[u8]) -> bool {
+    if !tool_status::is_plain(tool_status::of(fd)) {
         return true;
     }
     if libc::fsync(fd) == 0 {
         return true;
     }
-    files::refuse_file(path);
+    tool_files::refuse_file(path);
     false
 }
 
 // Whether both may be written.
 fn are_free(a: i32, n: i32, answers: &[u8], notices: &[u8], h: Held, i: Inputs) -> bool {
-    if !is_free(a, answers, h, i) {
+    if !check_free(a, answers, h, i) {
         return false;
     }
-    if !is_free(n, notices, h, i) {
+    if !check_free(n, notices, h, i) {
         return false;
     }
     if is_apart(a, n) {
         return true;
     }
-    files::refuse_word(
+    tool_files::refuse_word(
         notices,
         b": in use here already: ANSWERS and NOTICES have to be files of their own",
     );
@@ -166,10 +166,10 @@ fn bad() -> Sheets {
 
 // Both emptied, once it is known that they may be.
 fn start(a: i32, n: i32, answers: &[u8], notices: &[u8]) -> Sheets {
-    if !is_emptied(a, answers) {
+    if !empty(a, answers) {
         return bad();
     }
-    if !is_emptied(n, notices) {
+    if !empty(n, notices) {
         return bad();
     }
     Sheets {

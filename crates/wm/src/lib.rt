@@ -1,6 +1,6 @@
 // The server for C: the four operations under their C names (include/wm.h), and those of the report.
-use carrying::Cut;
 use decision::Outcome;
+use effects::Cut;
 use message::Kind;
 use report::Ratio;
 ghost use mathlib.Core.Path.{_≡_};

@@ -8,8 +8,8 @@ pub fn play() {
     let mut out = [0u8; 4096];
     let mut k: usize = 0;
     while k < 41 {
-        let n = cases::step(k, &mut table, &mut room, &mut answer, &mut notice, &mut out);
-        files::print(&out, n);
+        let n = tool_cases::step(k, &mut table, &mut room, &mut answer, &mut notice, &mut out);
+        tool_files::print(&out, n);
         k += 1;
     }
 }

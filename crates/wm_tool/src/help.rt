@@ -1,7 +1,7 @@
 // What the tool can do.
 
 fn line(text: &[u8]) {
-    files::put(text);
+    tool_files::put(text);
 }
 
 // The commands that set a table up and show it.
@@ -108,7 +108,7 @@ fn is_used(word: &[u8], name: &[u8], usage: &[u8]) -> bool {
     if !octets::same_bytes(word, name) {
         return false;
     }
-    files::refuse(usage);
+    tool_files::refuse(usage);
     true
 }
 
@@ -157,5 +157,5 @@ pub fn refuse(word: &[u8]) {
     if is_other(word) {
         return;
     }
-    files::refuse_word(word, b": no such command: see play help");
+    tool_files::refuse_word(word, b": no such command: see play help");
 }

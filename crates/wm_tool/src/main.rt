@@ -30,27 +30,27 @@ fn run(word: &[u8], table: &mut [u8; 4718593]) {
         return;
     }
     if is_called(word, b"new", 4, 4) {
-        setting::new(table);
+        tool_set_up::new(table);
         return;
     }
     if is_called(word, b"enter", 4, 4) {
-        setting::enter(table);
+        tool_set_up::enter(table);
         return;
     }
     if is_called(word, b"add", 6, 8) {
-        setting::add(table);
+        tool_set_up::add(table);
         return;
     }
     if is_called(word, b"show", 3, 4) {
-        viewing::show(table);
+        tool_show::show(table);
         return;
     }
     if is_called(word, b"handle", 6, 13) {
-        tool_handling::handle(table);
+        tool_handle::handle(table);
         return;
     }
     if is_called(word, b"decode", 3, 4) {
-        listing::decode();
+        tool_decode::decode();
         return;
     }
     if is_called(word, b"report", 4, 7) {
@@ -70,7 +70,7 @@ fn is_whole(i: usize) -> bool {
     if os::errno() != libc::ENAMETOOLONG {
         return true;
     }
-    files::refuse(b"a word is over 4,096 bytes");
+    tool_files::refuse(b"a word is over 4,096 bytes");
     false
 }
 
@@ -87,7 +87,7 @@ fn are_whole() -> bool {
 }
 
 fn main() {
-    if !files::is_heard() {
+    if !tool_files::open_output() {
         return;
     }
     if !are_whole() {

@@ -4,7 +4,7 @@ use mathlib.Core.List.{[]}
 use Rattle.order.specs.ChecksInOrder.{check, gatewaySaysNo}
 use Rattle.message.specs.Codes.{plain}
 use Rattle.octets.specs.Choice.{pick}
-use Rattle.deciding.specs.declared.Plan.{Plan}
+use Rattle.plans.specs.declared.Plan.{Plan}
 use Rattle.decision.specs.Outcomes.{planCode}
 use Rattle.table.specs.TheTable.{readRow}
 use Rattle.reasons.specs.Reasons.{checkNamed}

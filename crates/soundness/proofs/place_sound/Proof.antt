@@ -4,7 +4,7 @@ use mathlib.Core.Bool.{false, true}
 use lib.ListN.{length}
 use Rattle.octets.specs.Choice.{pick}
 use Rattle.octets.specs.Texts.{allZero}
-use Rattle.forms.specs.RowTests.{accessSound, placeSound}
+use Rattle.blocks.specs.RowTests.{accessSound, placeSound}
 use Rattle.table.specs.Soundness.{inUse}
 use Rattle.table.proofs.Form.{length-block}
 use Rattle.soundness.proofs.Line.{used-by}

@@ -4,7 +4,7 @@ use Prim.Native.Nat.{_-_, _≤_}
 use native.Mathlib.Omega.{arith}
 use borrow.Author.Needs.{needs}
 use Rattle.octets.specs.Lists.{counted, every}
-use Rattle.forms.specs.RowTests.{placeSound}
+use Rattle.blocks.specs.RowTests.{placeSound}
 use Rattle.table.specs.TheTable.{places}
 use Rattle.table.proofs.Tests.{fails, passes-on}
 use Rattle.soundness.proofs.Line.{places-all, places-end, places-turn}

@@ -6,7 +6,7 @@ use native.Mathlib.Omega.{arith}
 use lib.ListN.{length, take}
 use Rattle.octets.specs.Lists.{every}
 use Rattle.octets.specs.Texts.{part, same}
-use Rattle.forms.specs.RowTests.{placeSound}
+use Rattle.blocks.specs.RowTests.{placeSound}
 use Rattle.table.specs.Soundness.{sumsAgree}
 use Rattle.table.specs.TheTable.{places, sums}
 use Rattle.table.proofs.Form.{length-block}

@@ -13,8 +13,8 @@ abbrev μ-loop : tie.MeasureT-loop
 most-of-requires : tie.Need-most-of-requires Inv-loop μ-loop
 most-of-requires c κs = search needs
 
-is-frame-drawn-requires : tie.Need-is-frame-drawn-requires Inv-loop μ-loop
-is-frame-drawn-requires c κs = search needs
+draw-frame-requires : tie.Need-draw-frame-requires Inv-loop μ-loop
+draw-frame-requires c κs = search needs
 
 returns : tie.Need-returns Inv-loop μ-loop
 returns c = search needs
@@ -22,8 +22,8 @@ returns c = search needs
 loop-holds : tie.Need-loop-holds Inv-loop μ-loop
 loop-holds c = search needs
 
-is-hour-drawn-requires : tie.Need-is-hour-drawn-requires Inv-loop μ-loop
-is-hour-drawn-requires c κs = search needs
+draw-hour-requires : tie.Need-draw-hour-requires Inv-loop μ-loop
+draw-hour-requires c κs = search needs
 
 returns-2 : tie.Need-returns-2 Inv-loop μ-loop
 returns-2 c = search needs
@@ -53,10 +53,10 @@ draw-spec =
     Inv-loop
     μ-loop
     most-of-requires
-    is-frame-drawn-requires
+    draw-frame-requires
     returns
     loop-holds
-    is-hour-drawn-requires
+    draw-hour-requires
     returns-2
     add-hour
     loop-less

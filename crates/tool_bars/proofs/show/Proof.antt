@@ -16,8 +16,8 @@ most-of-requires c κs = search needs
 loop-holds : tie.Need-loop-holds Inv-loop μ-loop
 loop-holds c = search needs
 
-is-line-requires : tie.Need-is-line-requires Inv-loop μ-loop
-is-line-requires c κs = search needs
+write-line-requires : tie.Need-write-line-requires Inv-loop μ-loop
+write-line-requires c κs = search needs
 
 returns : tie.Need-returns Inv-loop μ-loop
 returns c = search needs
@@ -31,8 +31,8 @@ loop-less c = search needs
 loop-again : tie.Need-loop-again Inv-loop μ-loop
 loop-again c = search needs
 
-is-rate-requires : tie.Need-is-rate-requires Inv-loop μ-loop
-is-rate-requires c κs = search needs
+write-rate-requires : tie.Need-write-rate-requires Inv-loop μ-loop
+write-rate-requires c κs = search needs
 
 returns-2 : tie.Need-returns-2 Inv-loop μ-loop
 returns-2 c = search needs
@@ -45,10 +45,10 @@ show-spec =
     μ-loop
     most-of-requires
     loop-holds
-    is-line-requires
+    write-line-requires
     returns
     add-hour
     loop-less
     loop-again
-    is-rate-requires
+    write-rate-requires
     returns-2)

@@ -8,7 +8,7 @@ use Rattle.octets.proofs.Lists.{and-left, and-right}
 use Rattle.message.specs.Spans.{asks, bytesOf, spansIn, isInside}
 use Rattle.table.specs.TheTable.{readRow}
 use Rattle.rules.specs.Deciding.{decide}
-use Rattle.deciding.specs.Plans.{fitting}
+use Rattle.plans.specs.Plans.{fitting}
 use Rattle.decision.specs.Outcomes.{sessionText, hostText, routeText}
 use borrow.Author.Needs.{needs}
 use Rattle.decision.proofs.handling.plan_for.Statement.{statement}

@@ -2,7 +2,7 @@
 use mathlib.Core.Path.{refl}
 use mathlib.Core.List.{[]}
 use Rattle.rules.specs.Calls.{refusal, noticeRoom}
-use Rattle.carrying.specs.Carrying.{cutFor}
+use Rattle.effects.specs.Carrying.{cutFor}
 use Rattle.decision.proofs.Answered.{answered-is}
 use Rattle.decision.proofs.handling.refused.Statement.{statement}
 use Rattle.decision.proofs.handling.refused.Tie as tie

@@ -1,9 +1,9 @@
 -- What was planned is what is decided; what was carried out is what it leaves.
 use Rattle.message.specs.Kinds.{codeFrom}
 use Rattle.rules.specs.Deciding.{Verdict, decide}
-use Rattle.deciding.specs.Plans.{planned, fitPlan}
+use Rattle.plans.specs.Plans.{planned, fitPlan}
 use Rattle.rules.specs.Calls.{noticeRoom}
-use Rattle.carrying.specs.Carrying.{doneFor, tableAfter}
+use Rattle.effects.specs.Carrying.{doneFor, tableAfter}
 use Rattle.decision.specs.Outcomes.{sessionText, hostText, routeText}
 use mathlib.Core.Path.{_≡_, refl, sym, ap, _∙_}
 use mathlib.Core.Bool.{true}

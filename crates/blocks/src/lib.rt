@@ -1,0 +1,323 @@
+// The form of a row, block by block: block 0, its entries, a place in use, and the sums of a block.
+ghost use mathlib.Core.Path.{_≡_};
+ghost use mathlib.Core.Bool.{true, false, not, _&&_};
+ghost use mathlib.Core.List.{[]};
+ghost use Prim.Native.Nat.{_+_, _-_, _*_, _/_, _<_, _≤_};
+ghost use lib.ListN.{length, getD, take, drop};
+ghost use lib.Dec.{eqb, leb};
+ghost use Rattle.octets.specs.Choice.{pick, within};
+ghost use Rattle.octets.specs.Texts.{part, same, allZero};
+ghost use Rattle.table.specs.TheTable.{places, readEntries, sums};
+ghost use Rattle.octets.specs.Lists.{every, distinct, sumOf, upTo0};
+ghost use Rattle.table.specs.Soundness.{zeroBehind, isDigit, isName, headForm, entryForm, entriesForm, lowerCase, sameLabel, labels, limits, accessForm};
+ghost use Rattle.blocks.specs.RowTests.{accessSound};
+
+// WHAT THE TESTS SHARE
+
+pub fn is_within(low: u8, high: u8, n: u8) -> bool
+    ensures { λ r. ⌜ r ≡ within low high n ⌝ }
+{
+    if n < low {
+        return false;
+    }
+    n <= high
+}
+
+// A room holds n bytes of text, and zeros behind them.
+fn zero_behind(room: &[u8], n: usize) -> bool
+    requires { ⌜ n ≤ length (now room) ⌝ }
+    ensures { λ r. ⌜ r ≡ zeroBehind n (now (room .entry)) ⌝ }
+{
+    octets::all_zero(&room[n..])
+}
+
+// Bytes 510 and 511 of a block are the second and first sum of the bytes before them.
+pub fn block_sums_agree(b: &[u8]) -> bool
+    requires { ⌜ length (now b) ≡ 512 ⌝ }
+    ensures { λ r. ⌜ r ≡ same (part (now (b .entry)) 510 2) (sums (take 510 (now (b .entry)))) ⌝ }
+{
+    let s = table::sums_of(b);
+    let second = s.second;
+    let first = s.first;
+    if octets::half(b[510]) != second {
+        return false;
+    }
+    octets::half(b[511]) == first
+}
+
+// BLOCK 0
+
+pub fn digits(s: &[u8]) -> bool
+    ensures { λ r. ⌜ r ≡ every isDigit (now (s .entry)) ⌝ }
+{
+    let mut i: usize = 0;
+    while i < s.len() {
+        if !is_within(48, 57, s[i]) {
+            return false;
+        }
+        i += 1;
+    }
+    true
+}
+
+// The name: 1 to 15 digits, and zeros behind them.
+fn name_form(b: &[u8]) -> bool
+    requires { ⌜ length (now b) ≡ 512 ⌝ }
+    ensures { λ r. ⌜ r ≡ isName (part (now (b .entry)) 2 (getD (now (b .entry)) 1 0)) && zeroBehind (getD (now (b .entry)) 1 0) (part (now (b .entry)) 2 15) ⌝ }
+{
+    if !is_within(1, 15, b[1]) {
+        return false;
+    }
+    let n = octets::long(b[1]);
+    let end = 2 + n;
+    if !digits(&b[2..end]) {
+        return false;
+    }
+    zero_behind(&b[2..17], n)
+}
+
+// How many places stand on an order line: those before its first zero.
+pub fn line_length(l: &[u8]) -> usize
+    ensures { λ r. ⌜ (r ≡ length (upTo0 (now (l .entry)))) × (r ≤ length (now (l .entry))) ⌝ }
+{
+    let mut i: usize = 0;
+    while i < l.len() {
+        if l[i] == 0 {
+            return i;
+        }
+        i += 1;
+    }
+    i
+}
+
+// Zeros behind the places on the order line.
+fn line_form(l: &[u8]) -> bool
+    ensures { λ r. ⌜ r ≡ zeroBehind (length (upTo0 (now (l .entry)))) (now (l .entry)) ⌝ }
+{
+    zero_behind(l, line_length(l))
+}
+
+pub fn head_form(b: &[u8]) -> bool
+    requires { ⌜ length (now b) ≡ 512 ⌝ }
+    ensures { λ r. ⌜ r ≡ headForm (now (b .entry)) ⌝ }
+{
+    if b[0] != 1 {
+        return false;
+    }
+    if !name_form(b) {
+        return false;
+    }
+    if 4 < b[18] {
+        return false;
+    }
+    if b[19] != 0 {
+        return false;
+    }
+    if !line_form(&b[20..28]) {
+        return false;
+    }
+    if !octets::all_zero(&b[28..32]) {
+        return false;
+    }
+    octets::all_zero(&b[448..510])
+}
+
+// THE ENTRIES, in their room of 416 bytes
+
+fn entry_form(e: &[u8]) -> bool
+    requires { ⌜ length (now e) ≡ 104 ⌝ }
+    ensures { λ r. ⌜ r ≡ entryForm (now (e .entry)) ⌝ }
+{
+    if !is_within(1, 100, e[0]) {
+        return false;
+    }
+    if !zero_behind(&e[1..101], octets::long(e[0])) {
+        return false;
+    }
+    if 3 < e[101] {
+        return false;
+    }
+    if !is_within(1, 8, e[102]) {
+        return false;
+    }
+    e[103] == 0
+}
+
+pub fn entries_form(room: &[u8], n: usize) -> bool
+    requires { ⌜ (length (now room) ≡ 416) × (n ≤ 4) ⌝ }
+    ensures { λ r. ⌜ r ≡ entriesForm n (now (room .entry)) ⌝ }
+{
+    let mut i: usize = 0;
+    let mut at: usize = 0;
+    while i < n {
+        let end = at + 104;
+        if !entry_form(&room[at..end]) {
+            return false;
+        }
+        i += 1;
+        at = end;
+    }
+    octets::all_zero(&room[at..])
+}
+
+// The sum of the limits of the first n entries.
+pub fn limits_sum(room: &[u8], n: usize) -> u32
+    requires { ⌜ (length (now room) ≡ 416) × (n ≤ 4) ⌝ }
+    ensures { λ r. ⌜ (r ≡ sumOf (limits (readEntries n (now (room .entry))))) × (r ≤ 1020) ⌝ }
+{
+    let mut sum: u32 = 0;
+    let mut i: usize = 0;
+    while i < n {
+        sum += octets::wide(row::limit(room, i));
+        i += 1;
+    }
+    sum
+}
+
+// A letter A to Z in lower case; any other byte as it is.
+fn lower_case(x: u8) -> u8
+    ensures { λ r. ⌜ r ≡ lowerCase x ⌝ }
+{
+    if x < b'A' {
+        return x;
+    }
+    if b'Z' < x {
+        return x;
+    }
+    x + 32
+}
+
+// Whether two labels of the same length are the same, byte by byte.
+fn same_letters(a: &[u8], b: &[u8]) -> bool
+    requires { ⌜ length (now a) ≡ length (now b) ⌝ }
+    ensures { λ r. ⌜ r ≡ sameLabel (now (a .entry)) (now (b .entry)) ⌝ }
+{
+    let mut i: usize = 0;
+    while i < a.len() {
+        if lower_case(a[i]) != lower_case(b[i]) {
+            return false;
+        }
+        i += 1;
+    }
+    true
+}
+
+// When two labels are the same, a letter in either case. Most are typed alike: equal bytes are told by words, and only the others are
+// looked at byte by byte.
+pub fn same_label(a: &[u8], b: &[u8]) -> bool
+    ensures { λ r. ⌜ r ≡ sameLabel (now (a .entry)) (now (b .entry)) ⌝ }
+{
+    if octets::same_bytes(a, b) {
+        return true;
+    }
+    if a.len() != b.len() {
+        return false;
+    }
+    same_letters(a, b)
+}
+
+// No label behind label i is the same.
+fn label_once(room: &[u8], n: usize, i: usize) -> bool
+    requires { ⌜ (length (now room) ≡ 416) × (n ≤ 4) × (i < n) × (entriesForm n (now room) ≡ true) ⌝ }
+    ensures { λ r. ⌜ r ≡ every (λ y. not (sameLabel (getD (labels (readEntries n (now (room .entry)))) i []) y)) (drop (i + 1) (labels (readEntries n (now (room .entry))))) ⌝ }
+{
+    let this = row::label(room, i);
+    let mut j: usize = i + 1;
+    while j < n {
+        let other = row::label(room, j);
+        if same_label(this, other) {
+            return false;
+        }
+        j += 1;
+    }
+    true
+}
+
+pub fn labels_differ(room: &[u8], n: usize) -> bool
+    requires { ⌜ (length (now room) ≡ 416) × (n ≤ 4) × (entriesForm n (now room) ≡ true) ⌝ }
+    ensures { λ r. ⌜ r ≡ distinct sameLabel (labels (readEntries n (now (room .entry)))) ⌝ }
+{
+    let mut i: usize = 0;
+    while i < n {
+        if !label_once(room, n, i) {
+            return false;
+        }
+        i += 1;
+    }
+    true
+}
+
+// A PLACE IN USE
+
+// Byte 4 is 1 exactly if byte 5, the policy's length, is 1 or more.
+pub fn policy_marked(mark: u8, size: u8) -> bool
+    ensures { λ r. ⌜ r ≡ eqb mark (pick (leb 1 size) 1 0) ⌝ }
+{
+    if size < 1 {
+        return mark == 0;
+    }
+    mark == 1
+}
+
+fn access_lengths(b: &[u8]) -> bool
+    requires { ⌜ length (now b) ≡ 512 ⌝ }
+    ensures { λ r. ⌜ r ≡ eqb (getD (now (b .entry)) 0 0) 2 && (within 1 128 (getD (now (b .entry)) 2 0) && (within 1 128 (getD (now (b .entry)) 3 0) && leb (getD (now (b .entry)) 5 0) 128)) ⌝ }
+{
+    if b[0] != 2 {
+        return false;
+    }
+    if !is_within(1, 128, b[2]) {
+        return false;
+    }
+    if !is_within(1, 128, b[3]) {
+        return false;
+    }
+    b[5] <= 128
+}
+
+// Zeros behind Session-Id, host and policy, and behind the three: the last two are one stretch.
+fn access_rooms(b: &[u8]) -> bool
+    requires { ⌜ (length (now b) ≡ 512) × (getD (now b) 2 0 ≤ 128) × (getD (now b) 3 0 ≤ 128) × (getD (now b) 5 0 ≤ 128) ⌝ }
+    ensures { λ r. ⌜ r ≡ zeroBehind (getD (now (b .entry)) 2 0) (part (now (b .entry)) 8 128) && (zeroBehind (getD (now (b .entry)) 3 0) (part (now (b .entry)) 136 128) && (zeroBehind (getD (now (b .entry)) 5 0) (part (now (b .entry)) 264 128) && allZero (part (now (b .entry)) 392 118))) ⌝ }
+{
+    if !zero_behind(&b[8..136], octets::long(b[2])) {
+        return false;
+    }
+    if !zero_behind(&b[136..264], octets::long(b[3])) {
+        return false;
+    }
+    let from = 264 + octets::long(b[5]);
+    octets::all_zero(&b[from..510])
+}
+
+pub fn access_form(b: &[u8]) -> bool
+    requires { ⌜ length (now b) ≡ 512 ⌝ }
+    ensures { λ r. ⌜ r ≡ accessForm (now (b .entry)) ⌝ }
+{
+    if !access_lengths(b) {
+        return false;
+    }
+    if 1 < b[4] {
+        return false;
+    }
+    if !octets::all_zero(&b[6..8]) {
+        return false;
+    }
+    access_rooms(b)
+}
+
+pub fn access_sound(b: &[u8], n: u8) -> bool
+    requires { ⌜ length (now b) ≡ 512 ⌝ }
+    ensures { λ r. ⌜ r ≡ accessSound n (now (b .entry)) ⌝ }
+{
+    if !access_form(b) {
+        return false;
+    }
+    if !policy_marked(b[4], b[5]) {
+        return false;
+    }
+    if !is_within(1, n, b[1]) {
+        return false;
+    }
+    block_sums_agree(b)
+}

@@ -1,0 +1,220 @@
+// A call that a record asks for, made on the proved server. `r` is the record's body, `table` the table as long as it is now.
+use effects::Cut;
+use message::Kind;
+use replay_verdict::Got;
+use replay_verdict::Verdict;
+use replay_verdict::judged;
+use replay_verdict::number;
+use replay_verdict::text_end;
+ghost use Prim.Native.Nat.{_+_, _≤_};
+ghost use lib.ListN.{length};
+
+// A set-up operation returns its number.
+fn set_up(code: u32) -> Got {
+    Got {
+        code,
+        kind: 0,
+        length: 0,
+        place: 0,
+        cut: 0,
+        cut_session: 0,
+        cut_host: 0,
+    }
+}
+
+fn kind_number(k: Kind) -> u32 {
+    match k {
+        Kind::NoAnswer => 0,
+        Kind::Plain => 1,
+        Kind::Experimental => 2,
+    }
+}
+
+// The outcome of a request in the script's numbers.
+fn outcome(o: decision::Outcome) -> Got {
+    let cut = o.cut;
+    let kind = o.kind;
+    match cut {
+        Cut::NoCut => Got {
+            code: o.code,
+            kind: kind_number(kind),
+            length: o.length,
+            place: o.place,
+            cut: 0,
+            cut_session: 0,
+            cut_host: 0,
+        },
+        Cut::Lengths(session, host) => Got {
+            code: o.code,
+            kind: kind_number(kind),
+            length: o.length,
+            place: o.place,
+            cut: 1,
+            cut_session: session,
+            cut_host: host,
+        },
+    }
+}
+
+pub fn play_clear(table: &mut [u8], r: &[u8]) -> Verdict
+    requires { ⌜ length (now r) ≤ 65536 ⌝ }
+{
+    let got = set_up(setup::clear(table));
+    judged(r, 0, got, table, &r[0..0], 0, &r[0..0], 0)
+}
+
+pub fn play_enter(table: &mut [u8], r: &[u8]) -> Verdict
+    requires { ⌜ length (now r) ≤ 65536 ⌝ }
+{
+    let e = text_end(r, 0);
+    if r.len() < e {
+        return Verdict::Damaged;
+    }
+    let got = set_up(setup::enter(table, &r[4..e]));
+    judged(r, e, got, table, &r[0..0], 0, &r[0..0], 0)
+}
+
+pub fn play_add(table: &mut [u8], r: &[u8]) -> Verdict
+    requires { ⌜ length (now r) ≤ 65536 ⌝ }
+{
+    let e = text_end(r, 0);
+    if r.len() < e {
+        return Verdict::Damaged;
+    }
+    let f = text_end(r, e);
+    if r.len() < f + 2 {
+        return Verdict::Damaged;
+    }
+    let label = e + 4;
+    let got = set_up(setup::add(table, &r[4..e], &r[label..f], r[f], r[f + 1]));
+    judged(r, f + 2, got, table, &r[0..0], 0, &r[0..0], 0)
+}
+
+// What stands between the texts of a request and what is expected: the word of the WAG, and the two rooms.
+struct Rooms {
+    wag: bool,
+    answer: usize,
+    answer_seed: u8,
+    notice: usize,
+    notice_seed: u8,
+}
+
+fn rooms_at(r: &[u8], at: usize) -> Rooms
+    requires { ⌜ at + 11 ≤ length (now r) ⌝ }
+{
+    Rooms {
+        wag: r[at] == 1,
+        answer: number(r, at + 1),
+        answer_seed: r[at + 5],
+        notice: number(r, at + 6),
+        notice_seed: r[at + 10],
+    }
+}
+
+pub fn play_handle(table: &mut [u8], r: &[u8], answer: &mut [u8], notice: &mut [u8]) -> Verdict
+    requires { ⌜ (length (now r) ≤ 65536) × (length (now answer) ≤ 65536) × (length (now notice) ≤ 65536) ⌝ }
+{
+    let host = text_end(r, 0);
+    if r.len() < host {
+        return Verdict::Damaged;
+    }
+    let realm = text_end(r, host);
+    if r.len() < realm {
+        return Verdict::Damaged;
+    }
+    let message = text_end(r, realm);
+    if r.len() < message + 11 {
+        return Verdict::Damaged;
+    }
+    in_rooms(table, r, host, realm, message, answer, notice)
+}
+
+// A request whose texts end at `host`, `realm` and `message`, in rooms as long as the record says.
+fn in_rooms(
+    table: &mut [u8],
+    r: &[u8],
+    host: usize,
+    realm: usize,
+    message: usize,
+    answer: &mut [u8],
+    notice: &mut [u8],
+) -> Verdict
+    requires { ⌜ (4 ≤ host) × (host + 4 ≤ realm) × (realm + 4 ≤ message) × (message + 11 ≤ length (now r)) × (length (now r) ≤ 65536)
+        × (length (now answer) ≤ 65536) × (length (now notice) ≤ 65536) ⌝ }
+{
+    let room = rooms_at(r, message);
+    let a = room.answer;
+    let n = room.notice;
+    if answer.len() < a {
+        return Verdict::Damaged;
+    }
+    if notice.len() < n {
+        return Verdict::Damaged;
+    }
+    request(
+        table,
+        r,
+        host,
+        realm,
+        message,
+        room,
+        &mut answer[0..a],
+        &mut notice[0..n],
+    )
+}
+
+// The rooms are filled before the call.
+fn request(
+    table: &mut [u8],
+    r: &[u8],
+    host: usize,
+    realm: usize,
+    message: usize,
+    room: Rooms,
+    answer: &mut [u8],
+    notice: &mut [u8],
+) -> Verdict
+    requires { ⌜ (4 ≤ host) × (host + 4 ≤ realm) × (realm + 4 ≤ message) × (message + 11 ≤ length (now r)) × (length (now r) ≤ 65536)
+        × (length (now answer) ≤ 65536) × (length (now notice) ≤ 65536) ⌝ }
+{
+    replay_script::fill(answer, room.answer_seed);
+    replay_script::fill(notice, room.notice_seed);
+    ask(table, r, host, realm, message, room, answer, notice)
+}
+
+// The call itself, and what it left.
+fn ask(
+    table: &mut [u8],
+    r: &[u8],
+    host: usize,
+    realm: usize,
+    message: usize,
+    room: Rooms,
+    answer: &mut [u8],
+    notice: &mut [u8],
+) -> Verdict
+    requires { ⌜ (4 ≤ host) × (host + 4 ≤ realm) × (realm + 4 ≤ message) × (message + 11 ≤ length (now r)) × (length (now r) ≤ 65536)
+        × (length (now answer) ≤ 65536) × (length (now notice) ≤ 65536) ⌝ }
+{
+    let from_realm = host + 4;
+    let from_message = realm + 4;
+    let o = decision::handle(
+        table,
+        &r[4..host],
+        &r[from_realm..realm],
+        &r[from_message..message],
+        room.wag,
+        answer,
+        notice,
+    );
+    judged(
+        r,
+        message + 11,
+        outcome(o),
+        table,
+        answer,
+        room.answer_seed,
+        notice,
+        room.notice_seed,
+    )
+}

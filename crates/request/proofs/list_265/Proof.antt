@@ -1,0 +1,273 @@
+-- Field by field: one that passes leaves the code to those behind it (`one` to `five`), one that fails gives it; the type chooses the end.
+use mathlib.Core.Path.{_≡_, refl, sym, ap, _∙_}
+use mathlib.Core.List.{List, _∷_}
+use Prim.Native.Nat.{ℕ, zero, suc, _+_, _-_, _≤_}
+use native.Mathlib.Omega.{arith}
+use borrow.Author.Needs.{needs}
+use mathlib.Core.Bool.{true, false}
+use Rattle.octets.specs.Choice.{pick, firstOf}
+use Rattle.octets.specs.Numbers.{net32}
+use Rattle.octets.proofs.Lists.{within-high}
+use Rattle.octets.proofs.Texts.{length-part}
+use Rattle.message.specs.ReadingAMessage.{Avp, avps, fieldCode, for265, textField, numberField, authRequestType, destinationHost, userName, sessionRequestType, visitedNetwork, typeOf, requestOf}
+use Rattle.message.specs.Positions.{names, nameAt}
+use Rattle.message.specs.Spans.{bytesField, Holds, restCode}
+use Rattle.message.proofs.Listing.{go-on, stop, may-stop, may-go, found-there, number-in, listed-refused, lastTwo, of-type-0, of-type-1}
+use Rattle.request.proofs.list_265.Statement.{statement}
+use Rattle.request.proofs.list_265.Tie as tie
+
+abbrev behind4 : List Avp → List ℕ
+behind4 xs = fieldCode xs (textField visitedNetwork false) ∷ lastTwo xs
+
+abbrev behind3 : List Avp → List ℕ
+behind3 xs = fieldCode xs (numberField sessionRequestType 0 1) ∷ behind4 xs
+
+abbrev behind2 : List Avp → List ℕ
+behind2 xs = fieldCode xs (textField userName true) ∷ behind3 xs
+
+abbrev behind1 : List Avp → List ℕ
+behind1 xs = fieldCode xs (textField destinationHost true) ∷ behind2 xs
+
+is-one : (n : ℕ) → (n ≡ 0 → ⊥) → n ≤ 1 → n ≡ 1
+is-one zero z h = absurd (z refl)
+is-one (suc n) z h = omega arith
+
+all : (m : List ℕ) → restCode 265 (avps m) ≡ firstOf (fieldCode (avps m) (numberField authRequestType 2 2) ∷ behind1 (avps m))
+unfolding restCode pick for265 lastTwo
+all m = refl
+
+one : (p : tie.After-enum-told) → restCode 265 (avps (p .before .before .before .before .before .args .m .now)) ≡ firstOf (behind1 (avps (p .before .before .before .before .before .args .m .now)))
+unfolding numberField nameAt names
+one p =
+    let m = p .before .before .before .before .before .args .m .now in
+    all m ∙ go-on m (numberField authRequestType 2 2) (behind1 (avps m)) (p .before .before .number-field .result) (p .enum-told .given .0 .0)
+    (p .before .before .number-field .ensures) (p .enum-told .given .1)
+
+two : (p : tie.After-enum-told2) → restCode 265 (avps (p .before .before .before .before .before .before .before .before .args .m .now)) ≡ firstOf (behind2 (avps (p .before .before .before .before .before .before .before .before .args .m .now)))
+unfolding textField bytesField nameAt names
+two p =
+    let m = p .before .before .before .before .before .before .before .before .args .m .now in
+    one (p .before .before .before) ∙ go-on m (textField destinationHost true) (behind2 (avps m)) (p .before .before .text-field .result)
+    (p .enum-told2 .given .0 .0) (p .before .before .text-field .ensures true) (p .enum-told2 .given .1)
+
+three : (p : tie.After-known-told) → restCode 265 (avps (p .before .before .before .before .before .before .before .before .before .before .before .before .args .m .now)) ≡ firstOf (behind3 (avps (p .before .before .before .before .before .before .before .before .before .before .before .before .args .m .now)))
+unfolding textField bytesField nameAt names
+three p =
+    let m = p .before .before .before .before .before .before .before .before .before .before .before .before .args .m .now in
+    two (p .before .before .before .before) ∙ go-on m (textField userName true) (behind3 (avps m)) (p .before .before .before .text-field2 .result)
+    (p .before .g3 .given .0 .0) (p .before .before .before .text-field2 .ensures true) (p .before .g3 .given .1)
+
+four : (p : tie.After-known-told2) → restCode 265 (avps (p .before .before .before .before .before .before .before .before .before .before .before .before .before .before .before .before .args .m .now)) ≡ firstOf (behind4 (avps (p .before .before .before .before .before .before .before .before .before .before .before .before .before .before .before .before .args .m .now)))
+unfolding numberField nameAt names
+four p =
+    let m = p .before .before .before .before .before .before .before .before .before .before .before .before .before .before .before .before .args .m .now in
+    three (p .before .before .before .before) ∙ go-on m (numberField sessionRequestType 0 1) (behind4 (avps m))
+    (p .before .before .before .number-field2 .result) (p .before .g4 .given .0 .0) (p .before .before .before .number-field2 .ensures)
+    (p .before .g4 .given .1)
+
+five : (p : tie.At-match5-keys2) → restCode 265 (avps (p .before .before .before .before .before .before .before .before .before .before .before .before .before .before .before .before .before .before .args .m .now)) ≡ firstOf (lastTwo (avps (p .before .before .before .before .before .before .before .before .before .before .before .before .before .before .before .before .before .before .args .m .now)))
+unfolding textField bytesField nameAt names
+five p =
+    let m = p .before .before .before .before .before .before .before .before .before .before .before .before .before .before .before .before .before .before .args .m .now in
+    four (p .before .before) ∙ may-go m (textField visitedNetwork false) (lastTwo (avps m)) (p .before .text-field3 .result)
+    (p .before .text-field3 .ensures false) refl (p .match5 .keys2)
+
+-- the spans of User-Name and of the type
+user : (p : tie.After-known-told) → Holds (p .before .before .before .before .before .before .before .before .before .before .before .before .args .m .now) userName (p .before .g3 .given .0 .0)
+unfolding bytesField nameAt names
+user p = p .before .before .before .text-field2 .ensures true .found (p .before .g3 .given .0 .0) (p .before .g3 .given .1)
+
+kind : (p : tie.After-known-told2) → Holds (p .before .before .before .before .before .before .before .before .before .before .before .before .before .before .before .before .args .m .now) sessionRequestType (p .before .g4 .given .0 .0)
+unfolding numberField nameAt names
+kind p = p .before .before .before .number-field2 .ensures .found (p .before .g4 .given .0 .0) (p .before .g4 .given .1)
+
+type : (p : tie.After-value32) → p .value32 .result ≡ typeOf (avps (p .before .before .before .before .before .before .before .before .before .before .before .before .before .before .before .before .before .before .before .before .before .args .m .now))
+type p =
+    let s = p .before .before .before .before .before .before .g4 .given .0 .0 in
+    let e : s .at + s .len - s .at ≡ s .len = omega arith in
+    rw e at (p .value32 .ensures) ∙ ap (λ (v : List ℕ). net32 v 0) ((kind (p .before .before .before .before .before)) .value)
+
+number-field-requires : tie.Need-number-field-requires
+number-field-requires c κs = search needs
+
+enum-told : tie.Need-enum-told
+enum-told c = search needs
+
+refusal-requires : tie.Need-refusal-requires
+refusal-requires c κs = search needs
+
+returns : tie.Need-returns
+unfolding numberField nameAt names
+returns c =
+    let m = c .before .before .before .before .before .args .m .now in
+    let st = stop m (numberField authRequestType 2 2) (behind1 (avps m)) (c .before .before .number-field .result) (c .refusal .result)
+    (c .before .before .number-field .ensures) refl (c .before .match .keys2) (c .refusal .ensures) in
+    listed-refused m (restCode 265 (avps m)) (requestOf 265 (avps m)) (c .refusal .result) (all m ∙ st .0) (st .1)
+
+text-field-requires : tie.Need-text-field-requires
+text-field-requires c κs = search needs
+
+enum-told-2 : tie.Need-enum-told-2
+enum-told-2 c = search needs
+
+refusal-requires-2 : tie.Need-refusal-requires-2
+refusal-requires-2 c κs = search needs
+
+returns-2 : tie.Need-returns-2
+unfolding textField bytesField nameAt names
+returns-2 c =
+    let m = c .before .before .before .before .before .before .before .before .args .m .now in
+    let st = stop m (textField destinationHost true) (behind2 (avps m)) (c .before .before .text-field .result) (c .refusal2 .result)
+    (c .before .before .text-field .ensures true) refl (c .before .match2 .keys2) (c .refusal2 .ensures) in
+    listed-refused m (restCode 265 (avps m)) (requestOf 265 (avps m)) (c .refusal2 .result) (one (c .before .before .before) ∙ st .0) (st .1)
+
+text-field-requires-2 : tie.Need-text-field-requires-2
+text-field-requires-2 c κs = search needs
+
+enum-known-g3 : tie.Need-enum-known-g3
+enum-known-g3 c = search needs
+
+refusal-requires-3 : tie.Need-refusal-requires-3
+refusal-requires-3 c κs = search needs
+
+returns-3 : tie.Need-returns-3
+unfolding textField bytesField nameAt names
+returns-3 c =
+    let m = c .before .before .before .before .before .before .before .before .before .before .before .args .m .now in
+    let st = stop m (textField userName true) (behind3 (avps m)) (c .before .before .text-field2 .result) (c .refusal3 .result)
+    (c .before .before .text-field2 .ensures true) refl (c .before .match3 .keys2) (c .refusal3 .ensures) in
+    listed-refused m (restCode 265 (avps m)) (requestOf 265 (avps m)) (c .refusal3 .result) (two (c .before .before .before) ∙ st .0) (st .1)
+
+number-field-requires-2 : tie.Need-number-field-requires-2
+number-field-requires-2 c κs = search needs
+
+enum-known-g4 : tie.Need-enum-known-g4
+enum-known-g4 c = search needs
+
+refusal-requires-4 : tie.Need-refusal-requires-4
+refusal-requires-4 c κs = search needs
+
+returns-4 : tie.Need-returns-4
+unfolding numberField nameAt names
+returns-4 c =
+    let m = c .before .before .before .before .before .before .before .before .before .before .before .before .before .before .before .args .m .now in
+    let st = stop m (numberField sessionRequestType 0 1) (behind4 (avps m)) (c .before .before .number-field2 .result) (c .refusal4 .result)
+    (c .before .before .number-field2 .ensures) refl (c .before .match4 .keys2) (c .refusal4 .ensures) in
+    listed-refused m (restCode 265 (avps m)) (requestOf 265 (avps m)) (c .refusal4 .result) (three (c .before .before .before) ∙ st .0) (st .1)
+
+text-field-requires-3 : tie.Need-text-field-requires-3
+text-field-requires-3 c κs = search needs
+
+enum-known-g5 : tie.Need-enum-known-g5
+enum-known-g5 c = search needs
+
+returns-5 : tie.Need-returns-5
+unfolding textField bytesField nameAt names
+returns-5 c =
+    let m = c .before .before .before .before .before .before .before .before .before .before .before .before .before .before .before .before .before .before .before .before .args .m .now in
+    let n = c .before .g5 .given .0 .0 in
+    let st = may-stop m (textField visitedNetwork false) (lastTwo (avps m)) (c .before .before .before .text-field3 .result) n
+    (c .before .before .before .text-field3 .ensures false) (c .before .g5 .given .1) in
+    listed-refused m (restCode 265 (avps m)) (requestOf 265 (avps m)) n (four (c .before .before .before .before) ∙ st .0) (st .1)
+
+add-e : tie.Need-add-e
+add-e c =
+    let m = c .before .before .before .before .before .before .before .before .before .before .before .before .before .before .before .before .before .before .before .args .m .now in
+    omega (
+      arith,
+      (kind (c .before .before .before)) .inside,
+      c .before .before .before .before .before .before .before .before .before .before .before .before .before .before .before .before .before .before .before .good .0,
+    )
+
+sub-value32 : tie.Need-sub-value32
+sub-value32 c = search needs
+
+part-value32-start : tie.Need-part-value32-start
+part-value32-start c = search needs
+
+part-value32-end : tie.Need-part-value32-end
+part-value32-end c = omega (arith, (kind (c .before .before .before)) .inside)
+
+value32-requires : tie.Need-value32-requires
+unfolding numberField nameAt names
+value32-requires c κs =
+    let s = c .before .before .before .before .before .g4 .given .0 .0 in
+    let m = c .before .before .before .before .before .before .before .before .before .before .before .before .before .before .before .before .before .before .before .before .args .m .now in
+    let r = c .before .before .before .before .before .before .before .number-field2 .ensures in
+    let e : s .at + s .len - s .at ≡ s .len = omega arith in
+    rw e (omega (
+      arith,
+      r .sized s (c .before .before .before .before .before .g4 .given .1) .0,
+      length-part m (s .at) (s .len)
+          ((kind (c .before .before .before .before)) .inside),
+    ))
+
+is-found-requires : tie.Need-is-found-requires
+is-found-requires c κs = search needs
+
+tunnel-end-requires : tie.Need-tunnel-end-requires
+tunnel-end-requires c κs =
+    let s = c .before .before .before .before .before .before .before .before .before .before .before .before .before .before .before .before .before .before .before .before .before .before .before in
+    (s .pre .0, user (c .before .before .before .before .before .before .before .before .before .before .before), s .pre .1, s .pre .2)
+
+returns-6 : tie.Need-returns-6
+unfolding textField bytesField nameAt names
+returns-6 c =
+    let m = c .before .before .before .before .before .before .before .before .before .before .before .before .before .before .before .before .before .before .before .before .before .before .before .before .args .m .now in
+    let visited = c .before .is-found .ensures ∙ found-there m (textField visitedNetwork false)
+    (c .before .before .before .before .before .before .before .text-field3 .result)
+    (c .before .before .before .before .before .before .before .text-field3 .ensures false)
+    (c .before .before .before .before .before .before .match5 .keys2) in
+    of-type-0 m (c .tunnel-end .result) (c .before .is-found .result) (five (c .before .before .before .before .before .before))
+    (sym (type (c .before .before .before)) ∙ c .before .before .if1 .taken) visited (c .tunnel-end .ensures)
+
+policy-end-requires : tie.Need-policy-end-requires
+policy-end-requires c κs =
+    let s = c .before .before .before .before .before .before .before .before .before .before .before .before .before .before .before .before .before .before .before .before .before .before in
+    (s .pre .0, user (c .before .before .before .before .before .before .before .before .before .before), s .pre .1)
+
+returns-7 : tie.Need-returns-7
+unfolding numberField nameAt names
+returns-7 c =
+    let m = c .before .before .before .before .before .before .before .before .before .before .before .before .before .before .before .before .before .before .before .before .before .before .before .args .m .now in
+    let g = c .before .before .before .before .before .before .before .before .g4 .given in
+    let most : typeOf (avps m) ≤ 1 = within-high 0 1 (typeOf (avps m))
+    (number-in m sessionRequestType 0 1 (c .before .before .before .before .before .before .before .before .before .before .number-field2 .result)
+    (g .0 .0) (c .before .before .before .before .before .before .before .before .before .before .number-field2 .ensures) (g .1)) in
+    let t = type (c .before .before) in
+    of-type-1 m (c .policy-end .result) (five (c .before .before .before .before .before))
+    (is-one (typeOf (avps m)) (λ z. c .before .if1 .left (t ∙ z)) most) (c .policy-end .ensures)
+
+pub list-265-spec : {M : Type 1} → statement M
+list-265-spec =
+    tie.close
+    (tie.spec
+    number-field-requires
+    enum-told
+    refusal-requires
+    returns
+    text-field-requires
+    enum-told-2
+    refusal-requires-2
+    returns-2
+    text-field-requires-2
+    enum-known-g3
+    refusal-requires-3
+    returns-3
+    number-field-requires-2
+    enum-known-g4
+    refusal-requires-4
+    returns-4
+    text-field-requires-3
+    enum-known-g5
+    returns-5
+    add-e
+    sub-value32
+    part-value32-start
+    part-value32-end
+    value32-requires
+    is-found-requires
+    tunnel-end-requires
+    returns-6
+    policy-end-requires
+    returns-7)

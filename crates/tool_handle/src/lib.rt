@@ -1,0 +1,158 @@
+// The command that puts a file of messages to the server. The table is held from the start. All files that are read are followed to their end
+// before anything is written, so that one that can not be followed changes nothing; the table is replaced last, once every answer is written
+// and said, and only if all codes are those that were expected.
+use tool_hold::Held;
+use tool_inputs::Inputs;
+use tool_serve::Desk;
+use tool_sheets::Sheets;
+use tool_totals::Totals;
+
+// SERVING
+
+// Whether the codes are those that were expected; if not, that is said.
+fn check_codes(t: Totals) -> bool {
+    if t.wrong == 0 {
+        return true;
+    }
+    tool_files::refuse(b"codes came that were not expected; the table is as it was");
+    false
+}
+
+// What was done, said, and the table replaced if all is as it should be.
+fn finish(d: Desk, path: &[u8], t: Totals) {
+    if !tool_totals::summary(t, d.only != 0, 0 <= d.codes) {
+        return;
+    }
+    if check_codes(t) {
+        tool_hold::replace(path);
+    }
+}
+
+// The messages served on the table, which is replaced when all of it went well.
+fn serve(
+    d: Desk,
+    h: Held,
+    path: &[u8],
+    requests: &[u8],
+    answers: &[u8],
+    notices: &[u8],
+    table: &mut [u8],
+    all: usize,
+) {
+    let t = tool_serve::serve_all(d, requests, answers, notices, table, all);
+    if !t.whole {
+        return;
+    }
+    if !tool_sheets::force_out(d.answers, answers) {
+        return;
+    }
+    if !tool_sheets::force_out(d.notices, notices) {
+        return;
+    }
+    if tool_hold::write_new(path, h, table) {
+        finish(d, path, t);
+    }
+}
+
+// What lies ready once every file is open.
+fn desk(i: Inputs, s: Sheets) -> Desk {
+    let gateway = tool_options::find(tool_options::WAG);
+    Desk {
+        requests: i.requests,
+        answers: s.answers,
+        notices: s.notices,
+        wags: i.wags,
+        codes: i.codes,
+        hex: tool_inputs::is_hex(),
+        quiet: tool_options::find(tool_options::QUIET) != 0,
+        wag: tool_options::is_wag(gateway),
+        host: tool_options::find(tool_options::HOST),
+        realm: tool_options::find(tool_options::REALM),
+        only: tool_options::find(tool_options::ONLY),
+    }
+}
+
+// The files that are read are open, and can be followed: those that are written are opened.
+fn begin(
+    i: Inputs,
+    h: Held,
+    path: &[u8],
+    requests: &[u8],
+    answers: &[u8],
+    notices: &[u8],
+    table: &mut [u8],
+    all: usize,
+) {
+    if libc::lseek(i.requests, 0, libc::SEEK_SET) != 0 {
+        tool_files::refuse_file(requests);
+        return;
+    }
+    let both = tool_sheets::open(h, i, answers, notices);
+    if !both.well {
+        return;
+    }
+    let d = desk(i, both);
+    serve(d, h, path, requests, answers, notices, table, all);
+}
+
+// The requests followed to their end, and the files that have a line for each of them.
+fn follow(h: Held, path: &[u8], requests: &[u8], answers: &[u8], notices: &[u8], table: &mut [u8]) {
+    let fd = tool_files::open_plain(requests);
+    if fd < 0 {
+        return;
+    }
+    let all = tool_inputs::count(tool_inputs::source(fd), requests);
+    if all < 1 {
+        return;
+    }
+    let i = tool_inputs::open(fd, all);
+    if tool_inputs::are_there(i) {
+        begin(i, h, path, requests, answers, notices, table, all);
+    }
+}
+
+// THE COMMAND
+
+fn handle_held(
+    h: Held,
+    path: &[u8],
+    requests: &[u8],
+    answers: &[u8],
+    notices: &[u8],
+    room: &mut [u8],
+) {
+    let n = h.length;
+    if room.len() < n {
+        return;
+    }
+    follow(h, path, requests, answers, notices, &mut room[0..n]);
+}
+
+fn run(path: &[u8], requests: &[u8], answers: &[u8], notices: &[u8], room: &mut [u8]) {
+    if !tool_options::check_words() {
+        return;
+    }
+    let h = tool_hold::hold(path, room);
+    if tool_hold::is_held(h) {
+        handle_held(h, path, requests, answers, notices, room);
+        tool_hold::leave(path, h);
+    }
+}
+
+pub fn handle(room: &mut [u8]) {
+    let mut table = io::buffer();
+    let mut requests = io::buffer();
+    let mut answers = io::buffer();
+    let mut notices = io::buffer();
+    let a = os::arg(2, &mut table);
+    let b = os::arg(3, &mut requests);
+    let c = os::arg(4, &mut answers);
+    let d = os::arg(5, &mut notices);
+    run(
+        &table[..a],
+        &requests[..b],
+        &answers[..c],
+        &notices[..d],
+        room,
+    );
+}

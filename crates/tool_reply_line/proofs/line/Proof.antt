@@ -1,0 +1,58 @@
+-- The index stays within the order line.
+use Prim.Native.Nat.{_-_, _≤_}
+use borrow.Author.Needs.{needs}
+use Rattle.tool_reply_line.proofs.line.Statement.{statement}
+use Rattle.tool_reply_line.proofs.line.Tie as tie
+
+abbrev Inv-loop : tie.InvT-loop
+Inv-loop out₀ at row a₀ i₀ out a i = i ≤ 8
+
+abbrev μ-loop : tie.MeasureT-loop
+μ-loop out₀ at row a₀ i₀ out a i = 8 - i
+
+returns : tie.Need-returns Inv-loop μ-loop
+returns c = search needs
+
+slice-aggregate-say : tie.Need-slice-aggregate-say Inv-loop μ-loop
+slice-aggregate-say c = search needs
+
+say-requires : tie.Need-say-requires Inv-loop μ-loop
+say-requires c κs = search needs
+
+loop-holds : tie.Need-loop-holds Inv-loop μ-loop
+loop-holds c = search needs
+
+line-place-requires : tie.Need-line-place-requires Inv-loop μ-loop
+line-place-requires c κs = search needs
+
+standing-requires : tie.Need-standing-requires Inv-loop μ-loop
+standing-requires c κs = search needs
+
+add-i : tie.Need-add-i Inv-loop μ-loop
+add-i c = search needs
+
+loop-less : tie.Need-loop-less Inv-loop μ-loop
+loop-less c = search needs
+
+loop-again : tie.Need-loop-again Inv-loop μ-loop
+loop-again c = search needs
+
+returns-2 : tie.Need-returns-2 Inv-loop μ-loop
+returns-2 c = search needs
+
+pub line-spec : {M : Type 1} → statement M
+line-spec =
+    tie.close
+    (tie.spec
+    Inv-loop
+    μ-loop
+    returns
+    slice-aggregate-say
+    say-requires
+    loop-holds
+    line-place-requires
+    standing-requires
+    add-i
+    loop-less
+    loop-again
+    returns-2)

@@ -1,0 +1,118 @@
+// What a call did, in words: the code and its name, why it is no success, the place, who was cut; and the order line that it left.
+use decision::Outcome;
+use effects::Cut;
+use message::Kind;
+use reasons::Why;
+use tool_words::number;
+use tool_words::say;
+use tool_words::text;
+
+// A request to the server. Its own host and realm have fixed names.
+pub fn call_server(
+    table: &mut [u8],
+    m: &[u8],
+    wag: bool,
+    answer: &mut [u8; 5120],
+    notice: &mut [u8; 256],
+) -> Outcome {
+    decision::handle(table, b"wm.example", b"example", m, wag, answer, notice)
+}
+
+// Why `call_server` answers a request as it does, asked before it.
+pub fn why(table: &[u8], m: &[u8], wag: bool, answer: &[u8; 5120], notice: &[u8; 256]) -> Why {
+    reasons::first_failed(table, b"wm.example", b"example", m, wag, answer, notice)
+}
+
+// A code by its number and its name.
+fn code(out: &mut [u8; 4096], at: usize, kind: Kind, n: u32) -> usize {
+    match kind {
+        Kind::NoAnswer => {
+            let a = say(out, at, b"no answer, number ");
+            let b = number(out, a, n as u64);
+            let c = say(out, b, b": ");
+            tool_names::no_answer(out, c, n)
+        }
+        Kind::Plain => {
+            let a = number(out, at, n as u64);
+            let b = say(out, a, b" ");
+            tool_names::result(out, b, n)
+        }
+        Kind::Experimental => {
+            let a = number(out, at, n as u64);
+            let b = say(out, a, b" ");
+            tool_names::experimental(out, b, n)
+        }
+    }
+}
+
+// The place of a new access.
+fn place(out: &mut [u8; 4096], at: usize, k: usize) -> usize {
+    if k == 0 {
+        return at;
+    }
+    let a = say(out, at, b", place ");
+    number(out, a, k as u64)
+}
+
+// The access that was cut, as the notice has it.
+fn cut(out: &mut [u8; 4096], at: usize, notice: &[u8], session: usize, host: usize) -> usize {
+    if notice.len() < 256 {
+        return at;
+    }
+    if 128 < session {
+        return at;
+    }
+    if 128 < host {
+        return at;
+    }
+    let e = 128 + host;
+    let a = say(out, at, b", cut ");
+    let b = text(out, a, &notice[0..session]);
+    let c = say(out, b, b" of ");
+    text(out, c, &notice[128..e])
+}
+
+// The code and its name, why it is no success, the place, who was cut.
+pub fn outcome(out: &mut [u8; 4096], at: usize, o: Outcome, why: Why, notice: &[u8; 256]) -> usize {
+    let kind = o.kind;
+    let a = code(out, at, kind, o.code);
+    let b = tool_why::why(out, a, why);
+    let c = place(out, b, o.place);
+    let what = o.cut;
+    match what {
+        Cut::NoCut => c,
+        Cut::Lengths(session, host) => cut(out, c, notice, session, host),
+    }
+}
+
+// A place of the line, with the Session-Id of its access.
+fn standing(out: &mut [u8; 4096], at: usize, row: &[u8], k: usize) -> usize {
+    if row.len() != table::ROW_LENGTH {
+        return at;
+    }
+    if k < 1 {
+        return at;
+    }
+    if 8 < k {
+        return at;
+    }
+    let a = say(out, at, b" ");
+    let b = number(out, a, k as u64);
+    let c = say(out, b, b" (");
+    let d = text(out, c, row::session(row, k));
+    say(out, d, b")")
+}
+
+// The order line, first opened first.
+pub fn line(out: &mut [u8; 4096], at: usize, row: &[u8]) -> usize {
+    if row.len() != table::ROW_LENGTH {
+        return at;
+    }
+    let mut a = say(out, at, b"line:");
+    let mut i: usize = 0;
+    while i < 8 {
+        a = standing(out, a, row, row::line_place(row, i));
+        i += 1;
+    }
+    a
+}

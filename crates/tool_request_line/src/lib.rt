@@ -1,0 +1,88 @@
+// What a message asks, in words.
+use message::Asked;
+use message::Span;
+use message::Told;
+use reader::Step;
+use tool_words::say;
+use tool_words::text;
+
+// A part of the message.
+fn part(out: &mut [u8; 4096], at: usize, m: &[u8], s: Span) -> usize {
+    let from = s.at;
+    let n = s.len;
+    if m.len() < from {
+        return at;
+    }
+    if m.len() - from < n {
+        return at;
+    }
+    let end = from + n;
+    text(out, at, &m[from..end])
+}
+
+// A Session-Id and a label.
+fn both(out: &mut [u8; 4096], at: usize, m: &[u8], session: Span, label: Span) -> usize {
+    let a = part(out, at, m, session);
+    let b = say(out, a, b" on ");
+    part(out, b, m, label)
+}
+
+fn request(out: &mut [u8; 4096], at: usize, m: &[u8], asked: Asked) -> usize {
+    match asked {
+        Asked::Tunnel {
+            session,
+            host: _,
+            label,
+            visited: _,
+        } => {
+            let a = say(out, at, b"open ");
+            both(out, a, m, session, label)
+        }
+        Asked::Policy { session, route: _ } => {
+            let a = say(out, at, b"policy for ");
+            part(out, a, m, session)
+        }
+        Asked::Termination { session, label } => {
+            let a = say(out, at, b"terminate ");
+            both(out, a, m, session, label)
+        }
+    }
+}
+
+// A message that is no whole request, with its Session-Id where its first AVP is one.
+fn no_request(out: &mut [u8; 4096], at: usize, m: &[u8]) -> usize {
+    let a = say(out, at, b"no whole request");
+    let step = reader::avp_at(m, 20);
+    let Step::One(first) = step else {
+        return a;
+    };
+    if 128 <= first.flags {
+        return a;
+    }
+    if first.code != 263 {
+        return a;
+    }
+    let session = Span {
+        at: first.value,
+        len: first.len,
+    };
+    let b = say(out, a, b", Session-Id ");
+    part(out, b, m, session)
+}
+
+// Who asks for what; a message that is no whole request is only said to be one.
+pub fn asked(out: &mut [u8; 4096], at: usize, m: &[u8]) -> usize {
+    if m.len() < 20 {
+        return say(out, at, b"no request");
+    }
+    let heard = request::read(m);
+    let told = heard.told;
+    match told {
+        Told::Refused(_) => no_request(out, at, m),
+        Told::Request(user, what) => {
+            let a = part(out, at, m, user);
+            let b = say(out, a, b", ");
+            request(out, b, m, what)
+        }
+    }
+}

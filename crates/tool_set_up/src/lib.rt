@@ -1,0 +1,174 @@
+// The commands that set a table up. A file is changed only by an operation that succeeds.
+use tool_files::Said;
+use tool_hold::Held;
+
+// The number of a set-up operation that changed nothing, in words.
+fn refused(number: u32) {
+    let mut out = [0u8; 4096];
+    let a = tool_words::say(&mut out, 0, b"play: number ");
+    let b = tool_words::number(&mut out, a, number as u64);
+    let c = tool_words::say(&mut out, b, b": ");
+    let d = tool_names::set_up(&mut out, c, number);
+    let e = tool_words::say(&mut out, d, b"; nothing is changed\n");
+    tool_files::note(&out, e);
+    tool_files::mark();
+}
+
+// The table written, what is done said, and the table put in its place. That comes last, so that whatever fails leaves the table as it was.
+fn keep(path: &[u8], h: Held, table: &[u8], done: &[u8]) {
+    if !tool_hold::write_new(path, h, table) {
+        return;
+    }
+    if tool_files::say_word(path, done) {
+        tool_hold::replace(path);
+    }
+}
+
+// A table of so many free rows, under a name that no file has yet.
+fn make(path: &[u8], table: &mut [u8], rows: usize) {
+    if 1024 < rows {
+        refused(1);
+        return;
+    }
+    let n = 4608 * rows;
+    if table.len() < n {
+        return;
+    }
+    let number = setup::clear(&mut table[0..n]);
+    if number != 0 {
+        refused(number);
+        return;
+    }
+    let h = tool_hold::hold_name(path);
+    if tool_hold::is_held(h) {
+        keep(path, h, &table[0..n], b": a new table, all rows free");
+        tool_hold::leave(path, h);
+    }
+}
+
+fn new_at(path: &[u8], rows: &[u8], table: &mut [u8]) {
+    let said = tool_files::number(rows);
+    let Said::Number(n) = said else {
+        tool_files::refuse_word(rows, b": no number of rows, 1 to 1,024");
+        return;
+    };
+    make(path, table, n);
+}
+
+pub fn new(table: &mut [u8]) {
+    let mut path = io::buffer();
+    let mut rows = io::buffer();
+    let n = os::arg(2, &mut path);
+    let k = os::arg(3, &mut rows);
+    new_at(&path[..n], &rows[..k], table);
+}
+
+fn enter_held(path: &[u8], h: Held, name: &[u8], table: &mut [u8]) {
+    let n = h.length;
+    if table.len() < n {
+        return;
+    }
+    let number = setup::enter(&mut table[0..n], name);
+    if number != 0 {
+        refused(number);
+        return;
+    }
+    keep(path, h, &table[0..n], b": the subscriber is entered");
+}
+
+fn enter_at(path: &[u8], name: &[u8], table: &mut [u8]) {
+    let h = tool_hold::hold(path, table);
+    if tool_hold::is_held(h) {
+        enter_held(path, h, name, table);
+        tool_hold::leave(path, h);
+    }
+}
+
+pub fn enter(table: &mut [u8]) {
+    let mut path = io::buffer();
+    let mut name = io::buffer();
+    let n = os::arg(2, &mut path);
+    let k = os::arg(3, &mut name);
+    enter_at(&path[..n], &name[..k], table);
+}
+
+fn add_held(
+    path: &[u8],
+    h: Held,
+    name: &[u8],
+    label: &[u8],
+    limit: u8,
+    flags: u8,
+    table: &mut [u8],
+) {
+    let n = h.length;
+    if table.len() < n {
+        return;
+    }
+    let number = setup::add(&mut table[0..n], name, label, limit, flags);
+    if number != 0 {
+        refused(number);
+        return;
+    }
+    keep(path, h, &table[0..n], b": the label is added");
+}
+
+fn add_at(path: &[u8], name: &[u8], label: &[u8], limit: u8, flags: u8, table: &mut [u8]) {
+    let h = tool_hold::hold(path, table);
+    if tool_hold::is_held(h) {
+        add_held(path, h, name, label, limit, flags, table);
+        tool_hold::leave(path, h);
+    }
+}
+
+// What the words behind the limit say: 1 barred, 2 may roam, 4 something else.
+fn flag(i: usize) -> u8 {
+    if os::arg_count() <= i {
+        return 0;
+    }
+    let mut word = io::buffer();
+    let n = os::arg(i, &mut word);
+    if octets::same_bytes(&word[..n], b"barred") {
+        return 1;
+    }
+    if octets::same_bytes(&word[..n], b"roam") {
+        return 2;
+    }
+    4
+}
+
+// Both words together: the same word twice says no more than once.
+fn flags() -> u8 {
+    flag(6) | flag(7)
+}
+
+// The limit is a byte for the server, which tests it; what is no byte is refused here.
+fn limited(path: &[u8], name: &[u8], label: &[u8], limit: &[u8], table: &mut [u8]) {
+    let f = flags();
+    if 3 < f {
+        tool_files::refuse(b"behind the limit there may stand barred and roam, and nothing else");
+        return;
+    }
+    let said = tool_files::number(limit);
+    let Said::Number(n) = said else {
+        tool_files::refuse_word(limit, b": no limit, 1 to 8");
+        return;
+    };
+    if 255 < n {
+        tool_files::refuse_word(limit, b": no limit, 1 to 8");
+        return;
+    }
+    add_at(path, name, label, n as u8, f, table);
+}
+
+pub fn add(table: &mut [u8]) {
+    let mut path = io::buffer();
+    let mut name = io::buffer();
+    let mut label = io::buffer();
+    let mut limit = io::buffer();
+    let n = os::arg(2, &mut path);
+    let k = os::arg(3, &mut name);
+    let l = os::arg(4, &mut label);
+    let m = os::arg(5, &mut limit);
+    limited(&path[..n], &name[..k], &label[..l], &limit[..m], table);
+}
