@@ -127,6 +127,9 @@ others =
     -- "Board" is "board" from a visited network (ROAMING_NOT_ALLOWED) and in a termination
     ∷ denied (ask start (openVisited (session 97) capitalBoard)) start 5004 2
     ∷ granted (ask (c .table) (endAt (session 98) capitalBoard)) 0 noCut (1 ∷ 2 ∷ [])
+    -- a Session-Id has one case only: "B" is not the b that stands, and opens beside it
+    ∷ denied (ask (c .table) (endAt (session 66) board)) (c .table) 5042 2
+    ∷ granted (ask (b .table) (openAt (session 66) board)) 2 (cutOf 97) (1 ∷ 3 ∷ 2 ∷ [])
     -- beside "board" it can not be added: 15; a row that has both is unsound: 5012, and 13 on adding
     ∷ eqb ((add start name capitalEntry) .number) 15
     ∷ denied (ask inBothCases (openAt (session 97) board)) inBothCases 5012 1

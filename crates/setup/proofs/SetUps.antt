@@ -253,14 +253,13 @@ module _ (t name : List ℕ) (e : Entry) where
   pub add-refused : (i n : ℕ) → tableNumber t ≡ 0 → lookup t name ≡ row i → n ≡ entryNumber (rowAt t i) e → (n ≡ 0 → ⊥) → left n t ≡ add t name e
   unfolding addAt
   add-refused i n h l q z =
-      ap (λ (m : ℕ). left m t) q
-      ∙ refused (entryNumber (rowAt t i) e) t (withRow t i (rowBytes (withEntry e (readRow (rowAt t i))))) (λ y. z (q ∙ y))
-      ∙ ap (λ (f : Found). addAt f t e) (sym l) ∙ to-row h
+      let said : left n t ≡ addAt (row i) t e =
+      ap (λ (m : ℕ). left m t) q ∙ refused (entryNumber (rowAt t i) e) t _ (λ y. z (q ∙ y)) in
+      said ∙ ap (λ (f : Found). addAt f t e) (sym l) ∙ to-row h
 
   pub add-done : (i n : ℕ) (after : List ℕ) → tableNumber t ≡ 0 → lookup t name ≡ row i → n ≡ entryNumber (rowAt t i) e → n ≡ 0
       → after ≡ withRow t i (rowBytes (withEntry e (readRow (rowAt t i)))) → left 0 after ≡ add t name e
   unfolding addAt
   add-done i n after h l q z a =
-      ap (left 0) a
-      ∙ done (entryNumber (rowAt t i) e) t (withRow t i (rowBytes (withEntry e (readRow (rowAt t i))))) (sym q ∙ z)
-      ∙ ap (λ (f : Found). addAt f t e) (sym l) ∙ to-row h
+      let said : left 0 after ≡ addAt (row i) t e = ap (left 0) a ∙ done (entryNumber (rowAt t i) e) t _ (sym q ∙ z) in
+      said ∙ ap (λ (f : Found). addAt f t e) (sym l) ∙ to-row h
