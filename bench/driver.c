@@ -4,6 +4,7 @@
  *   driver check                   every line and both libraries: outcomes, tables, answer and notice rooms are the same, and
  *                                  the outcome is the one expected
  *   driver mix CALLS SEED          the same on calls by chance (mix.c)
+ *   driver tally LISTS SEED        the same on lists of results by chance, counted into a report (tally.c)
  *   driver answers FILE CALLS      the proved library's answers to such calls, one behind the other, into a file
  *   driver count LINE LIBRARY N    N calls of one line, for the counting of instructions; LIBRARY is proved, plain or none
  *   driver time                    one table of time ratios, the libraries measured in turn
@@ -18,6 +19,13 @@ struct timespec {
 };
 int clock_gettime(int, struct timespec *);
 int mix(uint32_t calls, uint64_t seed, const char *answers);
+/* the lines of the report, behind those of this file */
+size_t tally_lines(void);
+const char *tally_name(size_t line);
+int tally_check(void);
+int tally_mix(uint32_t lists, uint64_t seed);
+int tally_count(size_t line, const char *library, uint32_t calls);
+int tally_time(void);
 enum { CLOCK_MONOTONIC = 1 };
 
 enum { ROWS = 1024, MESSAGES = 12 };
@@ -413,7 +421,7 @@ static uint64_t digest(const struct lent *l, uint32_t of_rows) {
     return h;
 }
 
-static double seconds(void) {
+double seconds(void) {
     struct timespec t;
     clock_gettime(CLOCK_MONOTONIC, &t);
     return (double)t.tv_sec + (double)t.tv_nsec / 1e9;
@@ -454,26 +462,34 @@ static int count_line(const struct line *line, const char *library, uint32_t cal
     return 2;
 }
 
+static int count_any(size_t line, const char *library, uint32_t calls) {
+    return line < LINES ? count_line(&lines[line], library, calls) : tally_count(line - LINES, library, calls);
+}
+
 int main(int count, char **words) {
     const char *what = count > 1 ? words[1] : "";
-    if (!strcmp(what, "lines"))
+    if (!strcmp(what, "lines")) {
         for (size_t i = 0; i < LINES; i++)
             printf("%s\n", lines[i].name);
-    else if (!strcmp(what, "check"))
-        return check();
+        for (size_t i = 0; i < tally_lines(); i++)
+            printf("%s\n", tally_name(i));
+    } else if (!strcmp(what, "check"))
+        return check() || tally_check();
     else if (!strcmp(what, "mix") && count == 4)
         return mix((uint32_t)strtoul(words[2], 0, 10), strtoul(words[3], 0, 10), 0);
+    else if (!strcmp(what, "tally") && count == 4)
+        return tally_mix((uint32_t)strtoul(words[2], 0, 10), strtoul(words[3], 0, 10));
     else if (!strcmp(what, "answers") && count == 4)
         return mix((uint32_t)strtoul(words[3], 0, 10), 1, words[2]);
-    else if (!strcmp(what, "time"))
-        for (size_t i = 0; i < LINES; i++) {
+    else if (!strcmp(what, "time")) {
+        for (size_t i = 0; i < LINES; i++)
             if (!time_line(&lines[i]))
                 return 1;
-        }
-    else if (!strcmp(what, "count") && count == 5)
-        return count_line(&lines[strtoul(words[2], 0, 10) % LINES], words[3], (uint32_t)strtoul(words[4], 0, 10));
+        return tally_time();
+    } else if (!strcmp(what, "count") && count == 5)
+        return count_any(strtoul(words[2], 0, 10) % (LINES + tally_lines()), words[3], (uint32_t)strtoul(words[4], 0, 10));
     else {
-        printf("driver: lines, check, mix CALLS SEED, answers FILE CALLS, count LINE LIBRARY N, or time\n");
+        printf("driver: lines, check, mix CALLS SEED, tally LISTS SEED, answers FILE CALLS, count LINE LIBRARY N, or time\n");
         return 2;
     }
     return 0;

@@ -16,7 +16,11 @@ static struct side {
 
 static uint64_t seed;
 
-static uint32_t below(uint32_t n) {
+void begin_chance(uint64_t from) {
+    seed = from;
+}
+
+uint32_t below(uint32_t n) {
     seed = seed * 6364136223846793005u + 1442695040888963407u;
     return (uint32_t)(seed >> 33) % n;
 }
@@ -286,7 +290,7 @@ int mix(uint32_t calls, uint64_t from, const char *answers) {
     FILE *file = answers ? fopen(answers, "wb") : 0;
     if (answers && !file)
         return 2;
-    seed = from;
+    begin_chance(from);
     decoded = file != 0;
     for (uint32_t n = 0; n < calls && differ < 10; n++) {
         struct wm_outcome o = {0};

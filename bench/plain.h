@@ -27,5 +27,6 @@ uint32_t plain_add(uint8_t *table, size_t table_length, const uint8_t *name, siz
 struct wm_outcome plain_handle(uint8_t *table, size_t table_length, const uint8_t *host, size_t host_length,
                                const uint8_t *realm, size_t realm_length, const uint8_t *message, size_t message_length,
                                bool wag, uint8_t *answer, size_t answer_length, uint8_t *notice, size_t notice_length);
+uint32_t plain_report_count(struct wm_report *report, const struct wm_told *told, size_t told_length);
 
 #endif

@@ -785,3 +785,39 @@ struct wm_outcome plain_handle(uint8_t *table, size_t table_length, const uint8_
     write_answer(answer, &c, &own, first_session(message, (uint32_t)message_length), &o);
     return o;
 }
+
+/* ---- the year by hour ---- */
+
+enum { OPENED_COLUMN, CUT_COLUMN, ENDED_COLUMN, OTHER_COLUMN };
+
+/* Of openings, terminations and others the one that a result is in. */
+static inline uint32_t column(const struct wm_told *t) {
+    if (t->place != 0)
+        return OPENED_COLUMN;
+    return t->which == 2 && t->kind == RESULT && t->code == 2001 ? ENDED_COLUMN : OTHER_COLUMN;
+}
+
+/* A result into four totals: a cut is counted beside its opening. */
+static inline void tally(uint64_t *totals, const struct wm_told *t) {
+    totals[column(t)]++;
+    totals[CUT_COLUMN] += t->place != 0 && t->cut != 0;
+}
+
+/* No hour's total is over its year's, so that only the years are tested. */
+uint32_t plain_report_count(struct wm_report *report, const struct wm_told *told, size_t told_length) {
+    uint64_t years[4] = {0};
+    for (const struct wm_told *t = told; t < told + told_length; t++) {
+        if (t->hour > 23)
+            return 29;
+        tally(years, t);
+    }
+    for (size_t hour = 0; hour < 24; hour++)
+        for (size_t k = 0; k < 4; k++) {
+            years[k] += report->totals[hour][k];
+            if (years[k] < report->totals[hour][k])
+                return 30;
+        }
+    for (const struct wm_told *t = told; t < told + told_length; t++)
+        tally(report->totals[t->hour], t);
+    return 0;
+}
