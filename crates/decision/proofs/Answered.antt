@@ -27,10 +27,10 @@ use Rattle.message.specs.WritingTheAnswer.{answer, answerRoom}
 use Rattle.effects.specs.declared.Done.{Done}
 use Rattle.decision.specs.declared.Decided.{Decided}
 use Rattle.rules.specs.Deciding.{Verdict, refuse, grant, openOn}
-use Rattle.plans.specs.Plans.{planned, fitting}
-use Rattle.rules.specs.Calls.{resultOf, noticeRoom, reply, settled}
-use Rattle.effects.specs.Carrying.{cutFor, doneFor, tableAfter}
-use Rattle.decision.specs.Outcomes.{Named, answeredBy, cutMade, cutSession, cutHost, resultSaid, planKind, planCode, sessionText, hostText, leaves, callOf}
+use Rattle.plans.specs.Plans.{planned, planCode, fitting}
+use Rattle.rules.specs.Calls.{resultOf, noticeRoom, reply, tableAfter, settled}
+use Rattle.effects.specs.Carrying.{cutFor, doneFor}
+use Rattle.decision.specs.Outcomes.{Named, answeredBy, cutMade, cutSession, cutHost, resultSaid, sessionText, hostText, leaves, callOf}
 
 -- CODES
 
@@ -48,8 +48,8 @@ result-is k n size place [] = rw (number-from k n)
 result-is k n size place (a ∷ others) = rw (number-from k n)
 
 -- the code of a plan is that of its verdict
-pub plan-code : (session host route : List ℕ) (p : Plan) (s : Subscriber) → (planned session host route p s) .code ≡ codeFrom (planKind p) (planCode p)
-unfolding planned planKind planCode codeFrom refuse grant openOn pick
+pub plan-code : (session host route : List ℕ) (p : Plan) (s : Subscriber) → (planned session host route p s) .code ≡ planCode p
+unfolding planned planCode refuse grant openOn pick
 plan-code session host route NotSubscribed s = refl
 plan-code session host route Barred s = refl
 plan-code session host route RoamingNotAllowed s = refl
@@ -59,8 +59,8 @@ plan-code session host route (Open n k) s = by-test (eqb k 0) (λ e. rw e) (λ e
 plan-code session host route (Route k) s = refl
 plan-code session host route (Free k) s = refl
 
-pub plan-small : (p : Plan) → planCode p < 65536
-unfolding planCode
+pub plan-small : (p : Plan) → numberOf (planCode p) < 65536
+unfolding planCode numberOf
 plan-small NotSubscribed = omega arith
 plan-small Barred = omega arith
 plan-small RoamingNotAllowed = omega arith
@@ -140,7 +140,7 @@ pub settled-is : (t : List ℕ) (i : ℕ) (m host realm room notice : List ℕ) 
     → d ≡ doneFor v
     → answeredBy (record { code = n; kind = k; user = user; place = d .place; cut = d .cut }) m host realm room t′ u
     ≡ settled t (callOf m host realm room notice wag) i v
-unfolding settled tableAfter doneFor
+unfolding settled doneFor
 settled-is t i m host realm room notice wag v k n user d t′ u ec et eu ed =
     ap (λ (x : Done). answeredBy (record { code = n; kind = k; user = user; place = x .place; cut = x .cut }) m host realm room t′ u) ed
     ∙ answered-is k n user m host realm room notice wag (v .place) (v .cut) t′ u eu

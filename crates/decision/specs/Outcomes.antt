@@ -9,12 +9,8 @@ use Rattle.message.specs.Kinds.{codeFrom}
 use Rattle.message.specs.ReadingAMessage.{userName}
 use Rattle.message.specs.Spans.{Holds, bytesOf}
 use Rattle.message.specs.WritingTheAnswer.{answer, answerRoom}
-use Rattle.message.specs.declared.Kind.{Kind}
-use Rattle.message.specs.declared.Kind.the-variants.{Plain, Experimental}
 use Rattle.message.specs.declared.Asked.{Asked}
 use Rattle.message.specs.declared.Asked.the-variants.{Tunnel, Policy, Termination}
-use Rattle.plans.specs.declared.Plan.{Plan}
-use Rattle.plans.specs.declared.Plan.the-variants.{NotSubscribed, Barred, RoamingNotAllowed, UnableToComply, UnusedByUser, Open, Route, Free}
 use Rattle.effects.specs.declared.Cut.{Cut}
 use Rattle.effects.specs.declared.Cut.the-variants.{NoCut, Lengths}
 use Rattle.decision.specs.declared.Outcome.{Outcome}
@@ -85,24 +81,3 @@ unfoldable pub routeText : List ℕ → Asked → List ℕ
 routeText m (Tunnel session host label visited) = []
 routeText m (Policy session route) = bytesOf m route
 routeText m (Termination session label) = []
-
--- The number and kind of a plan's code: 2001 for a change.
-unfoldable pub planKind : Plan → Kind
-planKind NotSubscribed = Experimental
-planKind Barred = Plain
-planKind RoamingNotAllowed = Experimental
-planKind UnableToComply = Plain
-planKind UnusedByUser = Experimental
-planKind (Open n k) = Plain
-planKind (Route k) = Plain
-planKind (Free k) = Plain
-
-unfoldable pub planCode : Plan → ℕ
-planCode NotSubscribed = 5044
-planCode Barred = 5003
-planCode RoamingNotAllowed = 5004
-planCode UnableToComply = 5012
-planCode UnusedByUser = 5042
-planCode (Open n k) = 2001
-planCode (Route k) = 2001
-planCode (Free k) = 2001

@@ -15,6 +15,7 @@ ghost use Prim.Native.Nat.{ℕ, _+_, _*_, _≤_};
 ghost use lib.ListN.{length};
 ghost use Rattle.octets.specs.Choice.{within};
 ghost use Rattle.octets.specs.Lists.{every};
+ghost use Rattle.message.specs.Codes.{numberOf};
 ghost use Rattle.message.specs.Kinds.{codeFrom};
 ghost use Rattle.message.specs.Spans.{asks, bytesOf, isInside, says, spans, spansIn};
 ghost use Rattle.rules.specs.Calls.{callNumber, handle, onReading, onRow, refusal, settled};
@@ -22,8 +23,8 @@ ghost use Rattle.message.specs.ReadingAMessage.{read, request};
 ghost use Rattle.table.specs.TheTable.{lookup, readRow, rowAt, rowLength, tableNumber};
 ghost use Rattle.table.specs.Soundness.{sound};
 ghost use Rattle.rules.specs.Deciding.{decide};
-ghost use Rattle.plans.specs.Plans.{planned, fitPlan, fitting};
-ghost use Rattle.decision.specs.Outcomes.{Named, answeredBy, callOf, hostText, leaves, planCode, planKind, routeText, sessionText};
+ghost use Rattle.plans.specs.Plans.{planned, planCode, fitPlan, fitting};
+ghost use Rattle.decision.specs.Outcomes.{Named, answeredBy, callOf, hostText, leaves, routeText, sessionText};
 
 // An own name of 1 to 128 bytes.
 fn name_fits(s: &[u8]) -> bool
@@ -67,7 +68,7 @@ pub fn call_number(
 
 // The kind and the number of a plan's code.
 fn kind_of(plan: Plan) -> Kind
-    ensures { λ r. ⌜ r ≡ planKind plan ⌝ }
+    ensures { λ r. ⌜ planCode plan ≡ codeFrom r (numberOf (planCode plan)) ⌝ }
 {
     match plan {
         Plan::NotSubscribed => Kind::Experimental,
@@ -82,7 +83,7 @@ fn kind_of(plan: Plan) -> Kind
 }
 
 fn code_of(plan: Plan) -> u32
-    ensures { λ r. ⌜ r ≡ planCode plan ⌝ }
+    ensures { λ r. ⌜ r ≡ numberOf (planCode plan) ⌝ }
 {
     match plan {
         Plan::NotSubscribed => 5044,

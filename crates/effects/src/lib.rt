@@ -9,9 +9,9 @@ ghost use Rattle.table.specs.TheTable.{orderLine, readRow, rowAt, rowBytes, row
 ghost use Rattle.table.specs.Soundness.{sound};
 ghost use Rattle.changes.specs.Changes.{freed, lowestFree, opened};
 ghost use Rattle.rules.specs.Deciding.{atPlace};
-ghost use Rattle.rules.specs.Calls.{noticeRoom};
+ghost use Rattle.rules.specs.Calls.{noticeRoom, tableAfter};
 ghost use Rattle.plans.specs.Plans.{planned, fitPlan};
-ghost use Rattle.effects.specs.Carrying.{cutFor, doneFor, tableAfter};
+ghost use Rattle.effects.specs.Carrying.{cutFor, doneFor};
 
 // Whether a cut was made, with the lengths of the cut access's Session-Id and gateway host.
 pub enum Cut {

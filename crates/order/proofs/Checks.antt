@@ -14,7 +14,7 @@ use Rattle.message.specs.ReadingAMessage.{Ask}
 use Rattle.table.specs.TheTable.{Access, Subscriber, isFound, rowAt, withRow, readRow, rowBytes}
 use Rattle.table.proofs.Sound.{says-good}
 use Rattle.rules.specs.Deciding.{Verdict, refuse}
-use Rattle.rules.specs.Calls.{Call, Left, callNumber, silent, reply, refusal, settled, resultOf, noticeRoom, handle}
+use Rattle.rules.specs.Calls.{Call, Left, callNumber, silent, reply, refusal, tableAfter, settled, resultOf, noticeRoom, handle}
 use Rattle.order.specs.ChecksInOrder.{Check, firstFailing, noneFails}
 use Rattle.order.specs.Demand2.{requestIn, found, said, checks, succeeds, exceeds, onAsked, cutFor, placeTaken, afterwards, CodeOf, Unchanged}
 use Rattle.order.specs.Demand2.{FirstFailingCheck, SuccessExactly, RefusedChangesNothing, UnansweredLeaves, RefusedLeaves, CutExactly, OneToCut, SuccessReply, SuccessFindsRow}
@@ -76,7 +76,7 @@ module _ (t : List ℕ) (c : Call) (i : ℕ) (v : Verdict) where
 
   -- a refusal on the row
   settled-refused : eqb (numberOf (v .code)) 2001 ≡ false → v .cut ≡ [] → v .place ≡ 0 → Unchanged t c (settled t c i v)
-  unfolding settled reply resultOf noticeRoom pick
+  unfolding tableAfter settled reply resultOf noticeRoom pick
   settled-refused e cut place =
       record {
         table = rw e;
@@ -154,7 +154,7 @@ module _ (t : List ℕ) (c : Call) where
       rw (o .leaves) (settled-refused t c i (verdict t c i) (decided-none _ _ _ _ (grants-2001 t c i) (how t c i) ∙ n) (r .0) (r .1))
 
   settled-refusal : (i : ℕ) → noneFails (decisive t c i) ≡ false → settled t c i (verdict t c i) ≡ refusal t c ((verdict t c i) .code)
-  unfolding settled refusal pick
+  unfolding tableAfter settled refusal pick
   settled-refusal i n =
       let r : ((verdict t c i) .cut ≡ []) × ((verdict t c i) .place ≡ 0) = refused-cut _ _ _ _ (how t c i) n in
       rw (decided-none _ _ _ _ (grants-2001 t c i) (how t c i) ∙ n, r .0, r .1)
@@ -202,7 +202,7 @@ module _ (t : List ℕ) (c : Call) where
         (λ e. rw (o .leaves, e) (settled-none t c i (verdict t c i) (cut-is ∙ cut-none asked (readRow (rowAt t i)) e)))
 
     pub written : (settled t c i (verdict t c i)) .table ≡ withRow t i (rowBytes (afterwards asked (readRow (rowAt t i))))
-    unfolding settled granting numberOf pick
+    unfolding tableAfter settled granting numberOf pick
     written = rw granted
 
     cut-for : cutBy asked (readRow (rowAt t i)) ≡ cutFor asked (readRow (rowAt t i))

@@ -21,7 +21,7 @@ use Rattle.changes.specs.Changes.{freed, opened, routed}
 use Rattle.changes.proofs.Rows.{row-size}
 use Rattle.changes.proofs.Steps.{row-name}
 use Rattle.rules.specs.Deciding.{Verdict, decide, type0, type1, terminate, admit, openOn, refuse, grant, heldAlready}
-use Rattle.rules.specs.Calls.{Call, Reply, Left, callNumber, silent, reply, refusal, settled, onRow, onReading, handle}
+use Rattle.rules.specs.Calls.{Call, Reply, Left, callNumber, silent, reply, refusal, tableAfter, settled, onRow, onReading, handle}
 use Rattle.order.specs.Demand3.{Subject, nobody, subscriber, subject, sentBy, ownNumber}
 use Rattle.order.proofs.Finding.{finds, finds-alike}
 use Rattle.order.proofs.Alone as A
@@ -287,7 +287,7 @@ module _ (n : ℕ) (t : List ℕ) (size : length t ≡ rowLength * n) (c : Call)
   lost-is = rw (own, g)
 
   table-is : (i : ℕ) → i < n → (onRow t c q (row i)) .table ≡ withRow t i (rowAfter c q (rowAt t i))
-  unfolding onRow settled refusal rowAfter settledRow pick
+  unfolding onRow tableAfter settled refusal rowAfter settledRow pick
   table-is i l =
       by-test (sound (rowAt t i))
       (λ h. by-test (eqb (numberOf ((decide (q .ask) (c .wag) (readRow (rowAt t i))) .code)) 2001)

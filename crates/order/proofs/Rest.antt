@@ -19,7 +19,7 @@ use Rattle.table.proofs.Good.{Good}
 use Rattle.table.proofs.Rows.{row-other, row-with, whole-rows}
 use Rattle.table.proofs.Sound.{says-good, sound-row}
 use Rattle.rules.specs.Deciding.{Verdict}
-use Rattle.rules.specs.Calls.{Call, Left, callNumber, silent, refusal, settled, handle, ranFirst, run}
+use Rattle.rules.specs.Calls.{Call, Left, callNumber, silent, refusal, tableAfter, settled, handle, ranFirst, run}
 use Rattle.plans.proofs.Stay.{stays}
 use Rattle.order.specs.ChecksInOrder.{noneFails}
 use Rattle.order.specs.Demand2.{requestIn, found, checks, afterwards, Replaced, SuccessReplacesRow, OtherRowsStay, SoundStaysSound, SoundStaysInList}
@@ -49,7 +49,7 @@ module _ (t : List ℕ) (c : Call) where
 
   -- the table that a call leaves: as it was, or with one row of what was decided
   settled-table : (P : List ℕ → Type 0) (i : ℕ) (v : Verdict) → P t → P (withRow t i (rowBytes (v .after))) → P ((settled t c i v) .table)
-  unfolding settled
+  unfolding tableAfter settled
   settled-table P i v a b = by-pick P (eqb (numberOf (v .code)) 2001) (λ e. b) (λ e. a)
 
   other-went : (j : ℕ) → (found t c ≡ row j → ⊥) → Went t c → rowAt ((handle t c) .table) j ≡ rowAt t j

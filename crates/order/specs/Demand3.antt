@@ -5,13 +5,12 @@ use mathlib.Core.List.{List, [], _∷_, _++_, map}
 use Prim.Native.Nat.{ℕ}
 use lib.Dec.{eqb, leb}
 use lib.ListN.{length, take}
-use Rattle.octets.specs.Choice.{pick, require, firstOf, within}
+use Rattle.octets.specs.Choice.{pick, require, firstOf}
 use Rattle.octets.specs.Lists.{keep}
 use Rattle.octets.specs.Texts.{same, put}
-use Rattle.message.specs.CallsThatGetNoAnswer.{messageNumber}
 use Rattle.message.specs.ReadingAMessage.{Reading, refused, request, read, headerCode, walkCode, command, avps, startsWith, sessionId, userName, valueOf, fieldCode, fields}
 use Rattle.table.specs.TheTable.{Found, row, nothing, lookup, rowAt}
-use Rattle.rules.specs.Calls.{Call, Result, Reply, Left, handle, run, answerLeast, noticeLength}
+use Rattle.rules.specs.Calls.{Call, Result, Reply, Left, ownTests, handle, run, answerLeast, noticeLength}
 
 -- WHOSE A CALL IS
 
@@ -27,13 +26,7 @@ sameSubject (subscriber m) (subscriber n) = same m n
 
 -- The tests that get no answer and do not look at the table: numbers 2 to 8, in order, 0 where none fails.
 unfoldable pub ownNumber : Call → ℕ
-ownNumber c =
-    firstOf
-    (require (within 1 128 (length (c .host)) && within 1 128 (length (c .realm))) 2
-    ∷ require (leb answerLeast (length (c .answer))) 3
-    ∷ require (leb noticeLength (length (c .notice))) 4
-    ∷ messageNumber (c .message)
-    ∷ [])
+ownNumber c = firstOf (ownTests c)
 
 -- A message that is refused as it is read is nobody's; any other is that of the User-Name in it.
 unfoldable pub sentBy : Reading → Subject

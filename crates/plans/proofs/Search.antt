@@ -15,15 +15,12 @@ use Rattle.octets.specs.Lists.{every, keep, firstOr, upTo0, isOn}
 use Rattle.octets.specs.Texts.{allZero}
 use Rattle.octets.proofs.Lists.{by-test, and-left, and-right, within-low, on-first}
 use Rattle.octets.proofs.Texts.{zero-cons}
-use Rattle.table.specs.TheTable.{block, lineRoom, orderLine, rowLength}
+use Rattle.table.specs.TheTable.{block, lineRoom, orderLine}
 use Rattle.table.specs.Soundness.{sound, zeroBehind}
 use Rattle.table.proofs.Form.{up-to-length}
 use Rattle.table.proofs.Sound.{clauses, head-of, on-more}
 
 -- THE LINE
-
-pub size : (r : List ℕ) → sound r ≡ true → length r ≡ rowLength
-size r h = (clauses r h) .size
 
 pub all-in : (r : List ℕ) → sound r ≡ true → every (within 1 8) (orderLine r) ≡ true
 all-in r h = (clauses r h) .line-in

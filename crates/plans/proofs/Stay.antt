@@ -7,10 +7,8 @@ use native.Mathlib.Omega.{arith}
 use borrow.Author.Tests.{leb-true, ltb-true, ltb-false, eqb-true, eqb-false, eq-eqb, not-true, not-false}
 use lib.Dec.{eqb, leb, ltb}
 use lib.ListN.{length, getD, length-append, List·getD-map}
-use Rattle.changes.specs.Changes.{freed, leave, vacant}
+use Rattle.changes.specs.Changes.{freed, leave}
 use Rattle.changes.proofs.Keep.{good-freed, good-opened, good-routed}
-use Rattle.changes.proofs.Stays.{MayOpen}
-use Rattle.changes.specs.Changes.{freed, leave, vacant}
 use Rattle.message.specs.ReadingAMessage.{Ask, policy, termination, tunnel}
 use Rattle.octets.specs.Choice.{pick, within}
 use Rattle.octets.specs.Lists.{every, firstOr, keep, sumOf}
@@ -18,7 +16,6 @@ use Rattle.octets.specs.Texts.{same}
 use Rattle.table.specs.Answers.{found}
 use Rattle.table.specs.Soundness.{limits, onEntry, sameLabel, sessions, underLimits}
 use Rattle.table.specs.TheTable.{Access, Entry, Subscriber, line}
-use Rattle.changes.proofs.Keep.{good-freed, good-opened, good-routed}
 use Rattle.changes.proofs.Stays.{MayOpen, under-snoc}
 use Rattle.rules.specs.Deciding.{Verdict, admit, atLimit, decide, entryAt, entryFrom, entryNamed, firstOn, grant, heldAlready, noEntry, none, openOn, placeOf, refuse, terminate, type0, type1, withSession}
 use Rattle.octets.proofs.Choice.{by-pick}
@@ -40,21 +37,6 @@ leave-on n k a = keep-comm _ _ a
 pub cut-below : (n : ℕ) (a : List Access) → 1 ≤ length (onEntry n a) → length (onEntry n (leave (firstOn n a) a)) < length (onEntry n a)
 unfolding firstOn placeOf
 cut-below n a h = rw leave-on (first-leaves (onEntry n a) h)
-
--- that place is in use
-in-line : (xs : List Access) → 1 ≤ length xs → vacant xs (firstOr 0 (line xs)) ≡ false
-unfolding vacant line firstOr every
-in-line [] h = absurd (omega arith)
-in-line (x ∷ xs) h = rw (eq-eqb (x .place) (x .place) refl)
-
-pub cut-in-use : (n : ℕ) (a : List Access) → 1 ≤ length (onEntry n a) → vacant a (firstOn n a) ≡ false
-unfolding firstOn placeOf onEntry vacant
-cut-in-use n a h =
-    by-test (vacant a (firstOn n a))
-    (λ v. let w : vacant (onEntry n a) (firstOn n a) ≡ true = every-keep _ _ a v in
-    let z : vacant (onEntry n a) (firstOn n a) ≡ false = in-line (onEntry n a) h in
-    cc)
-    (λ v. v)
 
 sids-keep : (f : Access → Bool) (g : List ℕ → Bool) (a : List Access) → every g (sessions a) ≡ true → every g (sessions (keep f a)) ≡ true
 unfolding sessions

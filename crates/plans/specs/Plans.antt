@@ -7,20 +7,31 @@ use lib.ListN.{length}
 use Rattle.octets.specs.Choice.{pick, within}
 use Rattle.octets.specs.Lists.{isOn}
 use Rattle.message.specs.ReadingAMessage.{Ask, tunnel, policy, termination}
-use Rattle.message.specs.Codes.{plain, roamingNotAllowed, unusedByUser, noSubscription}
+use Rattle.message.specs.Codes.{Code, plain, roamingNotAllowed, unusedByUser, noSubscription}
 use Rattle.table.specs.TheTable.{Subscriber, orderLine, readRow}
 use Rattle.changes.specs.Changes.{freed, routed}
 use Rattle.plans.specs.declared.Plan.{Plan}
 use Rattle.plans.specs.declared.Plan.the-variants.{NotSubscribed, Barred, RoamingNotAllowed, UnableToComply, UnusedByUser, Open, Route, Free}
 use Rattle.rules.specs.Deciding.{Verdict, refuse, grant, openOn, atPlace}
 
+-- The code of a plan: a refusal's own, and 2001 for a change.
+unfoldable pub planCode : Plan → Code
+planCode NotSubscribed = noSubscription
+planCode Barred = plain 5003
+planCode RoamingNotAllowed = roamingNotAllowed
+planCode UnableToComply = plain 5012
+planCode UnusedByUser = unusedByUser
+planCode (Open n cut) = plain 2001
+planCode (Route k) = plain 2001
+planCode (Free k) = plain 2001
+
 -- The verdict that a plan stands for, for a request that brings these texts.
 unfoldable pub planned : (session host route : List ℕ) → Plan → Subscriber → Verdict
-planned session host route NotSubscribed s = refuse noSubscription s
-planned session host route Barred s = refuse (plain 5003) s
-planned session host route RoamingNotAllowed s = refuse roamingNotAllowed s
-planned session host route UnableToComply s = refuse (plain 5012) s
-planned session host route UnusedByUser s = refuse unusedByUser s
+planned session host route NotSubscribed s = refuse (planCode NotSubscribed) s
+planned session host route Barred s = refuse (planCode Barred) s
+planned session host route RoamingNotAllowed s = refuse (planCode RoamingNotAllowed) s
+planned session host route UnableToComply s = refuse (planCode UnableToComply) s
+planned session host route UnusedByUser s = refuse (planCode UnusedByUser) s
 planned session host route (Open n cut) s =
     pick (eqb cut 0) (openOn n session host [] s) (openOn n session host (atPlace cut (s .accesses)) (freed cut s))
 planned session host route (Route k) s = grant (routed k route s)

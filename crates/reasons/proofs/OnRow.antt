@@ -20,9 +20,8 @@ use Rattle.rules.specs.Calls.{Call, callNumber}
 use Rattle.plans.specs.declared.Plan.{Plan}
 use Rattle.plans.specs.declared.Plan.the-variants.{NotSubscribed, Barred, RoamingNotAllowed, UnableToComply, UnusedByUser, Open, Route, Free}
 use Rattle.plans.proofs.Plan.{the-type}
-use Rattle.plans.specs.Plans.{planned}
-use Rattle.decision.specs.Outcomes.{planKind, planCode}
-use Rattle.decision.proofs.Answered.{number-from, plan-code}
+use Rattle.plans.specs.Plans.{planned, planCode}
+use Rattle.decision.proofs.Answered.{plan-code}
 use Rattle.order.specs.ChecksInOrder.{Check, pass, fail, noRow, unsoundRow, notEntered, entryBarred, mayNotRoam, sessionHeld, noAccess, gatewaySaysNo, unused, check, firstFailed, readingChecks, decidingChecks}
 use Rattle.order.specs.Demand2.{requestIn, found, rowFound, rowBefore, checks}
 use Rattle.order.proofs.Read.{reading-gives}
@@ -34,9 +33,9 @@ use Rattle.reasons.proofs.Laws.{gives-first, gives-past}
 -- DECIDING
 
 -- the number of a plan's code is that of its verdict
-plan-number : (session host route : List ℕ) (p : Plan) (s : Subscriber) (v : Verdict) → planned session host route p s ≡ v → planCode p ≡ numberOf (v .code)
+plan-number : (session host route : List ℕ) (p : Plan) (s : Subscriber) (v : Verdict) → planned session host route p s ≡ v → numberOf (planCode p) ≡ numberOf (v .code)
 plan-number session host route p s v e =
-    sym (number-from (planKind p) (planCode p)) ∙ ap numberOf (sym (plan-code session host route p s) ∙ ap (λ (x : Verdict). x .code) e)
+    ap numberOf (sym (plan-code session host route p s) ∙ ap (λ (x : Verdict). x .code) e)
 
 -- each code of a tunnel's refusals is that of one check
 unfoldable pub tunnelEntry : ℕ → Check
@@ -61,11 +60,11 @@ module _ (session host label : List ℕ) (visited wag : Bool) (s : Subscriber) w
       (λ e. rw (a, b, d, e)))))
 
   pub tunnel-planned : (route : List ℕ) (p : Plan) → planned session host route p s ≡ type0 session host label visited s
-      → tunnelEntry (planCode p) ≡ firstFailed (decidingChecks (tunnel session host label visited) wag s)
+      → tunnelEntry (numberOf (planCode p)) ≡ firstFailed (decidingChecks (tunnel session host label visited) wag s)
   tunnel-planned route p e = ap tunnelEntry (plan-number session host route p s _ e) ∙ tunnel-entry
 
-pub tunnel-passes : (p : Plan) → OneOf (4 ∷ 5 ∷ 6 ∷ 7 ∷ []) (tagOf the-type p) → pass ≡ tunnelEntry (planCode p)
-unfolding tunnelEntry planCode pick
+pub tunnel-passes : (p : Plan) → OneOf (4 ∷ 5 ∷ 6 ∷ 7 ∷ []) (tagOf the-type p) → pass ≡ tunnelEntry (numberOf (planCode p))
+unfolding tunnelEntry planCode numberOf pick
 tunnel-passes NotSubscribed o = absurd (miss (4 ∷ 5 ∷ 6 ∷ 7 ∷ []) 0 tt o)
 tunnel-passes Barred o = absurd (miss (4 ∷ 5 ∷ 6 ∷ 7 ∷ []) 1 tt o)
 tunnel-passes RoamingNotAllowed o = absurd (miss (4 ∷ 5 ∷ 6 ∷ 7 ∷ []) 2 tt o)
@@ -86,11 +85,11 @@ module _ (session route : List ℕ) (s : Subscriber) where
   policy-entry false = by-test (none (withSession session (s .accesses))) (λ a. rw a) (λ a. rw a)
 
   pub policy-planned : (host : List ℕ) (wag : Bool) (p : Plan) → planned session host route p s ≡ type1 session route true s
-      → policyEntry wag (planCode p) ≡ firstFailed (decidingChecks (policy session route) wag s)
+      → policyEntry wag (numberOf (planCode p)) ≡ firstFailed (decidingChecks (policy session route) wag s)
   policy-planned host wag p e = ap (policyEntry wag) (plan-number session host route p s _ e) ∙ policy-entry wag
 
-pub policy-goes : (wag : Bool) (p : Plan) → OneOf (0 ∷ 1 ∷ 2 ∷ 4 ∷ 5 ∷ 6 ∷ 7 ∷ []) (tagOf the-type p) → check gatewaySaysNo wag (plain 5012) ≡ policyEntry wag (planCode p)
-unfolding policyEntry planCode pick
+pub policy-goes : (wag : Bool) (p : Plan) → OneOf (0 ∷ 1 ∷ 2 ∷ 4 ∷ 5 ∷ 6 ∷ 7 ∷ []) (tagOf the-type p) → check gatewaySaysNo wag (plain 5012) ≡ policyEntry wag (numberOf (planCode p))
+unfolding policyEntry planCode numberOf pick
 policy-goes wag NotSubscribed o = refl
 policy-goes wag Barred o = refl
 policy-goes wag RoamingNotAllowed o = refl
@@ -110,11 +109,11 @@ module _ (session label : List ℕ) (wag : Bool) (s : Subscriber) where
   end-entry = by-test (none (withSession session (onEntry (entryNamed label s) (s .accesses)))) (λ a. rw a) (λ a. rw a)
 
   pub end-planned : (host route : List ℕ) (p : Plan) → planned session host route p s ≡ terminate session label s
-      → endEntry (planCode p) ≡ firstFailed (decidingChecks (termination session label) wag s)
+      → endEntry (numberOf (planCode p)) ≡ firstFailed (decidingChecks (termination session label) wag s)
   end-planned host route p e = ap endEntry (plan-number session host route p s _ e) ∙ end-entry
 
-pub end-passes : (p : Plan) → OneOf (0 ∷ 1 ∷ 2 ∷ 3 ∷ 5 ∷ 6 ∷ 7 ∷ []) (tagOf the-type p) → pass ≡ endEntry (planCode p)
-unfolding endEntry planCode pick
+pub end-passes : (p : Plan) → OneOf (0 ∷ 1 ∷ 2 ∷ 3 ∷ 5 ∷ 6 ∷ 7 ∷ []) (tagOf the-type p) → pass ≡ endEntry (numberOf (planCode p))
+unfolding endEntry planCode numberOf pick
 end-passes NotSubscribed o = refl
 end-passes Barred o = refl
 end-passes RoamingNotAllowed o = refl

@@ -57,17 +57,19 @@ answerLeast = 5120
 abbrev pub noticeLength : ℕ
 noticeLength = 256
 
--- In order: 1, the table is not 1 to 1,024 rows; 2, the own host or realm is not 1 to 128 bytes; 3, the answer room is
--- under 5,120 bytes; 4, the notice room is under 256; then the message's own, 5 to 8. 0 where none fails.
-unfoldable pub callNumber : List ℕ → Call → ℕ
-callNumber t c =
-    firstOf
-    (tableNumber t
-    ∷ require (within 1 128 (length (c .host)) && within 1 128 (length (c .realm))) 2
+-- The tests that do not look at the table, in order: 2, the own host or realm is not 1 to 128 bytes; 3, the answer room is under
+-- 5,120 bytes; 4, the notice room is under 256; then the message's own, 5 to 8.
+abbrev pub ownTests : Call → List ℕ
+ownTests c =
+    require (within 1 128 (length (c .host)) && within 1 128 (length (c .realm))) 2
     ∷ require (leb answerLeast (length (c .answer))) 3
     ∷ require (leb noticeLength (length (c .notice))) 4
     ∷ messageNumber (c .message)
-    ∷ [])
+    ∷ []
+
+-- Before them 1, the table is not 1 to 1,024 rows. 0 where none fails.
+unfoldable pub callNumber : List ℕ → Call → ℕ
+callNumber t c = firstOf (tableNumber t ∷ ownTests c)
 
 -- What such a call leaves: its number as the code, of kind 0, and 0 for everything else; rooms and table as they were.
 unfoldable pub silent : List ℕ → Call → ℕ → Left
@@ -109,12 +111,15 @@ reply c code place cut =
 unfoldable pub refusal : List ℕ → Call → Code → Left
 refusal t c code = record { reply = reply c code 0 []; table = t }
 
--- The row that a verdict leaves: the bytes of what it says then; every code but 2001 leaves the table as it was.
+-- The table that a verdict on row i leaves: that row is the bytes of what it says then; every code but 2001 leaves the table as it was.
+unfoldable pub tableAfter : List ℕ → ℕ → Verdict → List ℕ
+tableAfter t i v = pick (eqb (numberOf (v .code)) 2001) (withRow t i (rowBytes (v .after))) t
+
 unfoldable pub settled : List ℕ → Call → ℕ → Verdict → Left
 settled t c i v =
     record {
       reply = reply c (v .code) (v .place) (v .cut);
-      table = pick (eqb (numberOf (v .code)) 2001) (withRow t i (rowBytes (v .after))) t;
+      table = tableAfter t i v;
     }
 
 -- Any request: no row, USER_UNKNOWN; the row is unsound, 5012; else as decided.

@@ -14,12 +14,12 @@ use Rattle.message.specs.Codes.{numberOf}
 use Rattle.table.specs.TheTable.{orderLine, readRow, rowAt}
 use Rattle.plans.specs.declared.Plan.the-variants.{Open, Route, Free}
 use Rattle.rules.specs.Deciding.{refuse, grant, openOn}
-use Rattle.rules.specs.Calls.{noticeRoom}
-use Rattle.plans.specs.Plans.{planned, fitPlan}
+use Rattle.rules.specs.Calls.{noticeRoom, tableAfter}
+use Rattle.plans.specs.Plans.{planned, planCode, fitPlan}
 use borrow.Author.Needs.{needs}
 use Rattle.effects.proofs.carry.Statement.{statement}
 use Rattle.effects.proofs.carry.Tie as tie
-use Rattle.effects.specs.Carrying.{cutFor, doneFor, tableAfter}
+use Rattle.effects.specs.Carrying.{cutFor, doneFor}
 
 enum-known-plan : tie.Need-enum-known-plan
 enum-known-plan c = search needs
@@ -58,7 +58,7 @@ same-length : tie.Need-same-length
 same-length c = search needs
 
 returns : tie.Need-returns
-unfolding planned refuse grant openOn tableAfter noticeRoom doneFor cutFor pick numberOf
+unfolding planned planCode refuse grant openOn tableAfter noticeRoom doneFor cutFor pick numberOf
 returns c =
     let is = c .before .before .before .before .before .before .plan .given .1 in
     let zero : eqb (c .before .before .before .before .before .before .plan .given .0 .1 .0) 0 ≡ true = eq-eqb _ 0 (c .before .before .before .before .if1 .taken) in
@@ -88,7 +88,7 @@ same-length-3 : tie.Need-same-length-3
 same-length-3 c = search needs
 
 returns-2 : tie.Need-returns-2
-unfolding planned refuse grant openOn tableAfter doneFor pick numberOf
+unfolding planned planCode refuse grant openOn tableAfter doneFor pick numberOf
 returns-2 c =
     let is = c .before .before .before .before .before .before .before .before .before .plan .given .1 in
     let some : eqb (c .before .before .before .before .before .before .before .before .before .plan .given .0 .1 .0) 0 ≡ false = ne-eqb _ 0 (c .before .before .before .before .before .before .before .if1 .left) in
@@ -116,7 +116,7 @@ same-length-4 : tie.Need-same-length-4
 same-length-4 c = search needs
 
 returns-3 : tie.Need-returns-3
-unfolding planned refuse grant openOn tableAfter noticeRoom doneFor cutFor pick numberOf
+unfolding planned planCode refuse grant openOn tableAfter noticeRoom doneFor cutFor pick numberOf
 returns-3 c =
     let start = c .before .before .before .before .before .before .before .before .before .before .before .before .before in
     let is = c .before .before .before .before .before .before .plan2 .given .1 in
@@ -141,7 +141,7 @@ same-length-5 : tie.Need-same-length-5
 same-length-5 c = search needs
 
 returns-4 : tie.Need-returns-4
-unfolding planned refuse grant openOn tableAfter noticeRoom doneFor cutFor pick numberOf
+unfolding planned planCode refuse grant openOn tableAfter noticeRoom doneFor cutFor pick numberOf
 returns-4 c =
     let start = c .before .before .before .before .before .before .before .before .before .before .before .before .before in
     let is = c .before .before .before .before .before .before .plan3 .given .1 in
@@ -154,7 +154,7 @@ nothing-requires-3 : tie.Need-nothing-requires-3
 nothing-requires-3 c κs = search needs
 
 returns-5 : tie.Need-returns-5
-unfolding planned refuse grant openOn tableAfter noticeRoom doneFor cutFor pick numberOf
+unfolding planned planCode refuse grant openOn tableAfter noticeRoom doneFor cutFor pick numberOf
 returns-5 c =
     let is = c .before .enum-told .given .1 in
     rw is (refl, refl, c .nothing3 .ensures)
@@ -166,7 +166,7 @@ nothing-requires-4 : tie.Need-nothing-requires-4
 nothing-requires-4 c κs = search needs
 
 returns-6 : tie.Need-returns-6
-unfolding planned refuse grant openOn tableAfter noticeRoom doneFor cutFor pick numberOf
+unfolding planned planCode refuse grant openOn tableAfter noticeRoom doneFor cutFor pick numberOf
 returns-6 c =
     let is = c .before .enum-told2 .given .1 in
     rw is (refl, refl, c .nothing4 .ensures)
@@ -178,7 +178,7 @@ nothing-requires-5 : tie.Need-nothing-requires-5
 nothing-requires-5 c κs = search needs
 
 returns-7 : tie.Need-returns-7
-unfolding planned refuse grant openOn tableAfter noticeRoom doneFor cutFor pick numberOf
+unfolding planned planCode refuse grant openOn tableAfter noticeRoom doneFor cutFor pick numberOf
 returns-7 c =
     let is = c .before .enum-told3 .given .1 in
     rw is (refl, refl, c .nothing5 .ensures)
@@ -190,7 +190,7 @@ nothing-requires-6 : tie.Need-nothing-requires-6
 nothing-requires-6 c κs = search needs
 
 returns-8 : tie.Need-returns-8
-unfolding planned refuse grant openOn tableAfter noticeRoom doneFor cutFor pick numberOf
+unfolding planned planCode refuse grant openOn tableAfter noticeRoom doneFor cutFor pick numberOf
 returns-8 c =
     let is = c .before .enum-told4 .given .1 in
     rw is (refl, refl, c .nothing6 .ensures)
@@ -202,7 +202,7 @@ nothing-requires-7 : tie.Need-nothing-requires-7
 nothing-requires-7 c κs = search needs
 
 returns-9 : tie.Need-returns-9
-unfolding planned refuse grant openOn tableAfter noticeRoom doneFor cutFor pick numberOf
+unfolding planned planCode refuse grant openOn tableAfter noticeRoom doneFor cutFor pick numberOf
 returns-9 c =
     let is = c .before .enum-told5 .given .1 in
     rw is (refl, refl, c .nothing7 .ensures)

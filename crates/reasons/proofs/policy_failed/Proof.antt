@@ -5,7 +5,8 @@ use Rattle.order.specs.ChecksInOrder.{check, gatewaySaysNo}
 use Rattle.message.specs.Codes.{plain}
 use Rattle.octets.specs.Choice.{pick}
 use Rattle.plans.specs.declared.Plan.{Plan}
-use Rattle.decision.specs.Outcomes.{planCode}
+use Rattle.message.specs.Codes.{numberOf}
+use Rattle.plans.specs.Plans.{planCode}
 use Rattle.table.specs.TheTable.{readRow}
 use Rattle.reasons.specs.Reasons.{checkNamed}
 use Rattle.reasons.proofs.OnRow.{policyEntry, policy-planned, policy-goes}
@@ -20,12 +21,12 @@ enum-told : tie.Need-enum-told
 enum-told c = search needs
 
 returns : tie.Need-returns
-unfolding checkNamed policyEntry planCode pick
+unfolding checkNamed policyEntry planCode numberOf pick
 returns c =
     let a = c .before .before .before .before .before .args in
     let p = c .before .before .plan-policy in
     λ route.
-    ap (λ (x : Plan). policyEntry (a .wag) (planCode x)) (sym (c .enum-told .given .1))
+    ap (λ (x : Plan). policyEntry (a .wag) (numberOf (planCode x))) (sym (c .enum-told .given .1))
     ∙ policy-planned (a .session .now) route (readRow (a .row .now)) [] (a .wag) (p .result) (p .ensures .0 [] route)
 
 returns-2 : tie.Need-returns-2

@@ -3,7 +3,8 @@ use mathlib.Core.Path.{sym, ap, _∙_}
 use mathlib.Core.List.{[]}
 use Rattle.octets.specs.Choice.{pick}
 use Rattle.plans.specs.declared.Plan.{Plan}
-use Rattle.decision.specs.Outcomes.{planCode}
+use Rattle.message.specs.Codes.{numberOf}
+use Rattle.plans.specs.Plans.{planCode}
 use Rattle.table.specs.TheTable.{readRow}
 use Rattle.reasons.specs.Reasons.{checkNamed}
 use Rattle.reasons.proofs.OnRow.{endEntry, end-planned, end-passes}
@@ -18,12 +19,12 @@ enum-told : tie.Need-enum-told
 enum-told c = search needs
 
 returns : tie.Need-returns
-unfolding checkNamed endEntry planCode pick
+unfolding checkNamed endEntry planCode numberOf pick
 returns c =
     let a = c .before .before .before .before .before .before .args in
     let p = c .before .before .plan-termination in
     λ wag.
-    ap (λ (x : Plan). endEntry (planCode x)) (sym (c .enum-told .given .1))
+    ap (λ (x : Plan). endEntry (numberOf (planCode x))) (sym (c .enum-told .given .1))
     ∙ end-planned (a .session .now) (a .label .now) wag (readRow (a .row .now)) [] [] (p .result) (p .ensures .0 [] [])
 
 returns-2 : tie.Need-returns-2

@@ -3,7 +3,8 @@ use mathlib.Core.Path.{sym, ap, _∙_}
 use mathlib.Core.List.{[]}
 use Rattle.octets.specs.Choice.{pick}
 use Rattle.plans.specs.declared.Plan.{Plan}
-use Rattle.decision.specs.Outcomes.{planCode}
+use Rattle.message.specs.Codes.{numberOf}
+use Rattle.plans.specs.Plans.{planCode}
 use Rattle.table.specs.TheTable.{readRow}
 use Rattle.reasons.specs.Reasons.{checkNamed}
 use Rattle.reasons.proofs.OnRow.{tunnelEntry, tunnel-planned, tunnel-passes}
@@ -27,39 +28,39 @@ enum-told-4 : tie.Need-enum-told-4
 enum-told-4 c = search needs
 
 returns : tie.Need-returns
-unfolding checkNamed tunnelEntry planCode pick
+unfolding checkNamed tunnelEntry planCode numberOf pick
 returns c =
     let a = c .before .before .before .before .before .before .args in
     let p = c .before .before .plan-tunnel in
     λ host wag.
-    ap (λ (x : Plan). tunnelEntry (planCode x)) (sym (c .enum-told .given .1))
+    ap (λ (x : Plan). tunnelEntry (numberOf (planCode x))) (sym (c .enum-told .given .1))
     ∙ tunnel-planned (a .session .now) host (a .label .now) (a .visited) wag (readRow (a .row .now)) [] (p .result) (p .ensures .0 host [])
 
 returns-2 : tie.Need-returns-2
-unfolding checkNamed tunnelEntry planCode pick
+unfolding checkNamed tunnelEntry planCode numberOf pick
 returns-2 c =
     let a = c .before .before .before .before .before .before .args in
     let p = c .before .before .plan-tunnel in
     λ host wag.
-    ap (λ (x : Plan). tunnelEntry (planCode x)) (sym (c .enum-told2 .given .1))
+    ap (λ (x : Plan). tunnelEntry (numberOf (planCode x))) (sym (c .enum-told2 .given .1))
     ∙ tunnel-planned (a .session .now) host (a .label .now) (a .visited) wag (readRow (a .row .now)) [] (p .result) (p .ensures .0 host [])
 
 returns-3 : tie.Need-returns-3
-unfolding checkNamed tunnelEntry planCode pick
+unfolding checkNamed tunnelEntry planCode numberOf pick
 returns-3 c =
     let a = c .before .before .before .before .before .before .args in
     let p = c .before .before .plan-tunnel in
     λ host wag.
-    ap (λ (x : Plan). tunnelEntry (planCode x)) (sym (c .enum-told3 .given .1))
+    ap (λ (x : Plan). tunnelEntry (numberOf (planCode x))) (sym (c .enum-told3 .given .1))
     ∙ tunnel-planned (a .session .now) host (a .label .now) (a .visited) wag (readRow (a .row .now)) [] (p .result) (p .ensures .0 host [])
 
 returns-4 : tie.Need-returns-4
-unfolding checkNamed tunnelEntry planCode pick
+unfolding checkNamed tunnelEntry planCode numberOf pick
 returns-4 c =
     let a = c .before .before .before .before .before .before .args in
     let p = c .before .before .plan-tunnel in
     λ host wag.
-    ap (λ (x : Plan). tunnelEntry (planCode x)) (sym (c .enum-told4 .given .1))
+    ap (λ (x : Plan). tunnelEntry (numberOf (planCode x))) (sym (c .enum-told4 .given .1))
     ∙ tunnel-planned (a .session .now) host (a .label .now) (a .visited) wag (readRow (a .row .now)) [] (p .result) (p .ensures .0 host [])
 
 returns-5 : tie.Need-returns-5

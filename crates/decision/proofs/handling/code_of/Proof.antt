@@ -1,6 +1,7 @@
 -- Case by case of the plan.
 use Prim.Native.Nat.{_-_}
-use Rattle.decision.specs.Outcomes.{planCode}
+use Rattle.message.specs.Codes.{numberOf}
+use Rattle.plans.specs.Plans.{planCode}
 use borrow.Author.Needs.{needs}
 use Rattle.decision.proofs.handling.code_of.Statement.{statement}
 use Rattle.decision.proofs.handling.code_of.Tie as tie
@@ -30,35 +31,35 @@ enum-known-plan-3 : tie.Need-enum-known-plan-3
 enum-known-plan-3 c = search needs
 
 returns : tie.Need-returns
-unfolding planCode
+unfolding planCode numberOf
 returns c = rw (c .enum-told .given .1)
 
 returns-2 : tie.Need-returns-2
-unfolding planCode
+unfolding planCode numberOf
 returns-2 c = rw (c .enum-told2 .given .1)
 
 returns-3 : tie.Need-returns-3
-unfolding planCode
+unfolding planCode numberOf
 returns-3 c = rw (c .enum-told3 .given .1)
 
 returns-4 : tie.Need-returns-4
-unfolding planCode
+unfolding planCode numberOf
 returns-4 c = rw (c .enum-told4 .given .1)
 
 returns-5 : tie.Need-returns-5
-unfolding planCode
+unfolding planCode numberOf
 returns-5 c = rw (c .enum-told5 .given .1)
 
 returns-6 : tie.Need-returns-6
-unfolding planCode
+unfolding planCode numberOf
 returns-6 c = rw (c .before .plan .given .1)
 
 returns-7 : tie.Need-returns-7
-unfolding planCode
+unfolding planCode numberOf
 returns-7 c = rw (c .before .plan2 .given .1)
 
 returns-8 : tie.Need-returns-8
-unfolding planCode
+unfolding planCode numberOf
 returns-8 c = rw (c .before .plan3 .given .1)
 
 pub code-of-spec : {M : Type 1} → statement M

@@ -1,6 +1,8 @@
 -- Case by case of the plan.
 use Prim.Native.Nat.{_-_}
-use Rattle.decision.specs.Outcomes.{planKind}
+use Rattle.message.specs.Codes.{numberOf}
+use Rattle.message.specs.Kinds.{codeFrom}
+use Rattle.plans.specs.Plans.{planCode}
 use borrow.Author.Needs.{needs}
 use Rattle.decision.proofs.handling.kind_of.Statement.{statement}
 use Rattle.decision.proofs.handling.kind_of.Tie as tie
@@ -30,35 +32,35 @@ enum-known-plan-3 : tie.Need-enum-known-plan-3
 enum-known-plan-3 c = search needs
 
 returns : tie.Need-returns
-unfolding planKind
+unfolding planCode numberOf codeFrom
 returns c = rw (c .enum-told .given .1)
 
 returns-2 : tie.Need-returns-2
-unfolding planKind
+unfolding planCode numberOf codeFrom
 returns-2 c = rw (c .enum-told2 .given .1)
 
 returns-3 : tie.Need-returns-3
-unfolding planKind
+unfolding planCode numberOf codeFrom
 returns-3 c = rw (c .enum-told3 .given .1)
 
 returns-4 : tie.Need-returns-4
-unfolding planKind
+unfolding planCode numberOf codeFrom
 returns-4 c = rw (c .enum-told4 .given .1)
 
 returns-5 : tie.Need-returns-5
-unfolding planKind
+unfolding planCode numberOf codeFrom
 returns-5 c = rw (c .enum-told5 .given .1)
 
 returns-6 : tie.Need-returns-6
-unfolding planKind
+unfolding planCode numberOf codeFrom
 returns-6 c = rw (c .before .plan .given .1)
 
 returns-7 : tie.Need-returns-7
-unfolding planKind
+unfolding planCode numberOf codeFrom
 returns-7 c = rw (c .before .plan2 .given .1)
 
 returns-8 : tie.Need-returns-8
-unfolding planKind
+unfolding planCode numberOf codeFrom
 returns-8 c = rw (c .before .plan3 .given .1)
 
 pub kind-of-spec : {M : Type 1} → statement M

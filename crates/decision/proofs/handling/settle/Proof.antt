@@ -2,8 +2,8 @@
 use Rattle.message.specs.Kinds.{codeFrom}
 use Rattle.rules.specs.Deciding.{Verdict, decide}
 use Rattle.plans.specs.Plans.{planned, fitPlan}
-use Rattle.rules.specs.Calls.{noticeRoom}
-use Rattle.effects.specs.Carrying.{doneFor, tableAfter}
+use Rattle.rules.specs.Calls.{noticeRoom, tableAfter}
+use Rattle.effects.specs.Carrying.{doneFor}
 use Rattle.decision.specs.Outcomes.{sessionText, hostText, routeText}
 use mathlib.Core.Path.{_≡_, refl, sym, ap, _∙_}
 use mathlib.Core.Bool.{true}
@@ -38,7 +38,7 @@ returns c =
     let kind = c .before .kind-of .ensures in
     let code = c .code-of .ensures in
     let coded : v .code ≡ codeFrom (c .before .kind-of .result) (c .code-of .result) =
-    ap (λ (x : Verdict). x .code) (sym by) ∙ plan-code (sessionText m (a .asked)) (hostText m (a .asked)) (routeText m (a .asked)) plan s ∙ (λ j. codeFrom (sym kind j) (sym code j)) in (
+    ap (λ (x : Verdict). x .code) (sym by) ∙ plan-code (sessionText m (a .asked)) (hostText m (a .asked)) (routeText m (a .asked)) plan s ∙ kind ∙ ap (codeFrom (c .before .kind-of .result)) (sym code) in (
       record {
         holds = λ e. user-holds m (a .user) (start .pre .4) (asks m (a .asked)) (start .pre .5);
         short = λ e. user-short m (a .user) (start .pre .4) (asks m (a .asked)) (start .pre .5);

@@ -2,7 +2,7 @@
 use Rattle.table.specs.Soundness.{onEntry}
 use Rattle.table.specs.TheTable.{readRow}
 use Rattle.rules.specs.Deciding.{firstOn, entryAt}
-use Rattle.changes.proofs.Rows.{row-size}
+use Rattle.row.proofs.Entries.{size-of}
 use Rattle.plans.proofs.Found.{line-sound}
 use Rattle.plans.proofs.Verdicts.{opens, cuts, one-to-cut, fit-open, fit-cut}
 use mathlib.Core.Path.{_≡_}
@@ -14,7 +14,7 @@ use Rattle.plans.proofs.planning.plan_opening.Statement.{statement}
 use Rattle.plans.proofs.planning.plan_opening.Tie as tie
 
 accesses-on-requires : tie.Need-accesses-on-requires
-accesses-on-requires c κs = let p = c .before .pre in (row-size (c .before .args .row .now) (p .0), line-sound (c .before .args .row .now) (p .0))
+accesses-on-requires c κs = let p = c .before .pre in (size-of (c .before .args .row .now) (p .0), line-sound (c .before .args .row .now) (p .0))
 
 limit-of-requires : tie.Need-limit-of-requires
 limit-of-requires c κs = search needs

@@ -6,7 +6,7 @@ use lib.Dec.{eqb}
 use borrow.Author.Tests.{eq-eqb, ne-eqb}
 use Rattle.table.specs.TheTable.{readRow}
 use Rattle.rules.specs.Deciding.{none, withSession, placeOf}
-use Rattle.plans.specs.Plans.{planned}
+use Rattle.plans.specs.Plans.{planned, planCode}
 use Rattle.plans.proofs.Found.{none-with}
 use Rattle.plans.proofs.Verdicts.{no-access, gateway-no, gateway-yes, fit-place}
 use mathlib.Core.Path.{_≡_, refl, sym, ap, _∙_}
@@ -19,7 +19,7 @@ place-of-requires : tie.Need-place-of-requires
 place-of-requires c κs = search needs
 
 returns : tie.Need-returns
-unfolding planned fitPlan
+unfolding planned planCode fitPlan
 returns c =
     let start = c .before .before .before .before in
     let a = start .args in
@@ -32,7 +32,7 @@ returns c =
     )
 
 returns-2 : tie.Need-returns-2
-unfolding planned fitPlan
+unfolding planned planCode fitPlan
 returns-2 c =
     let start = c .before .before .before .before .before in
     let a = start .args in
@@ -46,7 +46,7 @@ returns-2 c =
     )
 
 returns-3 : tie.Need-returns-3
-unfolding planned fitPlan
+unfolding planned planCode fitPlan
 returns-3 c =
     let start = c .before .before .before .before .before in
     let a = start .args in

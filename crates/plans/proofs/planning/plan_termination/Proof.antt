@@ -5,7 +5,7 @@ use borrow.Author.Tests.{eq-eqb, ne-eqb}
 use Rattle.table.specs.TheTable.{readRow}
 use Rattle.table.specs.Soundness.{onEntry}
 use Rattle.rules.specs.Deciding.{none, withSession, placeOf, entryNamed}
-use Rattle.plans.specs.Plans.{planned}
+use Rattle.plans.specs.Plans.{planned, planCode}
 use Rattle.plans.proofs.Found.{none-ended}
 use Rattle.plans.proofs.Verdicts.{not-used, is-ended, fit-ended}
 use mathlib.Core.Path.{_≡_, refl, sym, ap, _∙_}
@@ -22,7 +22,7 @@ place-on-requires : tie.Need-place-on-requires
 place-on-requires c κs = search needs
 
 returns : tie.Need-returns
-unfolding planned fitPlan
+unfolding planned planCode fitPlan
 returns c =
     let start = c .before .before .before .before .before .before in
     let a = start .args in
@@ -38,7 +38,7 @@ returns c =
     )
 
 returns-2 : tie.Need-returns-2
-unfolding planned fitPlan
+unfolding planned planCode fitPlan
 returns-2 c =
     let start = c .before .before .before .before .before .before in
     let a = start .args in

@@ -5,7 +5,7 @@ use lib.Dec.{eqb}
 use borrow.Author.Tests.{eq-eqb, ne-eqb}
 use Rattle.table.specs.TheTable.{readRow, mayRoam}
 use Rattle.rules.specs.Deciding.{none, withSession, entryNamed, entryAt}
-use Rattle.plans.specs.Plans.{planned}
+use Rattle.plans.specs.Plans.{planned, planCode}
 use Rattle.plans.proofs.Found.{none-with}
 use Rattle.plans.proofs.Verdicts.{not-subscribed, is-barred, no-roaming, is-held, is-admitted}
 use mathlib.Core.Path.{_≡_, refl, sym, ap, _∙_}
@@ -18,7 +18,7 @@ entry-named-requires : tie.Need-entry-named-requires
 entry-named-requires c κs = search needs
 
 returns : tie.Need-returns
-unfolding planned fitPlan
+unfolding planned planCode fitPlan
 returns c =
     let start = c .before .before .before .before .before in
     let a = start .args in
@@ -37,7 +37,7 @@ roams-unasked-requires : tie.Need-roams-unasked-requires
 roams-unasked-requires c κs = search needs
 
 returns-2 : tie.Need-returns-2
-unfolding planned fitPlan
+unfolding planned planCode fitPlan
 returns-2 c =
     let start = c .before .before .before .before .before .before .before .before in
     let a = start .args in
@@ -52,7 +52,7 @@ returns-2 c =
     )
 
 returns-3 : tie.Need-returns-3
-unfolding planned mayRoam fitPlan
+unfolding planned planCode mayRoam fitPlan
 returns-3 c =
     let start = c .before .before .before .before .before .before .before .before .before in
     let a = start .args in
@@ -73,7 +73,7 @@ place-of-requires : tie.Need-place-of-requires
 place-of-requires c κs = search needs
 
 returns-4 : tie.Need-returns-4
-unfolding planned mayRoam fitPlan
+unfolding planned planCode mayRoam fitPlan
 returns-4 c =
     let start = c .before .before .before .before .before .before .before .before .before .before .before in
     let a = start .args in
