@@ -803,21 +803,32 @@ static inline void tally(uint64_t *totals, const struct wm_told *t) {
     totals[CUT_COLUMN] += t->place != 0 && t->cut != 0;
 }
 
-/* No hour's total is over its year's, so that only the years are tested. */
-uint32_t plain_report_count(struct wm_report *report, const struct wm_told *told, size_t told_length) {
-    uint64_t years[4] = {0};
-    for (const struct wm_told *t = told; t < told + told_length; t++) {
-        if (t->hour > 23)
-            return 29;
-        tally(years, t);
-    }
+/* Whether 64 bits hold the years with so much more in each column. No hour's total is over its year's. */
+static bool years_fit(const struct wm_report *report, const uint64_t more[4]) {
+    uint64_t years[4] = {more[0], more[1], more[2], more[3]};
     for (size_t hour = 0; hour < 24; hour++)
         for (size_t k = 0; k < 4; k++) {
             years[k] += report->totals[hour][k];
             if (years[k] < report->totals[hour][k])
-                return 30;
+                return false;
         }
-    for (const struct wm_told *t = told; t < told + told_length; t++)
+    return true;
+}
+
+/* The columns are counted apart only where the whole list would not fit one of them. */
+uint32_t plain_report_count(struct wm_report *report, const struct wm_told *told, size_t told_length) {
+    const struct wm_told *end = told + told_length;
+    for (const struct wm_told *t = told; t < end; t++)
+        if (t->hour > 23)
+            return 29;
+    uint64_t all[4] = {told_length, told_length, told_length, told_length}, apart[4] = {0};
+    if (!years_fit(report, all)) {
+        for (const struct wm_told *t = told; t < end; t++)
+            tally(apart, t);
+        if (!years_fit(report, apart))
+            return 30;
+    }
+    for (const struct wm_told *t = told; t < end; t++)
         tally(report->totals[t->hour], t);
     return 0;
 }

@@ -15,6 +15,11 @@ use Rattle.octets.proofs.Lists.{by-test, and-left, and-right}
 use Rattle.report.specs.TheReport.{Told, inColumn, inHour, total, hours, year, held, howMany, with, hourRight, plus}
 use Rattle.report.proofs.Tables.{sum-same, sum-plus, total-tabled, is-tabled, same-tabled, year-tabled, length-tabled, held-if, year-held}
 
+at-most-one : (b : Bool) → pick b 1 0 ≤ 1
+unfolding pick
+at-most-one true = omega arith
+at-most-one false = omega arith
+
 pub many-none : (p : Told → Bool) → howMany p [] ≡ 0
 unfolding howMany keep
 many-none p = refl
@@ -22,6 +27,10 @@ many-none p = refl
 pub many-cons : (p : Told → Bool) (t : Told) (l : List Told) → howMany p (t ∷ l) ≡ pick (p t) 1 0 + howMany p l
 unfolding howMany keep pick
 many-cons p t l = by-test (p t) (λ e. rw e (omega arith)) (λ e. rw e (omega arith))
+
+pub many-most : (p : Told → Bool) (l : List Told) → howMany p l ≤ length l
+many-most p [] = omega (arith, many-none p)
+many-most p (t ∷ l) = omega (arith, many-cons p t l, at-most-one (p t), many-most p l)
 
 pub many-append : (p : Told → Bool) (l m : List Told) → howMany p (l ++ m) ≡ howMany p l + howMany p m
 many-append p [] m = omega (arith, many-none p)

@@ -7,7 +7,7 @@ use native.Mathlib.Numerals.{add-one}
 use native.Mathlib.Omega.{arith}
 use borrow.Author.Tests.{lt-ltb, le-ltb, ltb-true, ltb-false}
 use lib.Dec.{ltb}
-use lib.ListN.{length, getD, drop, drop-of-length-le}
+use lib.ListN.{length, getD, drop, drop-of-length-le, length-map}
 use lib.Seq.{drop-cons}
 use Rattle.octets.specs.Choice.{pick}
 use Rattle.octets.specs.Lists.{every, sumOf, counted}
@@ -15,7 +15,7 @@ use Rattle.octets.proofs.Lists.{by-test}
 use Rattle.report.specs.TheReport.{inColumn, howMany, hourRight, total, hours, year, in64}
 use Rattle.report.specs.Code.{toldOf, toldBy, adds, summed}
 use Rattle.report.specs.declared.Year.the-variants.{Sum, Passed}
-use Rattle.report.proofs.Counting.{many-cons, many-none}
+use Rattle.report.proofs.Counting.{many-cons, many-none, many-most}
 
 module _ (s : List (List ℕ)) (i : ℕ) where
   -- the next result, and those behind it
@@ -47,6 +47,11 @@ module _ (s : List (List ℕ)) (i : ℕ) where
   pub count-end : (k : ℕ) → length s ≤ i → howMany (inColumn k) (toldBy (drop i s)) ≡ 0
   count-end k h = rw (none-left h) (many-none (inColumn k))
 
+-- no column has more than the whole list
+pub column-most : (s : List (List ℕ)) (k : ℕ) → howMany (inColumn k) (toldBy s) ≤ length s
+unfolding toldBy
+column-most s k = omega (arith, many-most (inColumn k) (map toldOf s), length-map s toldOf)
+
 -- THE HOURS OF A YEAR
 
 module _ (r : List ℕ) (k : ℕ) where
@@ -76,6 +81,22 @@ module _ (r : List ℕ) (k : ℕ) where
       ap (λ (n : ℕ). sumOf (map (λ i. total r i k) (counted h n))) a ∙ no-more h
 
 -- A SUM IN 64 BITS
+
+pub in-bits : (n : ℕ) → n < 18446744073709551616 → in64 n ≡ true
+unfolding in64
+in-bits n h = lt-ltb n 18446744073709551616 h
+
+pub past-bits : (n : ℕ) → 18446744073709551616 ≤ n → in64 n ≡ false
+unfolding in64
+past-bits n h = le-ltb n 18446744073709551616 h
+
+pub was-in : (n : ℕ) → in64 n ≡ true → n < 18446744073709551616
+unfolding in64
+was-in n e = ltb-true n 18446744073709551616 e
+
+pub was-past : (n : ℕ) → in64 n ≡ false → 18446744073709551616 ≤ n
+unfolding in64
+was-past n e = ltb-false n 18446744073709551616 e
 
 pub is-sum : (n : ℕ) → n < 18446744073709551616 → Sum n ≡ summed n
 unfolding summed in64 pick

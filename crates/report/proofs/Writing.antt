@@ -1,18 +1,21 @@
--- A report that is written number by number: the first ones are those of the report that it will be, the rest those of the one that it was.
+-- A report that is written number by number: the first ones are those of the report that it will be, the rest those of the one that it was; and one
+-- in which the totals of a result gain.
 use mathlib.Core.Path.{_≡_, refl, sym, ap, _∙_}
-use mathlib.Core.Bool.{true}
+use mathlib.Core.Bool.{true, false}
 use mathlib.Core.List.{List, [], _∷_, _++_}
 use Prim.Native.Nat.{ℕ, suc, _+_, _*_, _-_, _/_, _%_, _≤_, _<_}
+use native.Mathlib.Nat.{add-zero}
 use native.Mathlib.Numerals.{add-one}
 use native.Mathlib.Omega.{arith}
-use borrow.Author.Tests.{ne-eqb, eq-eqb, ltb-true, ltb-false}
-use lib.Dec.{ltb}
-use lib.ListN.{length, getD, set, take, drop, length-append, length-drop, List·getD-append}
-use lib.Seq.{length-take-le, take-suc, drop-cons, append-snoc, set-at, getD-at, ext-getD, getD-take, getD-drop, getD-append-add}
+use borrow.Author.Tests.{ne-eqb, eq-eqb, eqb-true, eqb-false, ltb-true, ltb-false}
+use lib.Dec.{eqb, ltb}
+use lib.ListN.{length, getD, set, take, drop, length-append, length-drop, length-set, List·getD-append}
+use lib.Seq.{length-take-le, take-suc, drop-cons, append-snoc, set-at, getD-at, ext-getD, getD-take, getD-drop, getD-append-add, getD-set-same, getD-set-other}
 use Rattle.octets.specs.Choice.{pick}
 use Rattle.octets.proofs.Lists.{by-test}
-use Rattle.report.specs.TheReport.{Told, inHour, total, with, howMany, held, plus}
-use Rattle.report.specs.Code.{adds}
+use Rattle.report.specs.TheReport.{Told, ended, inHour, total, with, howMany, held, plus}
+use Rattle.report.specs.Code.{adds, oneMore}
+use Rattle.report.proofs.Columns.{opening-counts, cut-counts, no-cut-counts, opening-else, ended-counts, ended-else, other-counts, other-else}
 use Rattle.report.proofs.Tables.{total-held}
 use Rattle.report.proofs.Counting.{total-with, many-cons, many-none, length-with, total-plus}
 
@@ -47,18 +50,34 @@ module _ (w r : List ℕ) (n : length w ≡ length r) where
       ∙ getD-drop i r (j - i) 0
       ∙ ap (λ (x : ℕ). getD r x 0) b
 
-  -- where both are the same before i, or from i on
-  pub done-first : (i : ℕ) → i ≤ length r → ((j : ℕ) → j < i → getD w j 0 ≡ getD r j 0) → done i w r ≡ r
-  done-first i h e =
-      ext-getD 0 (done i w r) r (length-done i h)
-      (λ j q. by-test (ltb j i) (λ s. low i j h (ltb-true j i s) ∙ e j (ltb-true j i s)) (λ s. high i j h (ltb-false j i s)))
-
+  -- where both are the same from i on
   pub done-last : (i : ℕ) → i ≤ length r → ((j : ℕ) → i ≤ j → j < length r → getD w j 0 ≡ getD r j 0) → done i w r ≡ w
   done-last i h e =
       ext-getD 0 (done i w r) w (length-done i h ∙ sym n)
       (λ j q.
       let u : j < length r = omega (arith, length-done i h) in
       by-test (ltb j i) (λ s. low i j h (ltb-true j i s)) (λ s. high i j h (ltb-false j i s) ∙ sym (e j (ltb-false j i s) u)))
+
+-- A cell of a report that 64 bits hold.
+pub cell-held : (r : List ℕ) (j : ℕ) → held r ≡ true → j < 96 → getD r j 0 < 18446744073709551616
+cell-held r j e q =
+    let s : j ≡ 4 * (j / 4) + j % 4 = omega arith in
+    omega (arith, ap (λ (x : ℕ). getD r x 0) s, total-held r (j / 4) (j % 4) e (omega arith) (omega arith))
+
+-- ONE MORE in the i-th number: it alone changes
+
+module _ (r : List ℕ) (i : ℕ) where
+  pub more-length : length (oneMore i r) ≡ length r
+  unfolding oneMore
+  more-length = length-set r i (getD r i 0 + 1)
+
+  more-same : i < length r → getD (oneMore i r) i 0 ≡ getD r i 0 + 1
+  unfolding oneMore
+  more-same h = getD-set-same r i (getD r i 0 + 1) 0 h
+
+  more-else : (j : ℕ) → (j ≡ i → ⊥) → getD (oneMore i r) j 0 ≡ getD r j 0
+  unfolding oneMore
+  more-else j h = getD-set-other r i j (getD r i 0 + 1) 0 h
 
 -- ONE RESULT COUNTED: its own hour gains, every other stays
 
@@ -84,22 +103,77 @@ module _ (r : List ℕ) (t : Told) (right : t .hour < 24) where
       omega (arith, total-with r (t ∷ []) (j / 4) (j % 4) (omega arith) (omega arith), counts-one (j / 4) (j % 4), not-own (j / 4) (j % 4) e) in
       ap (λ (x : ℕ). getD (with r (t ∷ [])) x 0) s ∙ a ∙ ap (λ (x : ℕ). getD r x 0) (sym s)
 
-  -- before and behind the four numbers of its hour
-  pub before-hour : (n : length r ≡ 96) → done (4 * t .hour) (with r (t ∷ [])) r ≡ r
-  before-hour n =
-      done-first (with r (t ∷ [])) r (length-with r (t ∷ []) ∙ sym n) (4 * t .hour) (omega arith)
-      (λ j q. stays j (omega arith) (λ e. omega arith))
+  -- a report that has gained so is the one with the result
+  gained : (s : List ℕ) → length s ≡ 96 → ((j : ℕ) → j < 96 → (t .hour ≡ j / 4 → ⊥) → getD s j 0 ≡ getD r j 0)
+      → ((k : ℕ) → k < 4 → getD s (4 * t .hour + k) 0 ≡ getD r (4 * t .hour + k) 0 + adds k t) → s ≡ with r (t ∷ [])
+  gained s m out inside =
+      let w : List ℕ = with r (t ∷ []) in
+      ext-getD 0 s w (m ∙ sym (length-with r (t ∷ [])))
+      (λ j q.
+      by-test (eqb (t .hour) (j / 4))
+      (λ e. let x : j ≡ 4 * t .hour + j % 4 = omega (arith, eqb-true (t .hour) (j / 4) e) in
+      ap (λ (y : ℕ). getD s y 0) x ∙ inside (j % 4) (omega arith) ∙ sym (gains (j % 4) (omega arith)) ∙ ap (λ (y : ℕ). getD w y 0) (sym x))
+      (λ e. out j (omega arith) (eqb-false (t .hour) (j / 4) e) ∙ sym (stays j (omega arith) (eqb-false (t .hour) (j / 4) e))))
 
-  pub behind-hour : (n : length r ≡ 96) (k : ℕ) → 4 ≤ k → k ≤ 4 → done (4 * t .hour + k) (with r (t ∷ [])) r ≡ with r (t ∷ [])
-  behind-hour n k u v =
-      done-last (with r (t ∷ [])) r (length-with r (t ∷ []) ∙ sym n) (4 * t .hour + k) (omega arith)
-      (λ j q s. stays j (omega arith) (λ e. omega arith))
+  -- ONE COLUMN GAINS
+  one-gains : (n : length r ≡ 96) (c : ℕ) → c < 4 → ((k : ℕ) → k ≡ c → adds k t ≡ 1) → ((k : ℕ) → (k ≡ c → ⊥) → adds k t ≡ 0)
+      → oneMore (4 * t .hour + c) r ≡ with r (t ∷ [])
+  one-gains n c q own none =
+      let i : ℕ = 4 * t .hour + c in
+      gained (oneMore i r) (more-length r i ∙ n) (λ j u e. more-else r i j (λ s. e (omega arith)))
+      (λ k u.
+      by-test (eqb k c)
+      (λ e. let s : k ≡ c = eqb-true k c e in
+      omega (arith, ap (λ (y : ℕ). getD (oneMore i r) (4 * t .hour + y) 0) s, ap (λ (y : ℕ). getD r (4 * t .hour + y) 0) s, more-same r i (omega arith), own k s))
+      (λ e. omega (arith, more-else r i (4 * t .hour + k) (λ s. eqb-false k c e (omega arith)), none k (eqb-false k c e))))
 
--- A cell of a report that 64 bits hold.
-pub cell-held : (r : List ℕ) (j : ℕ) → held r ≡ true → j < 96 → getD r j 0 < 18446744073709551616
-cell-held r j e q =
-    let s : j ≡ 4 * (j / 4) + j % 4 = omega arith in
-    omega (arith, ap (λ (x : ℕ). getD r x 0) s, total-held r (j / 4) (j % 4) e (omega arith) (omega arith))
+  -- an ending, or another result
+  pub ends-in : (n : length r ≡ 96) (c : ℕ) → c ≡ pick (ended t) 2 3 → t .place ≡ 0 → oneMore (4 * t .hour + c) r ≡ with r (t ∷ [])
+  unfolding pick
+  ends-in n c s p =
+      by-test (ended t)
+      (λ e. one-gains n c (omega (arith, rw e at s)) (λ k d. ended-counts t k true p e refl (d ∙ rw e at s)) (λ k d. ended-else t k true p e refl (λ z. d (z ∙ sym (rw e at s)))))
+      (λ e. one-gains n c (omega (arith, rw e at s)) (λ k d. other-counts t k false p e refl (d ∙ rw e at s)) (λ k d. other-else t k false p e refl (λ z. d (z ∙ sym (rw e at s)))))
+
+  -- an opening without a cut, and with one
+  pub opens-in : (n : length r ≡ 96) → (t .place ≡ 0 → ⊥) → t .cut ≡ 0 → oneMore (4 * t .hour) r ≡ with r (t ∷ [])
+  opens-in n p z =
+      ap (λ (i : ℕ). oneMore i r) (sym (add-zero (4 * t .hour)))
+      ∙ one-gains n 0 (omega arith) (λ k d. opening-counts t k p d)
+      (λ k d. by-test (eqb k 1) (λ e. no-cut-counts t k p (eqb-true k 1 e) z) (λ e. opening-else t k p d (eqb-false k 1 e)))
+
+  pub cuts-in : (n : length r ≡ 96) → (t .place ≡ 0 → ⊥) → (t .cut ≡ 0 → ⊥) → oneMore (4 * t .hour + 1) (oneMore (4 * t .hour) r) ≡ with r (t ∷ [])
+  cuts-in n p z =
+      let i : ℕ = 4 * t .hour in
+      let o : List ℕ = oneMore i r in
+      gained (oneMore (i + 1) o) (more-length o (i + 1) ∙ more-length r i ∙ n)
+      (λ j u e. more-else o (i + 1) j (λ s. e (omega arith)) ∙ more-else r i j (λ s. e (omega arith)))
+      (λ k u.
+      by-test (eqb k 0)
+      (λ e. let s : i + k ≡ i = omega (arith, eqb-true k 0 e) in
+      omega (arith, more-else o (i + 1) (i + k) (λ d. omega arith), ap (λ (y : ℕ). getD o y 0) s, ap (λ (y : ℕ). getD r y 0) s, more-same r i (omega arith), opening-counts t k p (eqb-true k 0 e)))
+      (λ e. by-test (eqb k 1)
+      (λ d. let s : i + k ≡ i + 1 = omega (arith, eqb-true k 1 d) in
+      omega (arith, ap (λ (y : ℕ). getD (oneMore (i + 1) o) y 0) s, ap (λ (y : ℕ). getD r y 0) s, more-same o (i + 1) (omega (arith, more-length r i)), more-else r i (i + 1) (λ v. omega arith), cut-counts t k p (eqb-true k 1 d) z))
+      (λ d. omega (arith, more-else o (i + 1) (i + k) (λ v. eqb-false k 1 d (omega arith)), more-else r i (i + k) (λ v. eqb-false k 0 e (omega arith)), opening-else t k p (eqb-false k 0 e) (eqb-false k 1 d)))))
+
+  -- 64 BITS hold what is written, where they hold the report with the result
+  module _ (n : length r ≡ 96) (all : held (with r (t ∷ [])) ≡ true) where
+    pub ends-fits : (c : ℕ) → c ≡ pick (ended t) 2 3 → c < 4 → t .place ≡ 0 → getD r (4 * t .hour + c) 0 + 1 < 18446744073709551616
+    ends-fits c s q p =
+        let i : ℕ = 4 * t .hour + c in
+        omega (arith, more-same r i (omega arith), ap (λ (s : List ℕ). getD s i 0) (ends-in n c s p), cell-held (with r (t ∷ [])) i all (omega arith))
+
+    pub opens-fits : (t .place ≡ 0 → ⊥) → getD r (4 * t .hour) 0 + 1 < 18446744073709551616
+    opens-fits p =
+        let w : List ℕ = with r (t ∷ []) in
+        let s : 4 * t .hour + 0 ≡ 4 * t .hour = add-zero (4 * t .hour) in
+        omega (arith, gains 0 (omega arith), opening-counts t 0 p refl, ap (λ (y : ℕ). getD w y 0) s, ap (λ (y : ℕ). getD r y 0) s, cell-held w (4 * t .hour) all (omega arith))
+
+    pub cuts-fits : (t .place ≡ 0 → ⊥) → (t .cut ≡ 0 → ⊥) → getD (oneMore (4 * t .hour) r) (4 * t .hour + 1) 0 + 1 < 18446744073709551616
+    cuts-fits p z =
+        let w : List ℕ = with r (t ∷ []) in
+        omega (arith, gains 1 (omega arith), cut-counts t 1 p refl z, more-else r (4 * t .hour) (4 * t .hour + 1) (λ v. omega arith), cell-held w (4 * t .hour + 1) all (omega arith))
 
 -- A cell of two reports added.
 pub cell-plus : (r s : List ℕ) (j : ℕ) → j < 96 → getD (plus r s) j 0 ≡ getD r j 0 + getD s j 0

@@ -1,7 +1,7 @@
 -- What the code's numbers, structs and enums say in the report's terms.
 use mathlib.Core.List.{List, map}
-use Prim.Native.Nat.{ℕ}
-use lib.ListN.{getD}
+use Prim.Native.Nat.{ℕ, _+_}
+use lib.ListN.{getD, set}
 use Rattle.octets.specs.Choice.{pick}
 use Rattle.report.specs.TheReport.{Told, Left, inColumn, in64}
 use Rattle.report.specs.Rates.{Rated}
@@ -27,6 +27,10 @@ toldBy list = map toldOf list
 -- What one result adds to a column of its hour.
 unfoldable pub adds : ℕ → Told → ℕ
 adds k t = pick (inColumn k t) 1 0
+
+-- One more in the i-th number of a report.
+unfoldable pub oneMore : ℕ → List ℕ → List ℕ
+oneMore i report = set report i (getD report i 0 + 1)
 
 -- What a call gives back: its number, and the report as it stands then.
 unfoldable pub leaves : ℕ → List ℕ → Left

@@ -5,10 +5,11 @@ ghost use mathlib.Core.Bool.{Bool, true};
 ghost use mathlib.Core.List.{List, [], _∷_};
 ghost use Prim.Native.Nat.{ℕ, _+_, _*_, _≤_, _<_};
 ghost use lib.ListN.{length, getD};
+ghost use Rattle.octets.specs.Choice.{pick};
 ghost use Rattle.octets.specs.Lists.{every};
-ghost use Rattle.report.specs.TheReport.{ended, held, howMany, inColumn, with, hourRight, count, plus, add, year};
+ghost use Rattle.report.specs.TheReport.{ended, held, howMany, in64, inColumn, with, hourRight, count, plus, add, year};
 ghost use Rattle.report.specs.Rates.{divisor, lowest, rate};
-ghost use Rattle.report.specs.Code.{toldOf, toldBy, adds, leaves, summed, ratioSaid};
+ghost use Rattle.report.specs.Code.{toldOf, toldBy, adds, oneMore, leaves, summed, ratioSaid};
 
 const MOST: u64 = 18446744073709551615;
 
@@ -42,6 +43,16 @@ fn opening_adds(t: [u32; 6], k: usize) -> u64
         return 0;
     }
     1
+}
+
+// The column of a result that opened no access.
+fn ending_column(t: [u32; 6]) -> usize
+    ensures { λ r. ⌜ (r ≡ pick (ended (toldOf t)) 2 3) × (r ≤ 3) ⌝ }
+{
+    if is_ended(t) {
+        return 2;
+    }
+    3
 }
 
 // What one result adds to column k.
@@ -115,6 +126,20 @@ fn year_and(report: &[u64], k: usize, more: u64) -> Year
     Year::Sum(sum)
 }
 
+// Whether 64 bits hold the year's total of column k with the list counted into it. A column has at most the whole list, so that its length is tried first.
+fn year_holds(report: &[u64], told: &[[u32; 6]], k: usize) -> bool
+    requires { ⌜ (length (now report) ≡ 96) × (k < 4) ⌝ }
+    ensures { λ r. ⌜ r ≡ in64 (howMany (inColumn k) (toldBy (now (told .entry))) + year (now (report .entry)) k) ⌝ }
+{
+    let Year::Passed = year_and(report, k, told.len() as u64) else {
+        return true;
+    };
+    let Year::Sum(_) = year_and(report, k, count_of(told, k)) else {
+        return false;
+    };
+    true
+}
+
 // Whether 64 bits hold what the report has with the list counted into it.
 fn holds_list(report: &[u64], told: &[[u32; 6]]) -> bool
     requires { ⌜ (length (now report) ≡ 96) × (every hourRight (toldBy (now told)) ≡ true) ⌝ }
@@ -122,10 +147,9 @@ fn holds_list(report: &[u64], told: &[[u32; 6]]) -> bool
 {
     let mut k: usize = 0;
     while k < 4 {
-        let n = count_of(told, k);
-        let Year::Sum(_) = year_and(report, k, n) else {
+        if !year_holds(report, told, k) {
             return false;
-        };
+        }
         k += 1;
     }
     true
@@ -151,17 +175,29 @@ fn holds_both(report: &[u64], more: &[u64]) -> bool
 
 // COUNTING
 
+// One more in a total.
+fn add_one(report: &mut [u64], i: usize)
+    requires { ⌜ (i < length (now report)) × (getD (now report) i 0 + 1 < 18446744073709551616) ⌝ }
+    ensures { λ _. ⌜ now (report .exit) ≡ oneMore i (now (report .entry)) ⌝ }
+{
+    report[i] += 1;
+}
+
 // One result counted.
 fn count_one(report: &mut [u64], t: [u32; 6])
     requires { ⌜ (length (now report) ≡ 96) × (getD t 0 0 < 24) × (held (with (now report) (toldOf t ∷ [])) ≡ true) ⌝ }
     ensures { λ _. ⌜ now (report .exit) ≡ with (now (report .entry)) (toldOf t ∷ []) ⌝ }
 {
     let at = 4 * (t[0] as usize);
-    let mut k: usize = 0;
-    while k < 4 {
-        report[at + k] += adds_to(t, k);
-        k += 1;
+    if t[4] == 0 {
+        add_one(report, at + ending_column(t));
+        return;
     }
+    add_one(report, at);
+    if t[5] == 0 {
+        return;
+    }
+    add_one(report, at + 1);
 }
 
 // A list counted, of which the hours are right and 64 bits hold the totals.
