@@ -1,4 +1,5 @@
-/* The rules of document 01 in plain C, written from the paper for speed: what the proved library is measured against.
+/* The rules of document 01, and the counting of request W9, in plain C, written from the papers for speed: what the proved library is
+ * measured against.
  *
  * C11 without intrinsics, for any byte order. Words are read by memcpy, which compiles to one load.
  */

@@ -4,8 +4,8 @@
 
 int printf(const char *, ...);
 int strcmp(const char *, const char *);
-double seconds(void);           /* driver.c */
-uint32_t below(uint32_t n);     /* mix.c */
+double seconds(void);             /* driver.c */
+uint32_t below(uint32_t n);       /* mix.c */
 void begin_chance(uint64_t from); /* mix.c */
 
 enum { RESULTS = 100, CALLS = 600 };

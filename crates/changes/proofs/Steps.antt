@@ -1,10 +1,9 @@
--- What code writes: block 0 with another line, or one entry more, and a place with another policy, as changes of a few bytes; and how code searches.
+-- What code writes: block 0 with another line, or one entry more, and a place with another policy, as changes of a few bytes.
 use mathlib.Core.Path.{_≡_, refl, sym, ap, _∙_}
 use mathlib.Core.Bool.{Bool, true}
 use mathlib.Core.List.{List, [], _∷_, _++_, map, append-assoc, append-nil}
-use Prim.Native.Nat.{ℕ, zero, suc, _+_, _-_, _*_, _<_}
+use Prim.Native.Nat.{ℕ, _+_, _-_, _*_, _<_}
 use native.Mathlib.Omega.{arith}
-use lib.Dec.{eqb}
 use lib.ListN.{length, take, drop, getD, length-append}
 use lib.Seq.{take-at, take-append-le}
 use lib.Count.{ones, trailingZeros}
@@ -12,8 +11,8 @@ use lib.ListN.{List·getD-append}
 use Rattle.octets.specs.Choice.{pick}
 use Rattle.octets.specs.Lists.{keep}
 use Rattle.octets.specs.Texts.{filled, part, zeros}
-use Rattle.table.specs.Soundness.{onEntry, sound}
-use Rattle.table.specs.TheTable.{Access, Entry, Subscriber, accessBytes, block, entriesBytes, entryBytes, foundBy, headBytes, held, line, orderLine, places, placesBytes, readAccess, readRow, rowBytes, sealed, sumsFrom, usedBits}
+use Rattle.table.specs.Soundness.{sound}
+use Rattle.table.specs.TheTable.{Access, Entry, Subscriber, accessBytes, block, entriesBytes, entryBytes, foundBy, headBytes, held, line, places, placesBytes, readRow, rowBytes, sealed, sumsFrom, usedBits}
 use Rattle.changes.proofs.Bits.{lowest-free, ones-accesses}
 use Rattle.changes.proofs.Stays.{some-vacant}
 use Rattle.changes.specs.Changes.{lowestFree, withAccesses}
@@ -144,21 +143,7 @@ room-entry es e h =
     let d : drop 104 (zeros (416 - n)) ≡ zeros (416 - (n + 104)) = drop-zeros 104 (416 - n) ∙ ap zeros (omega arith) in
     rw (entries-snoc es e, g, f, take-at (entriesBytes es) (zeros (416 - n)) n le, drop-past n 104 (entriesBytes es) (zeros (416 - n)) le, d, append-assoc)
 
--- searches: by the line and the places' bytes
 pub keep-map : {A B : Type 0} (f : A → B) (p : B → Bool) (l : List A) → keep p (map f l) ≡ map f (keep (λ x. p (f x)) l)
 unfolding keep pick
 keep-map f p [] = refl
 keep-map f p (x ∷ l) = by-test (p (f x)) (λ e. rw (e, keep-map f p l)) (λ e. rw (e, keep-map f p l))
-
-line-map : (r l : List ℕ) → line (map (λ (k : ℕ). readAccess k (block r k)) l) ≡ l
-unfolding line readAccess
-line-map r [] = refl
-line-map r (k ∷ l) = rw (line-map r l)
-
-length-map-read : (r l : List ℕ) → length (map (λ (k : ℕ). readAccess k (block r k)) l) ≡ length l
-length-map-read r [] = refl
-length-map-read r (k ∷ l) = ap suc (length-map-read r l)
-
-pub count-read : (r : List ℕ) (n : ℕ) → length (onEntry n ((readRow r) .accesses)) ≡ length (keep (λ k. eqb (getD (block r k) 1 0) n) (orderLine r))
-unfolding onEntry readRow readAccess
-count-read r n = ap length (keep-map (λ (k : ℕ). readAccess k (block r k)) _ (orderLine r)) ∙ length-map-read r (keep (λ k. eqb (getD (block r k) 1 0) n) (orderLine r))

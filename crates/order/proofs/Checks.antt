@@ -39,11 +39,6 @@ module _ (n place : ℕ) (code : Code) where
   result-kind [] = refl
   result-kind (a ∷ as') = refl
 
-  result-place : (cut : List Access) → (resultOf n place code cut) .place ≡ place
-  unfolding resultOf
-  result-place [] = refl
-  result-place (a ∷ as') = refl
-
   one-cut : (cut : List Access) → length cut ≡ 1 → (resultOf n place code cut) .cut ≡ 1
   unfolding resultOf
   one-cut [] h = absurd (omega arith)
@@ -61,10 +56,6 @@ module _ (t : List ℕ) (c : Call) (i : ℕ) (v : Verdict) where
   settled-kind : (settled t c i v) .reply .result .kind ≡ kindOf (v .code)
   unfolding settled reply
   settled-kind = result-kind _ _ _ (v .cut)
-
-  settled-place : (settled t c i v) .reply .result .place ≡ v .place
-  unfolding settled reply
-  settled-place = result-place _ _ _ (v .cut)
 
   settled-one : length (v .cut) ≡ 1 → (settled t c i v) .reply .result .cut ≡ 1
   unfolding settled reply
