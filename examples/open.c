@@ -1,4 +1,5 @@
-/* A table of one row: a subscriber with one W-APN opens a tunnel. Prints the outcome, the answer's bytes, and the report of that hour. */
+/* A table of one row: a subscriber with one W-APN opens a tunnel. Prints the outcome, the answer's bytes, the report of that
+ * hour, and what the screen board shows of the request, of its result and of a notice. */
 
 /* The kit's compiler comes without headers, so the types and the one function of the C library stand here. */
 #define WM_OWN_TYPES
@@ -14,6 +15,7 @@ int printf(const char *, ...);
 #include "../include/wm.h"
 
 static struct wm_report report;
+static struct wm_screen screens[2] = {{WM_OFF, 0, 1, "a"}, {WM_OFF, 0, 1, "b"}};
 static uint8_t table[WM_ROW], message[512], answer[WM_ANSWER_LEAST], notice[WM_NOTICE_LEAST];
 
 #define TEXT(s) (const uint8_t *)(s), sizeof(s) - 1
@@ -60,6 +62,15 @@ static size_t opening(void) {
     return at;
 }
 
+/* The board, after a feed that gave this number. */
+static void show(const char *fed, uint32_t number) {
+    static const char *const states[] = {"off", "asked", "connected", "cut"};
+    printf("%s: %u; a is %s", fed, number, states[screens[0].state]);
+    if (screens[0].state == WM_CONNECTED)
+        printf(" at place %u", screens[0].place);
+    printf(", b is %s; %u connected\n", states[screens[1].state], wm_screens_connected(screens, 2).screens);
+}
+
 int main(void) {
     printf("clear: %u\n", wm_clear(table, sizeof table));
     printf("enter: %u\n", wm_enter(table, sizeof table, TEXT("001010123456789")));
@@ -75,5 +86,9 @@ int main(void) {
     struct wm_rate rate = wm_report_rate(&report);
     printf("hour 21: %llu opened; the year: %llu cuts to %llu opened\n", (unsigned long long)report.totals[21][0],
            (unsigned long long)rate.cuts, (unsigned long long)rate.opened);
+    show("request", wm_screen_request(screens, 2, 0, TEXT("a")));
+    show("result", wm_screen_result(screens, 2, 0, TEXT("a"), o.code, o.kind, o.place));
+    show("notice", wm_screen_notice(screens, 2, TEXT("a")));
+    show("a Session-Id on no entry", wm_screen_notice(screens, 2, TEXT("c")));
     return o.code == 2001 && o.kind == 1 ? 0 : 1;
 }

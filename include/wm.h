@@ -1,4 +1,5 @@
-/* The Wm side of a tunnel access server: three set-up operations and one request at a time; and a report of what came of requests, by hour.
+/* The Wm side of a tunnel access server: three set-up operations and one request at a time; a report of what came of requests, by hour;
+ * and a board that shows which screens are connected.
  * docs/RULES.md has the rules.
  *
  * Everything is lent by the caller: a pointer and a length. No function keeps a pointer, allocates, locks or waits, and none has
@@ -9,9 +10,9 @@
  *
  * - A pointer is valid for its length: that many bytes can be read, and written where it is not const.
  * - No pointer is null, not even with length 0: any address of the program's own will do there, it is neither read nor written.
- * - Any alignment will do for bytes. A report and a list of results are aligned as their types ask.
+ * - Any alignment will do for bytes. A report, a list of results and a list of screens are aligned as their types ask.
  * - Buffers of one call do not overlap where one of them is not const: table, answer and notice stand apart from each other
- *   and from all the rest, and a report that is changed from the other one and from the list. Those that are const may overlap each other: host,
+ *   and from all the rest, a report that is changed from the other one and from the list, and a list of screens from the Session-Id. Those that are const may overlap each other: host,
  *   realm, message, name, label.
  * - While a call runs no other thread writes to anything that was lent to it, and none reads table, answer or notice.
  *   So calls on one table come one after another, in any threads, with whatever lock the caller likes. Calls with tables and rooms of
@@ -45,9 +46,10 @@ enum wm_flag { WM_BARRED = 1, WM_MAY_ROAM = 2 };
 enum wm_kind { WM_NO_ANSWER = 0, WM_RESULT_CODE = 1, WM_EXPERIMENTAL_RESULT = 2 };
 
 /* The numbers of refusals that are no Diameter codes. A set-up operation gives 0, 1 or 9 to 17. A request gives 1 to 8, with the
- * kind WM_NO_ANSWER, or a code that goes into its answer. A report gives 0, 29 or 30. The first that holds is given, in the order of these lines. */
+ * kind WM_NO_ANSWER, or a code that goes into its answer. A board gives 0, 25 or 24, tested in this order;
+ * a report 0, 29 or 30. Of the others the first that holds is given, in the order of these lines. */
 enum wm_number {
-    WM_DONE = 0,             /* set-up, and a report: it is done */
+    WM_DONE = 0,             /* set-up, a board and a report: it is done */
     WM_TABLE_LENGTH = 1,     /* the table is not 1 to 1,024 rows of WM_ROW bytes */
     WM_OWN_NAMES = 2,        /* the own host or realm has not 1 to 128 bytes */
     WM_ANSWER_ROOM = 3,      /* the answer room is under WM_ANSWER_LEAST */
@@ -65,6 +67,8 @@ enum wm_number {
     WM_LABEL_HELD = 15,      /* adding: the subscriber has that label, its letters in either case */
     WM_FOUR_LABELS = 16,     /* adding: the subscriber has four labels */
     WM_LIMITS_OVER_8 = 17,   /* adding: the limits would sum to over 8 */
+    WM_NO_SCREEN = 24,       /* the board: the Session-Id is on no entry */
+    WM_SCREENS = 25,         /* the board: over 64 entries, or a Session-Id on it twice or not of 1 to 128 bytes */
     WM_HOUR_OVER_23 = 29,    /* counting: an hour of the list is over 23 */
     WM_OVER_64_BITS = 30     /* a report: an hour's or the year's total of some column passes 64 bits */
 };
@@ -111,6 +115,31 @@ uint32_t wm_report_count(struct wm_report *report, const struct wm_told *told, s
 uint32_t wm_report_add(struct wm_report *report, const struct wm_report *more);
 /* The year's rate of cuts to accesses opened. */
 struct wm_rate wm_report_rate(const struct wm_report *report);
+
+/* THE SCREEN BOARD. A list of up to 64 screens, which is fed call by call: the request, then its result and the notice of the cut that it made, in either
+ * order. All screens are WM_OFF to begin with. */
+enum wm_screen_state { WM_OFF = 0, WM_ASKED = 1, WM_CONNECTED = 2, WM_CUT = 3 };
+
+/* state: one of enum wm_screen_state; any other is kept until a termination or a notice moves it, and is never counted.
+ * place: of a connected screen; written as 0 with any other state. session_length: 1 to 128. Bytes of session behind it mean nothing, and stay. */
+struct wm_screen {
+    uint32_t state, place, session_length;
+    uint8_t session[128];
+};
+/* screens: how many are connected; 0 with a number other than 0. */
+struct wm_connected {
+    uint32_t number, screens;
+};
+
+/* screens_length: how many entries. which: the request's kind, as in struct wm_told; any other number is as 1. A request of kind 0 asks for a screen. */
+uint32_t wm_screen_request(struct wm_screen *screens, size_t screens_length, uint32_t which, const uint8_t *session,
+                           size_t session_length);
+/* code, kind, place: of the request's outcome. */
+uint32_t wm_screen_result(struct wm_screen *screens, size_t screens_length, uint32_t which, const uint8_t *session,
+                          size_t session_length, uint32_t code, uint32_t kind, uint32_t place);
+/* session: the first cut_session bytes of the notice room. */
+uint32_t wm_screen_notice(struct wm_screen *screens, size_t screens_length, const uint8_t *session, size_t session_length);
+struct wm_connected wm_screens_connected(const struct wm_screen *screens, size_t screens_length);
 
 #ifdef __cplusplus
 }

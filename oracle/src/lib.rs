@@ -10,10 +10,13 @@ pub mod known_avps;
 pub mod reading_a_message;
 pub mod rules;
 pub mod set_up;
+pub mod the_board;
 pub mod the_table;
 pub mod the_year;
 pub mod writing_the_answer;
 
+pub mod board_calls;
+pub mod board_report;
 pub mod cases;
 pub mod damages;
 pub mod drafts;

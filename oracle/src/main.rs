@@ -4,14 +4,16 @@ use std::fs;
 use std::io::{self, Write};
 use std::process::ExitCode;
 
+use oracle::board_calls::{self, board_calls};
 use oracle::framing::{read, write};
 use oracle::generator::generate;
 use oracle::rules::DOCUMENT_01;
 use oracle::script::{Record, judge, spoil};
+use oracle::the_board::REQUEST_W7;
 use oracle::the_year::REQUEST_W9;
 use oracle::year_calls::{self, year_calls};
 
-const USAGE: &str = "usage: oracle script|year [--seed N] [--calls M] [--out FILE] [--spoil 0|1] | oracle check FILE | oracle rollover";
+const USAGE: &str = "usage: oracle script|year|board [--seed N] [--calls M] [--out FILE] [--spoil 0|1] | oracle check FILE | oracle rollover";
 
 /// From this size on, a script in which something never comes up is a failure.
 const FULL_SIZE: usize = 5_000;
@@ -22,6 +24,7 @@ fn main() -> ExitCode {
     let done = match words.as_slice() {
         ["script", options @ ..] => Options::read(options).map(|o| script(&o)),
         ["year", options @ ..] => Options::read(options).map(|o| year(&o)),
+        ["board", options @ ..] => Options::read(options).map(|o| board(&o)),
         ["check", file] => Ok(check(file)),
         ["rollover"] => {
             print!("{}", oracle::rollover::picture(1));
@@ -96,6 +99,20 @@ fn year(options: &Options) -> Result<(), String> {
         eprintln!("{times:7} {what}");
     }
     all_came_up(options, made.missing())
+}
+
+/// A script of the board's calls (W7).
+fn board(options: &Options) -> Result<(), String> {
+    let mut made = board_calls(&REQUEST_W7, options.seed, options.calls);
+    if options.spoil != 0 {
+        let spoiled = board_calls::spoil(&mut made.calls);
+        eprintln!("{spoiled} calls are spoiled");
+    }
+    put(options, &board_calls::script(&made.calls))?;
+    for (what, times) in &made.came.0 {
+        eprintln!("{times:7} {what}");
+    }
+    all_came_up(options, made.came.missing())
 }
 
 fn put(options: &Options, bytes: &[u8]) -> Result<(), String> {

@@ -52,6 +52,18 @@ fn a_script_is_written_checked_and_refused_when_damaged() {
     assert_eq!(lines(&refused), 1);
 }
 
+/// Scripts of the board are the same each time, and a spoiled one is another.
+#[test]
+fn a_script_of_the_board_is_written() {
+    let printed = |spoil| oracle(&["board", "--seed", "5", "--calls", "300", "--spoil", spoil]);
+    let (whole, spoiled) = (printed("0"), printed("1"));
+    assert_eq!(whole.status.code(), Some(0));
+    assert!(whole.stdout.starts_with(b"WMBOARD1"));
+    assert!(whole.stdout == printed("0").stdout);
+    assert_eq!(spoiled.stdout.len(), whole.stdout.len());
+    assert!(spoiled.stdout != whole.stdout);
+}
+
 /// Everything the report asks for comes up in a script of full size.
 #[test]
 fn nothing_is_missing_from_full_scripts() {

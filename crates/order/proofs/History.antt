@@ -32,10 +32,10 @@ use Rattle.order.proofs.Taken.{first-kept, keep-twice, kept-first, take
 
 -- ONE CHANGE
 
-data First (xs : List Access) : Type 0 where
+pub data First (xs : List Access) : Type 0 where
   first : (a : Access) (others : List Access) → xs ≡ a ∷ others → First xs
 
-first-alone : (xs : List Access) → length (firstAlone xs) ≡ 1 → First xs
+pub first-alone : (xs : List Access) → length (firstAlone xs) ≡ 1 → First xs
 unfolding firstAlone
 first-alone [] h = absurd (omega arith)
 first-alone (a ∷ others) h = first a others refl
@@ -50,7 +50,7 @@ module _ (s : Subscriber) (g : Good s) (f : Access → Bool) (a : Access) (other
   unfolding tunnels freed tunnelOf entryAt placeOf line firstOr
   freed-one = rw e (taken s f (s .accesses) a others (g .accesses-good .places-once) (g .accesses-good .sids-once) e)
 
-  fitting : Standing (length (s .entries)) a
+  pub fitting : Standing (length (s .entries)) a
   fitting = standing _ a (first-kept f (goodAccess (length (s .entries))) (s .accesses) a others (g .accesses-good .each) e)
 
 new-last : (n : ℕ) (session host : List ℕ) (s : Subscriber)
@@ -91,10 +91,10 @@ text-filled x rest h =
     ∙ take-take (length x) 128 (x ++ zeros 128) h ∙ take-at x (zeros 128) (length x) refl
 
 module _ (c : Call) (place : ℕ) (n : ℕ) (a : Access) (fits : Standing n a) where
-  abbrev told : Reply
+  abbrev pub told : Reply
   told = reply c (plain 2001) place (a ∷ [])
 
-  session-told : sessionCut told ≡ a .session
+  pub session-told : sessionCut told ≡ a .session
   unfolding sessionCut reply resultOf noticeRoom
   session-told = text-filled (a .session) _ (within-high 1 128 _ (fits .sid-fits))
 
@@ -137,7 +137,7 @@ module _ (c : Call) (place : ℕ) (s : Subscriber) (g : Good s) where
         rw (label-is label s there, ← left, ← entry-spared (entryNamed label s) asked s) (new-last (entryNamed label s) session host (spared asked s))
 
   module _ (session label : List ℕ) where
-    abbrev ended : List Access
+    abbrev pub ended : List Access
     ended = withSession session (onEntry (entryNamed label s) (s .accesses))
 
     line-ended : First ended → tunnels (freed (placeOf ended) s) ≡ without session (tunnels s)
@@ -149,7 +149,7 @@ module _ (c : Call) (place : ℕ) (s : Subscriber) (g : Good s) where
         ap (λ (l : List Access). tunnels (freed (placeOf l) s)) (keep-twice _ _ (s .accesses)) ∙ freed-one s g _ a others one
         ∙ ap (λ (x : List ℕ). without x (tunnels s)) own
 
-    ended-one : (wag : Bool) → noneFails (decidingChecks (termination session label) wag s) ≡ true → First ended
+    pub ended-one : (wag : Bool) → noneFails (decidingChecks (termination session label) wag s) ≡ true → First ended
     unfolding decidingChecks check noneFails
     ended-one wag h = not-none ended (by-test (none ended) (λ e. let z : false ≡ true = rw e at h in cc) (λ e. e))
 

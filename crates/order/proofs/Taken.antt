@@ -40,7 +40,7 @@ module _ {A : Type 0} where
   unfolding every
   kept-first f xs a others e = and-left (f a) _ (rw e at (kept f xs))
 
-same-comm : (a b : List ℕ) → same a b ≡ same b a
+pub same-comm : (a b : List ℕ) → same a b ≡ same b a
 same-comm a b =
     by-test (same a b)
     (λ e. let q : a ≡ b = same-eq a b e in rw q)
@@ -52,43 +52,52 @@ leave-none : (k : ℕ) (xs : List Access) → every (λ y. not (eqb k y)) (line 
 unfolding leave line
 leave-none k xs h = keep-all _ xs (every-imp _ _ (λ (x : Access) e. ap not (eqb-comm (x .place) k) ∙ e) xs (rw every-map at h))
 
-without-none : (s : Subscriber) (sid : List ℕ) (xs : List Access) → every (λ y. not (same sid y)) (sessions xs) ≡ true
-    → without sid (map (tunnelOf s) xs) ≡ map (tunnelOf s) xs
-unfolding without sessions tunnelOf
-without-none s sid xs h =
-    keep-all _ _ (every-map _ _ xs ∙ every-imp _ _ (λ (x : Access) e. ap not (same-comm (x .session) sid) ∙ e) xs (rw every-map at h))
+others-stay : (sid : List ℕ) (xs : List Access) → every (λ y. not (same sid y)) (sessions xs) ≡ true → keep (λ (x : Access). not (same (x .session) sid)) xs ≡ xs
+unfolding sessions
+others-stay sid xs h = keep-all _ xs (every-imp _ _ (λ (x : Access) e. ap not (same-comm (x .session) sid) ∙ e) xs (rw every-map at h))
 
-module _ (s : Subscriber) (x : Access) (xs : List Access) where
+module _ (x : Access) (xs : List Access) where
   own-leaves : every (λ y. not (eqb (x .place) y)) (line xs) ≡ true → every (λ y. not (same (x .session) y)) (sessions xs) ≡ true
-      → map (tunnelOf s) (leave (x .place) (x ∷ xs)) ≡ without (x .session) (map (tunnelOf s) (x ∷ xs))
-  unfolding leave without tunnelOf
+      → leave (x .place) (x ∷ xs) ≡ keep (λ (y : Access). not (same (y .session) (x .session))) (x ∷ xs)
+  unfolding leave
   own-leaves p d =
-      ap (map (tunnelOf s)) (keep-no _ x xs (ap not (eq-eqb (x .place) (x .place) refl)) ∙ leave-none (x .place) xs p)
-      ∙ sym (keep-no _ (tunnelOf s x) _ (ap not (same-refl (x .session))) ∙ without-none s (x .session) xs d)
+      keep-no _ x xs (ap not (eq-eqb (x .place) (x .place) refl)) ∙ leave-none (x .place) xs p
+      ∙ sym (keep-no _ x xs (ap not (same-refl (x .session))) ∙ others-stay (x .session) xs d)
 
   other-stays : (k : ℕ) (sid : List ℕ) → not (eqb (x .place) k) ≡ true → not (same (x .session) sid) ≡ true
-      → map (tunnelOf s) (leave k xs) ≡ without sid (map (tunnelOf s) xs)
-      → map (tunnelOf s) (leave k (x ∷ xs)) ≡ without sid (map (tunnelOf s) (x ∷ xs))
-  unfolding leave without tunnelOf
-  other-stays k sid p d e =
-      ap (map (tunnelOf s)) (keep-yes _ x xs p) ∙ ap (λ (l : List Tunnel). tunnelOf s x ∷ l) e ∙ sym (keep-yes _ (tunnelOf s x) _ d)
+      → leave k xs ≡ keep (λ (y : Access). not (same (y .session) sid)) xs
+      → leave k (x ∷ xs) ≡ keep (λ (y : Access). not (same (y .session) sid)) (x ∷ xs)
+  unfolding leave
+  other-stays k sid p d e = keep-yes _ x xs p ∙ ap (λ (l : List Access). x ∷ l) e ∙ sym (keep-yes _ x xs d)
 
 same-first : {A : Type 0} (x y : A) (xs ys : List A) → x ∷ xs ≡ y ∷ ys → x ≡ y
 same-first x y xs ys e = cc
 
 -- of accesses with a place and a Session-Id each, the one that leaves its place is the one with its Session-Id
-module _ (s : Subscriber) (f : Access → Bool) where
-  pub taken : (xs : List Access) (a : Access) (others : List Access) → distinct eqb (line xs) ≡ true → distinct same (sessions xs) ≡ true
-      → keep f xs ≡ a ∷ others → map (tunnelOf s) (leave (a .place) xs) ≡ without (a .session) (map (tunnelOf s) xs)
+module _ (f : Access → Bool) where
+  pub leaves-own : (xs : List Access) (a : Access) (others : List Access) → distinct eqb (line xs) ≡ true → distinct same (sessions xs) ≡ true
+      → keep f xs ≡ a ∷ others → leave (a .place) xs ≡ keep (λ (x : Access). not (same (x .session) (a .session))) xs
   unfolding distinct line sessions
-  taken [] a others p d e = absurd (no-first f a others e)
-  taken (x ∷ xs) a others p d e =
+  leaves-own [] a others p d e = absurd (no-first f a others e)
+  leaves-own (x ∷ xs) a others p d e =
       let apart : every (λ y. not (eqb (x .place) y)) (line xs) ≡ true = and-left (every (λ y. not (eqb (x .place) y)) (line xs)) _ p in
       let aside : every (λ y. not (same (x .session) y)) (sessions xs) ≡ true = and-left (every (λ y. not (same (x .session) y)) (sessions xs)) _ d in
       by-test (f x)
-      (λ t. let q : x ≡ a = same-first x a _ _ (sym (keep-yes f x xs t) ∙ e) in rw (← q) (own-leaves s x xs apart aside))
+      (λ t. let q : x ≡ a = same-first x a _ _ (sym (keep-yes f x xs t) ∙ e) in rw (← q) (own-leaves x xs apart aside))
       (λ t. let k : keep f xs ≡ a ∷ others = sym (keep-no f x xs t) ∙ e in
-      other-stays s x xs (a .place) (a .session)
+      other-stays x xs (a .place) (a .session)
       (first-kept f (λ y. not (eqb (x .place) (y .place))) xs a others (rw every-map at apart) k)
       (first-kept f (λ y. not (same (x .session) (y .session))) xs a others (rw every-map at aside) k)
-      (taken xs a others (and-right (every (λ y. not (eqb (x .place) y)) (line xs)) _ p) (and-right (every (λ y. not (same (x .session) y)) (sessions xs)) _ d) k))
+      (leaves-own xs a others (and-right (every (λ y. not (eqb (x .place) y)) (line xs)) _ p) (and-right (every (λ y. not (same (x .session) y)) (sessions xs)) _ d) k))
+
+-- and so it is the one tunnel with its Session-Id
+without-map : (s : Subscriber) (sid : List ℕ) (xs : List Access)
+    → without sid (map (tunnelOf s) xs) ≡ map (tunnelOf s) (keep (λ (x : Access). not (same (x .session) sid)) xs)
+unfolding without tunnelOf keep pick
+without-map s sid [] = refl
+without-map s sid (x ∷ xs) =
+    by-test (same (x .session) sid) (λ e. rw e (without-map s sid xs)) (λ e. rw e (ap (λ (l : List Tunnel). tunnelOf s x ∷ l) (without-map s sid xs)))
+
+pub taken : (s : Subscriber) (f : Access → Bool) (xs : List Access) (a : Access) (others : List Access) → distinct eqb (line xs) ≡ true → distinct same (sessions xs) ≡ true
+    → keep f xs ≡ a ∷ others → map (tunnelOf s) (leave (a .place) xs) ≡ without (a .session) (map (tunnelOf s) xs)
+taken s f xs a others p d e = ap (map (tunnelOf s)) (leaves-own f xs a others p d e) ∙ sym (without-map s (a .session) xs)

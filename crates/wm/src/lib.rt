@@ -1,8 +1,9 @@
-// The server for C: the four operations under their C names (include/wm.h), and those of the report.
+// The server for C: the four operations under their C names (include/wm.h), and those of the report and of the screen board.
 use decision::Outcome;
 use effects::Cut;
 use message::Kind;
 use report::Ratio;
+use screen::Count;
 ghost use mathlib.Core.Path.{_≡_};
 ghost use Prim.Native.Nat.{ℕ, _<_};
 ghost use Rattle.message.specs.Codes.{kindOf};
@@ -13,6 +14,8 @@ ghost use Rattle.decision.specs.Outcomes.{callOf, cutHost, cutMade, cutSession,
 ghost use Rattle.report.specs.TheReport.{count, add as addReport};
 ghost use Rattle.report.specs.Rates.{rate};
 ghost use Rattle.report.specs.Code.{toldBy, leaves, ratioSaid};
+ghost use Rattle.screen.specs.TheBoard.{feedRequest, feedResult, feedNotice, countConnected};
+ghost use Rattle.screen.specs.Code.{boardOf, leaves as leavesBoard, countSaid};
 ghost use Rattle.wm.specs.InC.{leavesInC, saidInC, In32};
 
 // SET-UP: 0 on success, else the number
@@ -160,4 +163,45 @@ pub extern "C" fn wm_report_rate(report: &[u64; 96]) -> Ratio
     ensures { λ r. ⌜ ratioSaid r ≡ rate (now (report .entry)) ⌝ }
 {
     report::rate(report)
+}
+
+// THE SCREEN BOARD: 0, or 25 and 24, with which the list is as it was
+
+// A request, of its kind.
+#[no_mangle]
+pub extern "C" fn wm_screen_request(screens: &mut [[u8; 140]], which: u32, session: &[u8]) -> u32
+    ensures { λ r. ⌜ leavesBoard r (now (screens .exit)) ≡ feedRequest (boardOf (now (screens .entry))) which (now (session .entry)) ⌝ }
+{
+    screen::request(screens, which, session)
+}
+
+// Its result.
+#[no_mangle]
+pub extern "C" fn wm_screen_result(
+    screens: &mut [[u8; 140]],
+    which: u32,
+    session: &[u8],
+    code: u32,
+    kind: u32,
+    place: u32,
+) -> u32
+    ensures { λ r. ⌜ leavesBoard r (now (screens .exit)) ≡ feedResult (boardOf (now (screens .entry))) which (now (session .entry)) code kind place ⌝ }
+{
+    screen::result(screens, which, session, code, kind, place)
+}
+
+// The notice of a cut.
+#[no_mangle]
+pub extern "C" fn wm_screen_notice(screens: &mut [[u8; 140]], session: &[u8]) -> u32
+    ensures { λ r. ⌜ leavesBoard r (now (screens .exit)) ≡ feedNotice (boardOf (now (screens .entry))) (now (session .entry)) ⌝ }
+{
+    screen::notice(screens, session)
+}
+
+// The number of connected screens.
+#[no_mangle]
+pub extern "C" fn wm_screens_connected(screens: &[[u8; 140]]) -> Count
+    ensures { λ r. ⌜ countSaid r ≡ countConnected (boardOf (now (screens .entry))) ⌝ }
+{
+    screen::connected(screens)
 }

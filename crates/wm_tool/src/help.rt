@@ -62,7 +62,7 @@ fn expecting() {
     line(b"play decode FILE notices          the notices of a file: Session-Id and gateway\n");
 }
 
-// The commands on reports.
+// The commands on reports, and the board.
 fn reports() {
     line(b"play report new REPORT            a report by hour, nothing counted\n");
     line(b"play report count REPORT TABLE REQUESTS HOURS\n");
@@ -77,6 +77,12 @@ fn reports() {
         b"play report show REPORT           a bar for each hour, cuts as x beside the other openings\n",
     );
     line(b"play report draw REPORT           the same as a picture (SVG) on standard output\n");
+    line(
+        b"play board SCREENS TABLE REQUESTS which screens are lit: SCREENS has a Session-Id a line, and\n",
+    );
+    line(
+        b"                                  the messages are put to the server on TABLE, which stays as it is\n",
+    );
 }
 
 // What else there is, and how files are read.
@@ -142,11 +148,14 @@ fn is_other(word: &[u8]) -> bool {
     if is_used(word, b"decode", b"usage: play decode FILE [hex|notices]") {
         return true;
     }
-    is_used(
+    if is_used(
         word,
         b"report",
         b"usage: play report new|count|add|show|draw REPORT [TABLE REQUESTS HOURS|OTHER]",
-    )
+    ) {
+        return true;
+    }
+    is_used(word, b"board", b"usage: play board SCREENS TABLE REQUESTS")
 }
 
 // What was meant can not be done with these words.

@@ -57,6 +57,10 @@ fn run(word: &[u8], table: &mut [u8; 4718593]) {
         tool_report::run(table);
         return;
     }
+    if is_called(word, b"board", 5, 5) {
+        tool_board::run(table);
+        return;
+    }
     help::refuse(word);
 }
 

@@ -1,0 +1,2 @@
+pub mod TheBoardAgrees
+pub mod WorkedCases

@@ -1,0 +1,9 @@
+pub mod Entries
+pub mod Feeding
+pub mod Table
+pub mod Results
+pub mod Heads
+pub mod Leaving
+pub mod WorkedCases
+pub mod TheBoardsRules
+pub mod Ensured

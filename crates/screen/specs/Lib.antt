@@ -1,0 +1,4 @@
+pub mod TheBoard
+pub mod Code
+pub mod TheBoardsRules
+pub mod WorkedCases
