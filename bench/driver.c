@@ -30,13 +30,13 @@ enum { CLOCK_MONOTONIC = 1 };
 
 enum { ROWS = 1024, MESSAGES = 12 };
 
-typedef struct wm_outcome handle_function(uint8_t *, size_t, const uint8_t *, size_t, const uint8_t *, size_t,
+typedef struct wm_outcome handle_function(uint8_t *, size_t, uint32_t, const uint8_t *, size_t, const uint8_t *, size_t,
                                           const uint8_t *, size_t, bool, uint8_t *, size_t, uint8_t *, size_t);
 
 /* What a call costs without a library: the loop around it. */
-static struct wm_outcome none_handle(uint8_t *t, size_t tl, const uint8_t *h, size_t hl, const uint8_t *r, size_t rl,
+static struct wm_outcome none_handle(uint8_t *t, size_t tl, uint32_t op, const uint8_t *h, size_t hl, const uint8_t *r, size_t rl,
                                      const uint8_t *m, size_t ml, bool w, uint8_t *a, size_t al, uint8_t *n, size_t nl) {
-    (void)t, (void)tl, (void)h, (void)hl, (void)r, (void)rl, (void)m, (void)ml, (void)w, (void)a, (void)al, (void)n, (void)nl;
+    (void)t, (void)tl, (void)op, (void)h, (void)hl, (void)r, (void)rl, (void)m, (void)ml, (void)w, (void)a, (void)al, (void)n, (void)nl;
     return (struct wm_outcome){0};
 }
 
@@ -131,19 +131,26 @@ struct line {
 static uint8_t *table;
 static uint32_t rows;
 
-/* Subscribers in every row; the last one has two W-APNs, the first with `limit` places, of which `open` are in use. */
+/* One row of the operator, as a table by itself, with this name. */
+static void enter(uint8_t *row, uint32_t op, const uint8_t *name) {
+    uint32_t shares[16] = {0};
+    shares[op] = 1;
+    plain_clear(row, WM_ROW);
+    plain_enter(row, WM_ROW, op, shares, 16, name, 15);
+}
+
+/* Subscribers of operator 0 in every row; the last one has two W-APNs, the first with `limit` places, of which `open` are in use. */
 static void subscribers(uint8_t limit, uint32_t open) {
     static uint8_t answer[WM_ANSWER_LEAST], notice[WM_NOTICE_LEAST];
-    plain_clear(table, rows * WM_ROW);
     for (uint32_t i = 0; i < rows; i++)
-        plain_enter(table + i * WM_ROW, WM_ROW, name_of(i), 15);
+        enter(table + i * WM_ROW, 0, name_of(i));
     uint8_t *row = table + (rows - 1) * WM_ROW;
-    plain_add(row, WM_ROW, name_of(rows - 1), 15, (const uint8_t *)label, sizeof label - 1, limit, 2);
+    plain_add(row, WM_ROW, 0, name_of(rows - 1), 15, (const uint8_t *)label, sizeof label - 1, limit, 2);
     if (limit < 8)
-        plain_add(row, WM_ROW, name_of(rows - 1), 15, (const uint8_t *)"corporate.example", 17, 1, 0);
+        plain_add(row, WM_ROW, 0, name_of(rows - 1), 15, (const uint8_t *)"corporate.example", 17, 1, 0);
     for (uint32_t i = 0; i < open; i++) {
         put_opening(0, i, rows - 1);
-        plain_handle(row, WM_ROW, (const uint8_t *)host, sizeof host - 1, (const uint8_t *)realm, sizeof realm - 1,
+        plain_handle(row, WM_ROW, 0, (const uint8_t *)host, sizeof host - 1, (const uint8_t *)realm, sizeof realm - 1,
                      messages[0].bytes, messages[0].length, true, answer, sizeof answer, notice, sizeof notice);
     }
 }
@@ -157,6 +164,13 @@ static void openings(uint32_t open) {
 static void cutting(void) {
     subscribers(2, 2);
     openings(2);
+}
+
+/* All other rows have the same name, of the other operators in turn. */
+static void cutting_namesake(void) {
+    cutting();
+    for (uint32_t i = 0; i + 1 < rows; i++)
+        enter(table + i * WM_ROW, 1 + i % 15, name_of(rows - 1));
 }
 
 static void cutting_full(void) {
@@ -294,6 +308,7 @@ static const struct line lines[] = {
     {"opening with a cut, 1 row", cutting, 1, MESSAGES, false, {2001, 1, 0, 0, 1, 72, 39}},
     {"opening with a cut, 64 rows", cutting, 64, MESSAGES, false, {2001, 1, 0, 0, 1, 72, 39}},
     {"opening with a cut, 1,024 rows", cutting, 1024, MESSAGES, false, {2001, 1, 0, 0, 1, 72, 39}},
+    {"opening with a cut, 1,024 rows of its name", cutting_namesake, 1024, MESSAGES, false, {2001, 1, 0, 0, 1, 72, 39}},
     {"opening with a cut, 8 accesses", cutting_full, 1, MESSAGES, false, {2001, 1, 0, 0, 1, 72, 39}},
     {"opening with a cut, W-APN in capitals", cutting_capitals, 1, MESSAGES, false, {2001, 1, 0, 0, 1, 72, 39}},
     {"opening without a cut, 1 row", opening_first, 1, MESSAGES, true, {2001, 1, 0, 1, 0, 0, 0}},
@@ -330,7 +345,7 @@ static void set_up(const struct line *line) {
 static inline struct wm_outcome call(handle_function *handle, struct lent *l, const struct line *line, size_t i) {
     if (line->restore)
         memcpy(l->table + (line->rows - 1) * WM_ROW, saved, WM_ROW);
-    return handle(l->table, line->rows * WM_ROW, (const uint8_t *)host, sizeof host - 1, (const uint8_t *)realm,
+    return handle(l->table, line->rows * WM_ROW, 0, (const uint8_t *)host, sizeof host - 1, (const uint8_t *)realm,
                   sizeof realm - 1, messages[i].bytes, messages[i].length, true, l->answer, sizeof l->answer, l->notice,
                   sizeof l->notice);
 }

@@ -226,6 +226,36 @@ static void by_chance(struct request *r) {
         r->length = one_in(2) ? below(24) : r->length - below(6);
 }
 
+/* ---- operators ---- */
+
+enum { OPERATORS = 16 };
+
+/* Operator 0 more often than all others, and now and then none at all. */
+static uint32_t pick_operator(void) {
+    static const uint32_t others[] = {1, 1, 1, 2, 15}, none[] = {16, 17, 255, 256, 65536, 0xFFFFFFFF};
+    if (decoded || !one_in(3))
+        return 0;
+    return one_in(12) ? none[below(6)] : others[below(5)];
+}
+
+/* Shares for a table of ROWS rows: mostly some that fit, of operator 0 and those around it. Gives back how many they are. */
+static size_t pick_shares(uint32_t *shares) {
+    memset(shares, 0, (OPERATORS + 1) * sizeof *shares);
+    if (decoded) {
+        shares[0] = ROWS;
+        return OPERATORS;
+    }
+    uint32_t sum = one_in(10) ? ROWS + 1 : ROWS - one_in(3);
+    for (; sum > 0; sum--)
+        shares[one_in(2) ? 0 : one_in(2) ? 1 : one_in(2) ? 2 : 15]++;
+    if (one_in(20)) {
+        uint32_t high = 1u << (31 - below(2)), times = one_in(2) ? 4 : 1 + below(3);
+        for (; times > 0; times--)
+            shares[3 + below(12)] += high;
+    }
+    return one_in(20) ? OPERATORS - 1 + 2 * below(2) : OPERATORS;
+}
+
 /* ---- one call of both ---- */
 
 static bool same_rooms(void) {
@@ -242,33 +272,36 @@ static bool set_up(uint32_t *number) {
     size_t length = table_length();
     const struct text *name = decoded ? &names[3 + below(4)] : PICK(names), *label = pick_label();
     const uint8_t *n = (const uint8_t *)name->bytes, *l = (const uint8_t *)label->bytes;
-    uint8_t limit = (uint8_t)(one_in(20) ? below(12) : 1 + below(3)), flags = (uint8_t)(one_in(20) ? below(6) : 2 * below(2));
+    uint8_t limit = (uint8_t)(one_in(20) ? below(12) : 1 + below(3)), flags = (uint8_t)(one_in(8) ? below(6) : 2 * below(2));
     if (one_in(12)) {
         *number = wm_clear(proved.table, length);
         return *number == plain_clear(plain.table, length);
     }
-    if (one_in(3)) {
-        *number = wm_enter(proved.table, length, n, name->length);
-        return *number == plain_enter(plain.table, length, n, name->length);
+    uint32_t op = pick_operator(), shares[OPERATORS + 1];
+    if (one_in(2)) {
+        size_t count = pick_shares(shares);
+        *number = wm_enter(proved.table, length, op, shares, count, n, name->length);
+        return *number == plain_enter(plain.table, length, op, shares, count, n, name->length);
     }
-    *number = wm_add(proved.table, length, n, name->length, l, label->length, limit, flags);
-    return *number == plain_add(plain.table, length, n, name->length, l, label->length, limit, flags);
+    *number = wm_add(proved.table, length, op, n, name->length, l, label->length, limit, flags);
+    return *number == plain_add(plain.table, length, op, n, name->length, l, label->length, limit, flags);
 }
 
 static bool request(struct wm_outcome *o) {
     static struct request r;
     const struct text *host = PICK(texts), *realm = PICK(texts);
     size_t table = table_length(), answer = WM_ANSWER_LEAST, notice = WM_NOTICE_LEAST;
+    uint32_t op = pick_operator();
     bool wag = !one_in(4);
     by_chance(&r);
     if (one_in(100))
         answer = answer + below(3) - 1;
     if (one_in(100))
         notice = notice + below(3) - 1;
-    *o = wm_handle(proved.table, table, (const uint8_t *)host->bytes, host->length, (const uint8_t *)realm->bytes,
+    *o = wm_handle(proved.table, table, op, (const uint8_t *)host->bytes, host->length, (const uint8_t *)realm->bytes,
                    realm->length, r.bytes, r.length, wag, proved.answer, answer, proved.notice, notice);
     struct wm_outcome other =
-        plain_handle(plain.table, table, (const uint8_t *)host->bytes, host->length, (const uint8_t *)realm->bytes,
+        plain_handle(plain.table, table, op, (const uint8_t *)host->bytes, host->length, (const uint8_t *)realm->bytes,
                      realm->length, r.bytes, r.length, wag, plain.answer, answer, plain.notice, notice);
     return memcmp(o, &other, sizeof other) == 0;
 }

@@ -113,14 +113,15 @@ static void ask(const uint8_t *session, size_t bytes) {
 }
 
 static void set_up(void) {
+    static const uint32_t shares[16] = {1};
     wm_clear(table, sizeof table);
-    wm_enter(table, sizeof table, TEXT("001010123456789"));
-    wm_add(table, sizeof table, TEXT("001010123456789"), TEXT("board"), 1, 0);
+    wm_enter(table, sizeof table, 0, shares, 16, TEXT("001010123456789"));
+    wm_add(table, sizeof table, 0, TEXT("001010123456789"), TEXT("board"), 1, 0);
 }
 
 static void open_tunnel(void) {
-    outcome = wm_handle(table, sizeof table, TEXT("server.example"), TEXT("example"), message, end, true, answer, sizeof answer, notice,
-                        sizeof notice);
+    outcome = wm_handle(table, sizeof table, 0, TEXT("server.example"), TEXT("example"), message, end, true, answer, sizeof answer,
+                        notice, sizeof notice);
 }
 
 int main(void) {

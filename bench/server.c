@@ -1,12 +1,11 @@
-/* The rules of document 01, and the counting of request W9, in plain C, written from the papers for speed: what the proved library is
- * measured against.
+/* The rules of document 01, with those of 02 that have landed, in plain C, written from the paper for speed: what the proved library is measured against.
  *
  * C11 without intrinsics, for any byte order. Words are read by memcpy, which compiles to one load.
  */
 #include "plain.h"
 
-enum { ROWS = 1024, BLOCK = 512, SUMMED = 510, NAME_MOST = 15, TEXT_MOST = 128, LABEL_MOST = 100, ENTRIES = 4, PLACES = 8 };
-enum { ENTRY = 32, ENTRY_SIZE = 104, ENTRIES_END = ENTRY + ENTRIES * ENTRY_SIZE, LINE = 20 }; /* in block 0 */
+enum { ROWS = 1024, BLOCK = 512, SUMMED = 510, NAME_MOST = 15, TEXT_MOST = 128, LABEL_MOST = 100, ENTRIES = 4, PLACES = 8, OPERATORS = 16 };
+enum { ENTRY = 32, ENTRY_SIZE = 104, ENTRIES_END = ENTRY + ENTRIES * ENTRY_SIZE, OPERATOR = 19, LINE = 20 }; /* in block 0 */
 enum { SESSION_AT = 8, HOST_AT = 136, POLICY_AT = 264, TEXTS_END = 392 };                     /* in a place's block */
 enum { BARRED = 1, MAY_ROAM = 2 };
 enum { RESULT = 1, EXPERIMENTAL = 2 };
@@ -231,16 +230,16 @@ static bool places_sound(const uint8_t *row, struct row_use *use) {
     return true;
 }
 
-/* Of a row that was found: its first byte and its name's length are right. */
+/* Of a row that was found: its first byte, its operator and its name's length are right. */
 static bool row_sound(const uint8_t *row, struct row_use *use) {
     memset(use, 0, sizeof *use);
-    return row[18] <= ENTRIES && row[19] == 0 && (row[28] | row[29] | row[30] | row[31]) == 0 && name_sound(row) &&
+    return row[18] <= ENTRIES && (row[28] | row[29] | row[30] | row[31]) == 0 && name_sound(row) &&
            line_sound(row, use) && entries_sound(row) && sums_agree(row) && places_sound(row, use);
 }
 
-/* The first row of this name, or none. A row starts with the byte 1, the length and the name. The word that ends with the name
- * tells almost every row apart; where the name is too short for one, the first byte does. */
-static APART uint8_t *find_row(uint8_t *table, size_t table_length, const uint8_t *name, size_t length) {
+/* The operator's first row of this name, or none. A row starts with the byte 1, the length and the name. The word that ends with the
+ * name tells almost every row apart, and the operator those of the same name; where the name is too short for a word, the first byte does. */
+static APART uint8_t *find_row(uint8_t *table, size_t table_length, uint32_t op, const uint8_t *name, size_t length) {
     if (length < 1 || length > NAME_MOST)
         return 0;
     uint8_t start[2 + NAME_MOST] = {1, (uint8_t)length}, *end = table + table_length;
@@ -249,12 +248,12 @@ static APART uint8_t *find_row(uint8_t *table, size_t table_length, const uint8_
         size_t at = length - 6;
         uint64_t wanted = word(start + at);
         for (uint8_t *row = table; row != end; row += WM_ROW)
-            if (word(row + at) == wanted && memcmp(row, start, length + 2) == 0)
+            if (word(row + at) == wanted && row[OPERATOR] == op && memcmp(row, start, length + 2) == 0)
                 return row;
         return 0;
     }
     for (uint8_t *row = table; row != end; row += WM_ROW)
-        if (row[0] == 1 && memcmp(row, start, length + 2) == 0)
+        if (row[0] == 1 && row[OPERATOR] == op && memcmp(row, start, length + 2) == 0)
             return row;
     return 0;
 }
@@ -272,33 +271,61 @@ uint32_t plain_clear(uint8_t *table, size_t table_length) {
     return 0;
 }
 
-uint32_t plain_enter(uint8_t *table, size_t table_length, const uint8_t *name, size_t name_length) {
+/* Sixteen shares, and no more of them together than there are rows. */
+static bool shares_fit(const uint32_t *shares, size_t shares_length, size_t rows) {
+    uint64_t sum = 0;
+    if (shares_length != OPERATORS)
+        return false;
+    for (size_t i = 0; i < OPERATORS; i++)
+        sum += shares[i];
+    return sum <= rows;
+}
+
+/* How many rows the operator has, sound or not. */
+static size_t own_rows(const uint8_t *table, size_t table_length, uint32_t op) {
+    size_t own = 0;
+    for (const uint8_t *row = table; row != table + table_length; row += WM_ROW)
+        own += row[0] == 1 && row[OPERATOR] == op;
+    return own;
+}
+
+uint32_t plain_enter(uint8_t *table, size_t table_length, uint32_t op, const uint32_t *shares, size_t shares_length,
+                     const uint8_t *name, size_t name_length) {
     if (!table_fits(table_length))
         return 1;
+    if (op >= OPERATORS)
+        return 33;
+    if (!shares_fit(shares, shares_length, table_length / WM_ROW))
+        return 26;
     if (name_length < 1 || name_length > NAME_MOST)
         return 9;
     for (size_t i = 0; i < name_length; i++)
         if (name[i] < '0' || name[i] > '9')
             return 9;
-    if (find_row(table, table_length, name, name_length))
+    if (find_row(table, table_length, op, name, name_length))
         return 10;
+    if (own_rows(table, table_length, op) >= shares[op])
+        return 27;
     for (uint8_t *row = table; row != table + table_length; row += WM_ROW) {
         if (row[0] != 0 || !all_zero(row, WM_ROW))
             continue;
         row[0] = 1;
         row[1] = (uint8_t)name_length;
         memcpy(row + 2, name, name_length);
+        row[OPERATOR] = (uint8_t)op;
         put_sums(row);
         return 0;
     }
     return 11;
 }
 
-uint32_t plain_add(uint8_t *table, size_t table_length, const uint8_t *name, size_t name_length, const uint8_t *label,
-                   size_t label_length, uint8_t limit, uint8_t flags) {
+uint32_t plain_add(uint8_t *table, size_t table_length, uint32_t op, const uint8_t *name, size_t name_length,
+                   const uint8_t *label, size_t label_length, uint8_t limit, uint8_t flags) {
     if (!table_fits(table_length))
         return 1;
-    uint8_t *row = find_row(table, table_length, name, name_length);
+    if (op >= OPERATORS)
+        return 33;
+    uint8_t *row = find_row(table, table_length, op, name, name_length);
     struct row_use use;
     if (!row)
         return 12;
@@ -639,8 +666,8 @@ static void decide_termination(struct call *c, struct wm_outcome *o) {
     o->code = 2001;
 }
 
-static void decide(uint8_t *table, size_t table_length, struct call *c, bool aa, bool wag, struct wm_outcome *o) {
-    c->row = find_row(table, table_length, field(c, USER_NAME), c->a.of[USER_NAME].length);
+static void decide(uint8_t *table, size_t table_length, uint32_t op, struct call *c, bool aa, bool wag, struct wm_outcome *o) {
+    c->row = find_row(table, table_length, op, field(c, USER_NAME), c->a.of[USER_NAME].length);
     if (!c->row) {
         o->kind = EXPERIMENTAL;
         o->code = 5001;
@@ -740,10 +767,12 @@ static void write_answer(uint8_t *answer, const struct call *c, const struct own
 
 /* ---- a request ---- */
 
-static uint32_t no_answer(size_t table_length, size_t host_length, size_t realm_length, const uint8_t *message,
+static uint32_t no_answer(size_t table_length, uint32_t op, size_t host_length, size_t realm_length, const uint8_t *message,
                           size_t message_length, size_t answer_length, size_t notice_length) {
     if (!table_fits(table_length))
         return 1;
+    if (op >= OPERATORS)
+        return 33;
     if (host_length - 1 >= TEXT_MOST || realm_length - 1 >= TEXT_MOST)
         return 2;
     if (answer_length < WM_ANSWER_LEAST)
@@ -759,11 +788,11 @@ static uint32_t no_answer(size_t table_length, size_t host_length, size_t realm_
     return message[4] & 0x80 ? 0 : 8;
 }
 
-struct wm_outcome plain_handle(uint8_t *table, size_t table_length, const uint8_t *host, size_t host_length,
+struct wm_outcome plain_handle(uint8_t *table, size_t table_length, uint32_t op, const uint8_t *host, size_t host_length,
                                const uint8_t *realm, size_t realm_length, const uint8_t *message, size_t message_length,
                                bool wag, uint8_t *answer, size_t answer_length, uint8_t *notice, size_t notice_length) {
     struct wm_outcome o = {0};
-    o.code = no_answer(table_length, host_length, realm_length, message, message_length, answer_length, notice_length);
+    o.code = no_answer(table_length, op, host_length, realm_length, message, message_length, answer_length, notice_length);
     if (o.code)
         return o;
     struct call c;
@@ -782,7 +811,7 @@ struct wm_outcome plain_handle(uint8_t *table, size_t table_length, const uint8_
             o.code = lists(message, &c.a, aa);
     }
     if (o.code == 0)
-        decide(table, table_length, &c, aa, wag, &o);
+        decide(table, table_length, op, &c, aa, wag, &o);
     write_answer(answer, &c, &own, first_session(message, (uint32_t)message_length), &o);
     return o;
 }

@@ -1,5 +1,6 @@
-/* A table of one row: a subscriber with one W-APN opens a tunnel. Prints the outcome, the answer's bytes, the report of that
- * hour, and what the screen board shows of the request, of its result and of a notice. */
+/* A table of two rows, one for each of two operators, who have a subscriber of the same name: one of them opens a tunnel on its one W-APN, the other has
+ * no W-APN. Prints the outcome, the answer's bytes, what the other operator is told, the report of that hour, and what the screen board shows of the request, of its
+ * result and of a notice. */
 
 /* The kit's compiler comes without headers, so the types and the one function of the C library stand here. */
 #define WM_OWN_TYPES
@@ -16,7 +17,10 @@ int printf(const char *, ...);
 
 static struct wm_report report;
 static struct wm_screen screens[2] = {{WM_OFF, 0, 1, "a"}, {WM_OFF, 0, 1, "b"}};
-static uint8_t table[WM_ROW], message[512], answer[WM_ANSWER_LEAST], notice[WM_NOTICE_LEAST];
+static uint8_t table[2 * WM_ROW], message[512], answer[WM_ANSWER_LEAST], notice[WM_NOTICE_LEAST];
+
+/* Operators 0 and 1 may have a row each. */
+static const uint32_t shares[WM_OPERATORS] = {1, 1};
 
 #define TEXT(s) (const uint8_t *)(s), sizeof(s) - 1
 
@@ -73,14 +77,19 @@ static void show(const char *fed, uint32_t number) {
 
 int main(void) {
     printf("clear: %u\n", wm_clear(table, sizeof table));
-    printf("enter: %u\n", wm_enter(table, sizeof table, TEXT("001010123456789")));
-    printf("add: %u\n", wm_add(table, sizeof table, TEXT("001010123456789"), TEXT("board"), 2, 0));
-    struct wm_outcome o = wm_handle(table, sizeof table, TEXT("server.example"), TEXT("example"), message, opening(), true,
+    printf("enter: %u\n", wm_enter(table, sizeof table, 0, shares, WM_OPERATORS, TEXT("001010123456789")));
+    printf("enter, for operator 1: %u\n", wm_enter(table, sizeof table, 1, shares, WM_OPERATORS, TEXT("001010123456789")));
+    printf("and one more than its share: %u\n", wm_enter(table, sizeof table, 1, shares, WM_OPERATORS, TEXT("001010999999999")));
+    printf("add: %u\n", wm_add(table, sizeof table, 0, TEXT("001010123456789"), TEXT("board"), 2, 0));
+    struct wm_outcome o = wm_handle(table, sizeof table, 0, TEXT("server.example"), TEXT("example"), message, opening(), true,
                                     answer, sizeof answer, notice, sizeof notice);
     printf("code %u, kind %u, place %u, cut %u; an answer of %u bytes:", o.code, o.kind, o.place, o.cut, o.length);
     for (uint32_t i = 0; i < o.length; i++)
         printf(i % 16 == 0 ? "\n %02X" : " %02X", answer[i]);
     printf("\n");
+    struct wm_outcome other = wm_handle(table, sizeof table, 1, TEXT("server.example"), TEXT("example"), message, opening(), true,
+                                        answer, sizeof answer, notice, sizeof notice);
+    printf("for operator 1: code %u, kind %u\n", other.code, other.kind);
     struct wm_told told = {21, 0, o.code, o.kind, o.place, o.cut};
     printf("count: %u\n", wm_report_count(&report, &told, 1));
     struct wm_rate rate = wm_report_rate(&report);

@@ -2,6 +2,9 @@
  * and a board that shows which screens are connected.
  * docs/RULES.md has the rules.
  *
+ * A table may serve several operators, 0 to 15. A row is one operator's: two of them may have a subscriber of one name, and neither finds or changes
+ * the other's. Who has one operator alone says 0 everywhere.
+ *
  * Everything is lent by the caller: a pointer and a length. No function keeps a pointer, allocates, locks or waits, and none has
  * state of its own. Any length and any contents are allowed: what does not fit the rules is refused by its number, and a refusal
  * leaves everything lent as it was. A room's bytes behind what was written stay as they were.
@@ -10,10 +13,10 @@
  *
  * - A pointer is valid for its length: that many bytes can be read, and written where it is not const.
  * - No pointer is null, not even with length 0: any address of the program's own will do there, it is neither read nor written.
- * - Any alignment will do for bytes. A report, a list of results and a list of screens are aligned as their types ask.
+ * - Any alignment will do for bytes. Shares, a report, a list of results and a list of screens are aligned as their types ask.
  * - Buffers of one call do not overlap where one of them is not const: table, answer and notice stand apart from each other
  *   and from all the rest, a report that is changed from the other one and from the list, and a list of screens from the Session-Id. Those that are const may overlap each other: host,
- *   realm, message, name, label.
+ *   realm, message, name, label, shares.
  * - While a call runs no other thread writes to anything that was lent to it, and none reads table, answer or notice.
  *   So calls on one table come one after another, in any threads, with whatever lock the caller likes. Calls with tables and rooms of
  *   their own may run at once, and may share host, realm and messages.
@@ -38,6 +41,7 @@ extern "C" {
 #define WM_ROW 4608u          /* bytes of a row; a table is 1 to 1,024 rows */
 #define WM_ANSWER_LEAST 5120u /* the answer room's least length */
 #define WM_NOTICE_LEAST 256u  /* the notice room's least length */
+#define WM_OPERATORS 16u      /* how many shares there are: one for each operator */
 
 /* The flags of a label: either, both or none. */
 enum wm_flag { WM_BARRED = 1, WM_MAY_ROAM = 2 };
@@ -45,12 +49,13 @@ enum wm_flag { WM_BARRED = 1, WM_MAY_ROAM = 2 };
 /* Which kind of code an outcome has. */
 enum wm_kind { WM_NO_ANSWER = 0, WM_RESULT_CODE = 1, WM_EXPERIMENTAL_RESULT = 2 };
 
-/* The numbers of refusals that are no Diameter codes. A set-up operation gives 0, 1 or 9 to 17. A request gives 1 to 8, with the
+/* The numbers of refusals that are no Diameter codes. A set-up operation gives 0, 1, 33, 26, 27 or 9 to 17. A request gives 1, 33 or 2 to 8, with the
  * kind WM_NO_ANSWER, or a code that goes into its answer. A board gives 0, 25 or 24, tested in this order;
  * a report 0, 29 or 30. Of the others the first that holds is given, in the order of these lines. */
 enum wm_number {
     WM_DONE = 0,             /* set-up, a board and a report: it is done */
     WM_TABLE_LENGTH = 1,     /* the table is not 1 to 1,024 rows of WM_ROW bytes */
+    WM_NO_OPERATOR = 33,     /* entering, adding, and a request: the operator is over 15 */
     WM_OWN_NAMES = 2,        /* the own host or realm has not 1 to 128 bytes */
     WM_ANSWER_ROOM = 3,      /* the answer room is under WM_ANSWER_LEAST */
     WM_NOTICE_ROOM = 4,      /* the notice room is under WM_NOTICE_LEAST */
@@ -58,10 +63,12 @@ enum wm_number {
     WM_VERSION = 6,          /* the message's version is not 1 */
     WM_HEADER_LENGTH = 7,    /* the length in its header is not that given, or no multiple of 4 */
     WM_NO_REQUEST = 8,       /* its R bit is clear */
+    WM_SHARES = 26,          /* entering: the shares are not WM_OPERATORS, or come to more than the table's rows */
     WM_NAME_FORM = 9,        /* entering: the name is not 1 to 15 decimal digits */
-    WM_NAME_HELD = 10,       /* entering: a row has that name */
+    WM_NAME_HELD = 10,       /* entering: a row of the operator has that name */
+    WM_SHARE_FULL = 27,      /* entering: the operator has as many rows as its share, or more */
     WM_NO_FREE_ROW = 11,     /* entering: no row is wholly zero */
-    WM_NO_SUBSCRIBER = 12,   /* adding: no row has that name */
+    WM_NO_SUBSCRIBER = 12,   /* adding: no row of the operator has that name */
     WM_UNSOUND_ROW = 13,     /* adding: the row is damaged */
     WM_LABEL_FORM = 14,      /* adding: the label has not 1 to 100 bytes, the limit is not 1 to 8, or the flags are over 3 */
     WM_LABEL_HELD = 15,      /* adding: the subscriber has that label, its letters in either case */
@@ -73,7 +80,7 @@ enum wm_number {
     WM_OVER_64_BITS = 30     /* a report: an hour's or the year's total of some column passes 64 bits */
 };
 
-/* code: the number 1 to 8 of a call that gets no answer, or the Diameter code.
+/* code: the number, 1 to 8 or 33, of a call that gets no answer, or the Diameter code.
  * kind: one of enum wm_kind. length: of the answer. place: taken by a new access, 1 to 8, else 0.
  * cut: 1 if an access was cut, with the lengths of its Session-Id (bytes 0 on of the notice) and of its gateway host
  * (bytes 128 on); else all three are 0. */
@@ -81,14 +88,17 @@ struct wm_outcome {
     uint32_t code, kind, length, place, cut, cut_session, cut_host;
 };
 
-/* Set-up: one of enum wm_number. flags: of enum wm_flag. */
+/* Set-up: one of enum wm_number. op: the operator, 0 to 15. flags: of enum wm_flag.
+ * shares: for each operator how many rows it may have; shares_length: how many shares there are, WM_OPERATORS. They are not kept in the table, but
+ * lent at each entering. With the same ones each time, on a table that was cleared before, nobody gets WM_NO_FREE_ROW. */
 uint32_t wm_clear(uint8_t *table, size_t table_length);
-uint32_t wm_enter(uint8_t *table, size_t table_length, const uint8_t *name, size_t name_length);
-uint32_t wm_add(uint8_t *table, size_t table_length, const uint8_t *name, size_t name_length, const uint8_t *label,
-                size_t label_length, uint8_t limit, uint8_t flags);
+uint32_t wm_enter(uint8_t *table, size_t table_length, uint32_t op, const uint32_t *shares, size_t shares_length,
+                  const uint8_t *name, size_t name_length);
+uint32_t wm_add(uint8_t *table, size_t table_length, uint32_t op, const uint8_t *name, size_t name_length,
+                const uint8_t *label, size_t label_length, uint8_t limit, uint8_t flags);
 
-/* One request. host and realm are the server's own names; wag is the wireless gateway's word on a policy. */
-struct wm_outcome wm_handle(uint8_t *table, size_t table_length, const uint8_t *host, size_t host_length,
+/* One request, for a subscriber of the operator op. host and realm are the server's own names; wag is the wireless gateway's word on a policy. */
+struct wm_outcome wm_handle(uint8_t *table, size_t table_length, uint32_t op, const uint8_t *host, size_t host_length,
                             const uint8_t *realm, size_t realm_length, const uint8_t *message, size_t message_length,
                             bool wag, uint8_t *answer, size_t answer_length, uint8_t *notice, size_t notice_length);
 

@@ -3,6 +3,7 @@
 use crate::drafts::{Draft, DraftAvp};
 use crate::either_case::typed;
 use crate::known_avps::known_and_ignored;
+use crate::operators::namesake;
 use crate::program::{Asked, Operation, Room};
 use crate::random::Random;
 use crate::reading_a_message::{
@@ -10,7 +11,7 @@ use crate::reading_a_message::{
     W_APN,
 };
 use crate::rules::DOCUMENT_01;
-use crate::the_table::{Access, Entry, MAY_ROAM, PLACES, ROW, Row, encode, same_label};
+use crate::the_table::{Access, Entry, MAY_ROAM, PLACES, ROW, Row, encode, put, same_label};
 
 #[derive(Clone, Copy, Debug, PartialEq, Eq)]
 pub enum Sort {
@@ -25,6 +26,7 @@ pub const SORTS: [Sort; 3] = [Sort::Open, Sort::Policy, Sort::Termination];
 /// subscriber's, at `index` in the table.
 pub struct Case {
     pub sort: Sort,
+    pub operator: u32,
     pub row: Row,
     pub index: usize,
     pub table: Vec<u8>,
@@ -41,10 +43,12 @@ impl Case {
     pub fn good(sort: Sort, random: &mut Random) -> Case {
         let name = digits(random);
         let mut row = sound_row(&name, random);
+        row.operator = *random.pick(&[0, 0, 1, 2, 9, 14, 15]);
         let draft = good_draft(sort, &mut row, random);
         let index = random.below(2);
         let mut case = Case {
             sort,
+            operator: u32::from(row.operator),
             row,
             index,
             table: vec![0; ROW * random.from_to(index + 1, 3)],
@@ -62,7 +66,19 @@ impl Case {
             },
         };
         case.write_row();
+        case.write_namesakes(random);
         case
+    }
+
+    /// Gives the name to other operators too: in the row before, and now and then in one
+    /// behind.
+    fn write_namesakes(&mut self, random: &mut Random) {
+        for index in 0..self.table.len() / ROW {
+            if index < self.index || index > self.index && random.once_in(6) {
+                let bytes = namesake(&self.row, random);
+                put(&mut self.table, index * ROW, &bytes);
+            }
+        }
     }
 
     /// A row with no place free and a new access on an entry whose accesses were all
@@ -118,6 +134,7 @@ impl Case {
 
     pub fn operation(&self) -> Operation {
         Operation::Handle(Asked {
+            operator: self.operator,
             host: self.host.clone(),
             realm: self.realm.clone(),
             message: self.draft.bytes(),

@@ -5,8 +5,8 @@ use crate::either_case::typed;
 use crate::random::Random;
 use crate::reading_a_message::USER_NAME;
 use crate::the_table::{
-    Access, BLOCK, ENTRIES, ENTRY, ENTRY_COUNT, Entry, HOST, IN_USE, LINE, NAME, POLICY, ROW, Row,
-    SESSION, SUMS, put, sums,
+    Access, BLOCK, ENTRIES, ENTRY, ENTRY_COUNT, Entry, HOST, IN_USE, LINE, NAME, OPERATOR, POLICY,
+    ROW, Row, SESSION, SUMS, put, sums,
 };
 
 /// How many ways there are to damage a row.
@@ -171,7 +171,7 @@ fn damage_head(bytes: &mut [u8], row: &Row, way: usize, random: &mut Random) {
         (random.from_to(name_end.min(16), 16), &[b'0', 1]),
         (IN_USE, &[0, 1, 128, 255]),
         (ENTRY_COUNT, &[0, 1, 2, 3, 4, 5, 255]),
-        (19, &[1, 255]),
+        (OPERATOR, &[0, 1, 15, 16, 255]),
         (LINE + random.below(8), &[0, 1, 2, 8, 9, 255]),
         (LINE + 7, &[1, 8]),
         (random.from_to(28, 31), &[1, 128]),

@@ -34,8 +34,15 @@ impl Decision {
 /// The new access's place, or 0, and the access that was cut for it.
 type Done = (u8, Option<Access>);
 
-pub fn decide(rules: &Rules, table: &mut [u8], request: &Request, wag: bool) -> Decision {
-    match change(rules, table, request, wag) {
+/// The request of an operator, with the wireless gateway's word.
+pub fn decide(
+    rules: &Rules,
+    table: &mut [u8],
+    operator: u32,
+    request: &Request,
+    wag: bool,
+) -> Decision {
+    match change(rules, table, operator, request, wag) {
         Ok((place, cut)) => Decision {
             code: SUCCESS,
             place,
@@ -46,9 +53,15 @@ pub fn decide(rules: &Rules, table: &mut [u8], request: &Request, wag: bool) -> 
 }
 
 /// Changes a copy of the row and stores it only when nothing was refused.
-fn change(rules: &Rules, table: &mut [u8], request: &Request, wag: bool) -> Result<Done, Code> {
+fn change(
+    rules: &Rules,
+    table: &mut [u8],
+    operator: u32,
+    request: &Request,
+    wag: bool,
+) -> Result<Done, Code> {
     let name = request.text(USER_NAME);
-    let index = (rules.find)(rules, table, name).ok_or(USER_UNKNOWN)?;
+    let index = (rules.find)(rules, table, operator, name).ok_or(USER_UNKNOWN)?;
     let mut row = sound(rules, row_at(table, index)).ok_or(plain(5012))?;
     let done = match (request.command, request.session_type()) {
         (AA, Some(0)) => open(rules, &mut row, request)?,

@@ -8,7 +8,9 @@ use crate::random::Random;
 use crate::reading_a_message::{SESSION_ID, USER_NAME, W_APN};
 use crate::recorder::Recorder;
 use crate::rules::DOCUMENT_01;
-use crate::the_table::{Entry, NAME, ROW, Row, bears, decode, encode, find, row_at, same_label};
+use crate::the_table::{
+    Entry, NAME, ROW, Row, bears, decode, encode, find, is_of, row_at, same_label,
+};
 
 /// Bytes that differ as the two cases of a letter do, each way round: the first and the
 /// last letter, the bytes next to them, and a letter of Latin-1. The first is held.
@@ -58,15 +60,15 @@ pub fn either_case(recorder: &mut Recorder, pair: (u8, u8), random: &mut Random)
     let (held, asked) = two_labels(pair, random);
     let name = digits(random);
     recorder.set_table(&row_of(&name, &[&held]));
-    recorder.call(add(&name, &asked, 1, 0), false);
+    recorder.call(add(0, &name, &asked, 1, 0), false);
     recorder.set_table(&row_of(&name, &[&held, &asked]));
-    recorder.call(add(&name, b"one more", 1, 0), false);
+    recorder.call(add(0, &name, b"one more", 1, 0), false);
     for draft in [
         Draft::open(&name, b"s", b"pdg", &asked),
         Draft::termination(&name, b"s", b"pdg", &held),
     ] {
         recorder.set_table(&row_of(&name, &[&held, &asked]));
-        recorder.call(request(&draft, true, random), false);
+        recorder.call(request(0, &draft, true, random), false);
     }
     other_texts(recorder, random);
 }
@@ -127,6 +129,7 @@ fn row_of(name: &[u8], labels: &[&[u8]]) -> Vec<u8> {
 #[derive(Default)]
 pub struct Texts<'a> {
     pub place: &'static str,
+    pub operator: u32,
     pub name: &'a [u8],
     pub label: &'a [u8],
     pub session: &'a [u8],
@@ -135,8 +138,9 @@ pub struct Texts<'a> {
 /// What of a call has to do with the case of letters, for the report.
 pub fn signs(texts: &Texts, table: &[u8]) -> Vec<String> {
     let mut signs = Vec::new();
-    let Some(row) = find(table, texts.name).and_then(|i| decode(row_at(table, i))) else {
-        if name_in_another_case(texts.name, table) {
+    let index = find(table, texts.operator, texts.name);
+    let Some(row) = index.and_then(|i| decode(row_at(table, i))) else {
+        if name_in_another_case(texts.operator, texts.name, table) {
             signs.push("name in another case".to_string());
         }
         return signs;
@@ -175,8 +179,9 @@ fn pair_in(one: &[u8], other: &[u8]) -> Option<(u8, u8)> {
     (alone && PAIRS.contains(&pair)).then_some(pair)
 }
 
-fn name_in_another_case(name: &[u8], table: &[u8]) -> bool {
+fn name_in_another_case(operator: u32, name: &[u8], table: &[u8]) -> bool {
     let held = |row: &[u8]| row[NAME..].get(..name.len()).unwrap_or_default().to_vec();
     let bears_it = |row: &[u8]| in_another_case(&held(row), name) && bears(row, &held(row));
-    table.chunks_exact(ROW).any(bears_it)
+    let mut rows = table.chunks_exact(ROW);
+    rows.any(|row| is_of(row, operator) && bears_it(row))
 }

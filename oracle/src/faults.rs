@@ -15,6 +15,7 @@ use crate::the_table::{BARRED, MAY_ROAM, ROW, same_label};
 pub enum Fault {
     /// The table has this many bytes.
     TableSize(usize),
+    Operator(u32),
     Host(usize),
     Realm(usize),
     AnswerRoom(u32),
@@ -89,6 +90,7 @@ fn call_checks() -> Vec<Vec<Fault>> {
     let lengths = [0, 129, 130, 300];
     vec![
         [0, 1, ROW - 1, ROW + 1].map(TableSize).to_vec(),
+        [16, 17, 255, 256, 1 << 16, u32::MAX].map(Operator).to_vec(),
         [lengths.map(Host), lengths.map(Realm)].concat(),
         [0, 1, 5_119].map(AnswerRoom).to_vec(),
         [0, 1, 255].map(NoticeRoom).to_vec(),
@@ -201,6 +203,7 @@ impl Fault {
     pub fn apply(&self, case: &mut Case, random: &mut Random) {
         match self {
             Fault::TableSize(size) => case.table.resize(*size, 0),
+            Fault::Operator(operator) => case.operator = *operator,
             Fault::Host(length) => case.host = vec![b'h'; *length],
             Fault::Realm(length) => case.realm = vec![b'r'; *length],
             Fault::AnswerRoom(length) => case.answer_room.length = *length,

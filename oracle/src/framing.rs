@@ -4,12 +4,14 @@ use crate::program::{Asked, Operation, Room};
 use crate::script::{Changes, Expected, K1, Record, digest};
 
 pub const MAGIC: &[u8; 8] = b"WMSCRIPT";
-pub const VERSION: u32 = 1;
+pub const VERSION: u32 = 2;
 
 /// No record is longer, its type and length included.
 pub const LONGEST_RECORD: usize = 65_536;
 /// No table is longer.
 pub const LONGEST_TABLE: usize = 4_723_264;
+/// No entering brings more shares.
+pub const MOST_SHARES: usize = 17;
 
 const HEADER: u8 = 1;
 const SET_TABLE: u8 = 2;
@@ -82,22 +84,34 @@ fn write_record(record: &Record) -> (u8, Vec<u8>) {
 fn write_operation(body: &mut Vec<u8>, operation: &Operation) -> u8 {
     match operation {
         Operation::Clear => CLEAR,
-        Operation::Enter { name } => {
+        Operation::Enter {
+            operator,
+            shares,
+            name,
+        } => {
+            word(body, *operator as usize);
+            word(body, shares.len());
+            for share in shares {
+                word(body, *share as usize);
+            }
             bytes(body, name);
             ENTER
         }
         Operation::Add {
+            operator,
             name,
             label,
             limit,
             flags,
         } => {
+            word(body, *operator as usize);
             bytes(body, name);
             bytes(body, label);
             body.extend([*limit, *flags]);
             ADD
         }
         Operation::Handle(asked) => {
+            word(body, asked.operator as usize);
             bytes(body, &asked.host);
             bytes(body, &asked.realm);
             bytes(body, &asked.message);
@@ -163,6 +177,14 @@ impl<'a> Fields<'a> {
     fn bytes(&mut self) -> Result<Vec<u8>, Defect> {
         let length = self.word()? as usize;
         Ok(self.take(length)?.to_vec())
+    }
+
+    fn shares(&mut self) -> Result<Vec<u32>, Defect> {
+        let count = self.word()? as usize;
+        if count > MOST_SHARES {
+            return Err("too many shares");
+        }
+        (0..count).map(|_| self.word()).collect()
     }
 
     fn room(&mut self) -> Result<Room, Defect> {
@@ -246,9 +268,12 @@ fn read_record(kind: u8, fields: &mut Fields) -> Result<Record, Defect> {
         }
         CLEAR => Operation::Clear,
         ENTER => Operation::Enter {
+            operator: fields.word()?,
+            shares: fields.shares()?,
             name: fields.bytes()?,
         },
         ADD => Operation::Add {
+            operator: fields.word()?,
             name: fields.bytes()?,
             label: fields.bytes()?,
             limit: fields.byte()?,
@@ -262,6 +287,7 @@ fn read_record(kind: u8, fields: &mut Fields) -> Result<Record, Defect> {
 
 fn read_asked(fields: &mut Fields) -> Result<Asked, Defect> {
     let asked = Asked {
+        operator: fields.word()?,
         host: fields.bytes()?,
         realm: fields.bytes()?,
         message: fields.bytes()?,

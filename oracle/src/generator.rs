@@ -7,6 +7,7 @@ use crate::drafts::{Draft, DraftAvp};
 use crate::either_case::{PAIRS, either_case, typed};
 use crate::faults::{Fault, checks, deciding_checks, header_checks, own_checks};
 use crate::known_avps::{UNKNOWN, known_and_ignored};
+use crate::operators::{Situation, all_rows, entering, namesake, operators, situations};
 use crate::program::{Operation, Room};
 use crate::random::Random;
 use crate::reading_a_message::{Name, PROXY_INFO, VISITED_NETWORK};
@@ -43,6 +44,7 @@ struct Decks {
     pairs_of_bytes: Deck<(u8, u8)>,
     known: Deck<Name>,
     unknown: Deck<(Sort, Vec<Fault>)>,
+    situations: Deck<Situation>,
 }
 
 /// The calls of a script.
@@ -56,6 +58,7 @@ pub fn generate(seed: u64, calls: usize) -> Recorder {
         pairs_of_bytes: Deck::new(PAIRS.to_vec()),
         known: Deck::new(known_and_ignored()),
         unknown: Deck::new(all_unknown()),
+        situations: Deck::new(situations()),
     };
     for turn in 0.. {
         if recorder.is_full() {
@@ -103,6 +106,11 @@ fn round(recorder: &mut Recorder, decks: &mut Decks, random: &mut Random) {
         let (sort, faults) = decks.unknown.draw(random).clone();
         faulty(recorder, sort, &faults, random);
     }
+    for _ in 0..14 {
+        let situation = decks.situations.draw(random).clone();
+        entering(recorder, &situation, random);
+    }
+    operators(recorder, random);
     duplicates(recorder, random);
     noise(recorder, random);
     edges(recorder, random);
@@ -211,14 +219,28 @@ fn damaged(recorder: &mut Recorder, way: usize, random: &mut Random) {
     let name = case.row.name.clone();
     if random.once_in(3) {
         let entry = some_entry(random);
+        let operator = case.operator;
         recorder.set_table(&case.table);
-        recorder.call(add(&name, &entry.label, entry.limit, entry.flags), false);
-        recorder.call(Operation::Enter { name }, false);
+        recorder.call(
+            add(operator, &name, &entry.label, entry.limit, entry.flags),
+            false,
+        );
+        let shares = all_rows(&case.table, operator);
+        recorder.call(enter(operator, &shares, &name), false);
     }
 }
 
-pub fn add(name: &[u8], label: &[u8], limit: u8, flags: u8) -> Operation {
+pub fn enter(operator: u32, shares: &[u32], name: &[u8]) -> Operation {
+    Operation::Enter {
+        operator,
+        shares: shares.to_vec(),
+        name: name.to_vec(),
+    }
+}
+
+pub fn add(operator: u32, name: &[u8], label: &[u8], limit: u8, flags: u8) -> Operation {
     Operation::Add {
+        operator,
         name: name.to_vec(),
         label: label.to_vec(),
         limit,
@@ -231,8 +253,10 @@ fn duplicates(recorder: &mut Recorder, random: &mut Random) {
     let mut case = Case::good(*random.pick(&SORTS), random);
     let mut good = vec![0; ROW];
     put(&mut good, 0, case.row_bytes());
-    let name = case.row.name.clone();
-    let mut other = encode(&DOCUMENT_01, &sound_row(&name, random));
+    let (operator, name) = (case.operator, case.row.name.clone());
+    let mut other = sound_row(&name, random);
+    other.operator = case.row.operator;
+    let mut other = encode(&DOCUMENT_01, &other);
     if random.once_in(2) {
         damage(&mut case, random.below(DAMAGES), random);
         put(&mut other, 0, case.row_bytes());
@@ -241,8 +265,9 @@ fn duplicates(recorder: &mut Recorder, random: &mut Random) {
     random.shuffle(&mut rows);
     case.table = rows.concat();
     record(recorder, &case);
-    recorder.call(add(&name, b"second", 1, 0), false);
-    recorder.call(Operation::Enter { name }, false);
+    recorder.call(add(operator, &name, b"second", 1, 0), false);
+    let shares = all_rows(&case.table, operator);
+    recorder.call(enter(operator, &shares, &name), false);
 }
 
 /// Good messages with bytes changed at random, and messages of mere chance.
@@ -349,13 +374,10 @@ fn set_up(recorder: &mut Recorder, random: &mut Random) {
         put(&mut table, 0, &odd_row(random));
     }
     recorder.set_table(&table);
+    let operator = *random.pick(&[0, 0, 1, 8, 15]);
+    let shares = all_rows(&table, operator);
     let first = digits(random);
-    recorder.call(
-        Operation::Enter {
-            name: first.clone(),
-        },
-        false,
-    );
+    recorder.call(enter(operator, &shares, &first), false);
     let known = [first.clone(), first, digits(random)];
     for _ in 0..random.from_to(8, 18) {
         let mut name = random.pick(&known).clone();
@@ -364,8 +386,8 @@ fn set_up(recorder: &mut Recorder, random: &mut Random) {
         }
         let operation = match random.below(12) {
             0 if random.once_in(3) => Operation::Clear,
-            0..4 => Operation::Enter { name },
-            _ => odd_add(&name, random),
+            0..4 => enter(operator, &shares, &name),
+            _ => odd_add(operator, &name, random),
         };
         recorder.call(operation, false);
     }
@@ -374,17 +396,20 @@ fn set_up(recorder: &mut Recorder, random: &mut Random) {
 /// W-APNs added to a row that may have no room for them, one of them known already.
 fn adding(recorder: &mut Recorder, random: &mut Random) {
     let name = digits(random);
-    let row = sound_row(&name, random);
-    recorder.set_table(&encode(&DOCUMENT_01, &row));
+    let mut row = sound_row(&name, random);
+    let operator = random.below(16) as u32;
+    row.operator = operator as u8;
+    let table = [namesake(&row, random), encode(&DOCUMENT_01, &row)];
+    recorder.set_table(&table.concat());
     let known = typed(&random.pick(&row.entries).label, random);
     for label in [known, text(random, 100), vec![b'n'; 101], text(random, 100)] {
         let limit = *random.pick(&[1, 1, 2, 8, 9]);
         let flags = *random.pick(&[0, 1, 2, 3, 3, 4]);
-        recorder.call(add(&name, &label, limit, flags), false);
+        recorder.call(add(operator, &name, &label, limit, flags), false);
     }
 }
 
-fn odd_name(random: &mut Random) -> Vec<u8> {
+pub fn odd_name(random: &mut Random) -> Vec<u8> {
     match random.below(5) {
         0 => Vec::new(),
         1 => vec![b'1'; *random.pick(&[15, 16, 17, 256, 271, 8_000])],
@@ -396,7 +421,7 @@ fn odd_name(random: &mut Random) -> Vec<u8> {
 
 /// Labels from a small store, so that some come twice; limits and flags also beyond
 /// what is allowed.
-fn odd_add(name: &[u8], random: &mut Random) -> Operation {
+fn odd_add(operator: u32, name: &[u8], random: &mut Random) -> Operation {
     let long = *random.pick(&[0, 1, 100, 101, 256, 300]);
     let label = match random.below(8) {
         0 => vec![b'l'; long],
@@ -405,7 +430,7 @@ fn odd_add(name: &[u8], random: &mut Random) -> Operation {
     };
     let limit = *random.pick(&[1, 1, 1, 1, 1, 1, 2, 2, 3, 4, 8, 0, 9, 255]);
     let flags = *random.pick(&[0, 1, 2, 3, 0, 1, 2, 3, 0, 1, 2, 3, 4, 255]);
-    add(name, &label, limit, flags)
+    add(operator, name, &label, limit, flags)
 }
 
 /// Tables of 1,024 rows, of more, and of a byte too few or too many.
@@ -424,11 +449,11 @@ fn big_tables(recorder: &mut Recorder, random: &mut Random) {
         MOST_ROWS * ROW + 1,
     ] {
         recorder.set_table(&vec![0; size]);
-        let name = b"12345".to_vec();
+        let name = b"12345";
         let case = Case::good(Sort::Open, random);
         recorder.call(case.operation(), false);
-        recorder.call(add(&name, b"board", 1, 0), false);
-        recorder.call(Operation::Enter { name }, false);
+        recorder.call(add(0, name, b"board", 1, 0), false);
+        recorder.call(enter(0, &all_rows(&[0; ROW], 0), name), false);
         recorder.call(Operation::Clear, true);
     }
 }
@@ -442,26 +467,29 @@ fn big_calls(recorder: &mut Recorder, random: &mut Random) {
     } else {
         stranger[0] + 1
     };
+    let operator = random.below(16) as u32;
+    let shares = all_rows(&recorder.table, operator);
     for name in [&name, &name, &stranger] {
-        recorder.call(Operation::Enter { name: name.clone() }, true);
+        recorder.call(enter(operator, &shares, name), true);
     }
-    recorder.call(add(&name, b"board", 2, 2), false);
-    recorder.call(add(&stranger, b"board", 2, 2), false);
+    recorder.call(add(operator, &name, b"board", 2, 2), false);
+    recorder.call(add(operator, &stranger, b"board", 2, 2), false);
     for session in [b"one", b"two", b"six", b"ten"] {
         let mut draft = Draft::open(&name, session, b"pdg", b"board");
         draft.avps.push(DraftAvp::new(VISITED_NETWORK, b"v"));
         garnish(&mut draft, random);
-        recorder.call(request(&draft, true, random), false);
+        recorder.call(request(operator, &draft, true, random), false);
     }
     let draft = Draft::termination(&name, b"six", b"pdg", b"board");
-    recorder.call(request(&draft, true, random), true);
+    recorder.call(request(operator, &draft, true, random), true);
     recorder.call(Operation::Clear, true);
 }
 
 /// A draft as a call whose other inputs are in order.
-pub fn request(draft: &Draft, wag: bool, random: &mut Random) -> Operation {
+pub fn request(operator: u32, draft: &Draft, wag: bool, random: &mut Random) -> Operation {
     let seed = random.byte();
     Operation::Handle(crate::program::Asked {
+        operator,
         host: b"aaa.home.example".to_vec(),
         realm: b"home.example".to_vec(),
         message: draft.bytes(),

@@ -11,6 +11,7 @@ use crate::{Code, Outcome};
 /// One call's inputs. Table and rooms hold its results afterwards.
 pub struct Call<'a> {
     pub table: &'a mut [u8],
+    pub operator: u32,
     pub host: &'a [u8],
     pub realm: &'a [u8],
     pub message: &'a [u8],
@@ -19,11 +20,14 @@ pub struct Call<'a> {
     pub notice_room: &'a mut [u8],
 }
 
-/// Numbers 1 to 8, in this order; 0 for a call that gets an answer.
+/// Number 1, then 33, then 2 to 8, in this order; 0 for a call that gets an answer.
 pub fn no_answer(rules: &Rules, call: &Call) -> u16 {
     let fits = |name: &[u8]| (1..=128).contains(&name.len());
     if !(rules.table_fits)(call.table) {
         return 1;
+    }
+    if !(rules.operator_fits)(call.operator) {
+        return 33;
     }
     if !fits(call.host) || !fits(call.realm) {
         return 2;
@@ -97,7 +101,7 @@ pub fn handle(rules: &Rules, call: Call) -> Outcome {
     };
     let read = read(rules, &header, call.message);
     let decision = match &read.request {
-        Ok(request) => decide(rules, call.table, request, call.wag),
+        Ok(request) => decide(rules, call.table, call.operator, request, call.wag),
         Err(code) => Decision::refused(*code),
     };
     let reply = Reply {

@@ -24,6 +24,8 @@ pub mod either_case;
 pub mod faults;
 pub mod framing;
 pub mod generator;
+pub mod operator_signs;
+pub mod operators;
 pub mod program;
 pub mod random;
 pub mod recorder;
@@ -36,7 +38,7 @@ pub mod year_calls;
 /// The code of an outcome and its kind.
 #[derive(Clone, Copy, Debug, PartialEq, Eq)]
 pub enum Code {
-    /// A number from 1 to 8: no Diameter answer was written.
+    /// A number from 1 to 8, or 33: no Diameter answer was written.
     NoAnswer(u16),
     /// A Result-Code.
     Plain(u16),

@@ -3,13 +3,13 @@
 use crate::Outcome;
 use crate::handling::Call;
 use crate::rules::Rules;
-use crate::set_up::NewEntry;
+use crate::set_up::{NewEntry, NewRow};
 
 /// A program that offers the four operations: the oracle, or one compared with it.
 pub trait Program {
     fn clear(&mut self, table: &mut [u8]) -> u8;
-    fn enter(&mut self, table: &mut [u8], name: &[u8]) -> u8;
-    fn add(&mut self, table: &mut [u8], name: &[u8], new: &NewEntry) -> u8;
+    fn enter(&mut self, table: &mut [u8], new: &NewRow) -> u8;
+    fn add(&mut self, table: &mut [u8], operator: u32, name: &[u8], new: &NewEntry) -> u8;
     fn handle(&mut self, call: Call) -> Outcome;
 }
 
@@ -18,12 +18,12 @@ impl Program for Rules {
         (self.clear)(self, table)
     }
 
-    fn enter(&mut self, table: &mut [u8], name: &[u8]) -> u8 {
-        (self.enter)(self, table, name)
+    fn enter(&mut self, table: &mut [u8], new: &NewRow) -> u8 {
+        (self.enter)(self, table, new)
     }
 
-    fn add(&mut self, table: &mut [u8], name: &[u8], new: &NewEntry) -> u8 {
-        (self.add)(self, table, name, new)
+    fn add(&mut self, table: &mut [u8], operator: u32, name: &[u8], new: &NewEntry) -> u8 {
+        (self.add)(self, table, operator, name, new)
     }
 
     fn handle(&mut self, call: Call) -> Outcome {
@@ -52,6 +52,7 @@ impl Room {
 /// The inputs of a request's call, apart from the table.
 #[derive(Clone, Debug, PartialEq, Eq)]
 pub struct Asked {
+    pub operator: u32,
     pub host: Vec<u8>,
     pub realm: Vec<u8>,
     pub message: Vec<u8>,
@@ -64,9 +65,12 @@ pub struct Asked {
 pub enum Operation {
     Clear,
     Enter {
+        operator: u32,
+        shares: Vec<u32>,
         name: Vec<u8>,
     },
     Add {
+        operator: u32,
         name: Vec<u8>,
         label: Vec<u8>,
         limit: u8,
@@ -88,8 +92,23 @@ pub struct Seen {
 pub fn perform(program: &mut dyn Program, operation: &Operation, table: &mut [u8]) -> Seen {
     let number = match operation {
         Operation::Clear => program.clear(table),
-        Operation::Enter { name } => program.enter(table, name),
+        Operation::Enter {
+            operator,
+            shares,
+            name,
+        } => {
+            let operator = *operator;
+            program.enter(
+                table,
+                &NewRow {
+                    operator,
+                    shares,
+                    name,
+                },
+            )
+        }
         Operation::Add {
+            operator,
             name,
             label,
             limit,
@@ -98,6 +117,7 @@ pub fn perform(program: &mut dyn Program, operation: &Operation, table: &mut [u8
             let (limit, flags) = (*limit, *flags);
             program.add(
                 table,
+                *operator,
                 name,
                 &NewEntry {
                     label,
@@ -118,6 +138,7 @@ fn perform_handle(program: &mut dyn Program, asked: &Asked, table: &mut [u8]) ->
     let mut notice_room = asked.notice_room.fresh();
     let outcome = program.handle(Call {
         table,
+        operator: asked.operator,
         host: &asked.host,
         realm: &asked.realm,
         message: &asked.message,

@@ -5,7 +5,8 @@ use std::fmt;
 
 use crate::either_case::{PAIRS, PLACES_OF_LABELS, Texts, pair_key, signs};
 use crate::known_avps::{UNKNOWN, known_and_ignored, supported};
-use crate::program::{Operation, Seen};
+use crate::operator_signs::{Subject, WANTED_OF_OPERATORS, signs_of_operators};
+use crate::program::{Asked, Operation, Seen};
 use crate::reading_a_message::{
     AA, Avp, HEADER, MANDATORY, Name, SESSION_ID, SESSION_REQUEST_TYPE, TERMINATION, USER_NAME,
     VENDOR, W_APN, header, is, number, walk_tests,
@@ -37,9 +38,9 @@ const WANTED: [(&str, &str); 4] = [
 /// The numbers of the four operations, apart from the codes above.
 const NUMBERS: [(&str, &[u32]); 4] = [
     ("clear", &[0, 1]),
-    ("enter", &[0, 1, 9, 10, 11]),
-    ("add", &[0, 1, 12, 13, 14, 15, 16, 17]),
-    ("handle", &[1, 2, 3, 4, 5, 6, 7, 8]),
+    ("enter", &[0, 1, 33, 26, 9, 10, 27, 11]),
+    ("add", &[0, 1, 33, 12, 13, 14, 15, 16, 17]),
+    ("handle", &[1, 33, 2, 3, 4, 5, 6, 7, 8]),
 ];
 
 /// Everything that has to come up at least once.
@@ -63,6 +64,7 @@ fn wanted() -> Vec<String> {
     all.extend(UNKNOWN.into_iter().map(unknown_key));
     all.extend([AT_FIRST, LATER, BEFORE_BROKEN, BEHIND_BROKEN].map(str::to_string));
     all.extend([3001, 3007, 3008, 5013].map(beside_key));
+    all.extend(WANTED_OF_OPERATORS.iter().cloned());
     all
 }
 
@@ -127,7 +129,7 @@ impl Report {
             Operation::Add { .. } => number_key("add", code),
             Operation::Handle(_) if seen.numbers[1] == 0 => number_key("handle", code),
             Operation::Handle(asked) => {
-                self.count_place(&asked.message, table, seen);
+                self.count_place(asked, table, seen);
                 self.count_known(&asked.message, seen);
                 let mark = if seen.numbers[1] == 2 { "E" } else { "" };
                 format!("{}: {mark}{code}", sort(&asked.message))
@@ -140,6 +142,9 @@ impl Report {
             } else {
                 format!("{sign}, {key}")
             });
+        }
+        for sign in signs_of_operators(operation, &subject(operation), table, &key) {
+            self.add(sign);
         }
         self.add(key);
     }
@@ -173,13 +178,13 @@ impl Report {
         }
     }
 
-    fn count_place(&mut self, message: &[u8], table: &[u8], seen: &Seen) {
+    fn count_place(&mut self, asked: &Asked, table: &[u8], seen: &Seen) {
         let place = seen.numbers[3];
         if place == 0 {
             return;
         }
         self.add(format!("place {place}"));
-        if let (1, Some(row)) = (seen.numbers[4], row_of(message, table)) {
+        if let (1, Some(row)) = (seen.numbers[4], row_of(asked, table)) {
             self.count_cut(&row, seen);
         }
     }
@@ -274,11 +279,32 @@ fn sort(message: &[u8]) -> &'static str {
     }
 }
 
+/// Who calls, and for which name.
+fn subject(operation: &Operation) -> Subject<'_> {
+    let (operator, name) = match operation {
+        Operation::Clear => (0, &[][..]),
+        Operation::Enter { operator, name, .. } | Operation::Add { operator, name, .. } => {
+            (*operator, name.as_slice())
+        }
+        Operation::Handle(asked) => {
+            let name = readable(&asked.message, USER_NAME);
+            (asked.operator, name.unwrap_or_default())
+        }
+    };
+    Subject { operator, name }
+}
+
 /// The texts that a call brings and that are looked up in a row.
 fn texts(operation: &Operation) -> Texts<'_> {
     match operation {
-        Operation::Add { name, label, .. } => Texts {
+        Operation::Add {
+            operator,
+            name,
+            label,
+            ..
+        } => Texts {
             place: "adding",
+            operator: *operator,
             name,
             label,
             session: &[],
@@ -293,6 +319,7 @@ fn texts(operation: &Operation) -> Texts<'_> {
             let label = if place.is_empty() { &[] } else { text(W_APN) };
             Texts {
                 place,
+                operator: asked.operator,
                 name: text(USER_NAME),
                 label,
                 session: text(SESSION_ID),
@@ -302,7 +329,8 @@ fn texts(operation: &Operation) -> Texts<'_> {
     }
 }
 
-fn row_of(message: &[u8], table: &[u8]) -> Option<Row> {
-    let index = find(table, readable(message, USER_NAME)?)?;
+fn row_of(asked: &Asked, table: &[u8]) -> Option<Row> {
+    let name = readable(&asked.message, USER_NAME)?;
+    let index = find(table, asked.operator, name)?;
     decode(row_at(table, index))
 }

@@ -8,7 +8,10 @@ use crate::reading_a_message::{
     Avp, Field, Header, Name, Request, header_tests, is, list, read_field, read_list, walk_is_over,
     walk_tests,
 };
-use crate::set_up::{NewEntry, add, clear, enter, may_add, row_is_free, table_fits};
+use crate::set_up::{
+    NewEntry, NewRow, add, clear, enter, may_add, operator_fits, row_is_free, share_is_full,
+    shares_fit, table_fits,
+};
 use crate::the_table::{Access, CONDITIONS, Row, find, store, sums};
 use crate::writing_the_answer::{
     Reply, answer_flags, auth_part, notice, proxy_part, result_part, session_part,
@@ -24,12 +27,15 @@ type Part = fn(&Reply) -> Vec<u8>;
 pub struct Rules {
     // The four operations.
     pub clear: fn(&Rules, &mut [u8]) -> u8,
-    pub enter: fn(&Rules, &mut [u8], &[u8]) -> u8,
-    pub add: fn(&Rules, &mut [u8], &[u8], &NewEntry) -> u8,
+    pub enter: fn(&Rules, &mut [u8], &NewRow) -> u8,
+    pub add: fn(&Rules, &mut [u8], u32, &[u8], &NewEntry) -> u8,
     pub handle: fn(&Rules, Call) -> Outcome,
     // Calls that get no Diameter answer, and set-up.
     pub no_answer: fn(&Rules, &Call) -> u16,
     pub table_fits: fn(&[u8]) -> bool,
+    pub operator_fits: fn(u32) -> bool,
+    pub shares_fit: fn(&[u8], &[u32]) -> bool,
+    pub share_is_full: fn(&Rules, &[u8], &NewRow) -> bool,
     pub row_is_free: fn(&[u8]) -> bool,
     pub may_add: fn(&Row, &NewEntry) -> u8,
     // Reading a message.
@@ -45,7 +51,7 @@ pub struct Rules {
     pub sums: fn(&[u8]) -> [u8; 2],
     pub same_row: fn(&[u8], &[u8]) -> bool,
     pub conditions: &'static [fn(&Row) -> bool],
-    pub find: fn(&Rules, &[u8], &[u8]) -> Option<usize>,
+    pub find: fn(&Rules, &[u8], u32, &[u8]) -> Option<usize>,
     pub store: fn(&Rules, &mut [u8], usize, &Row),
     // Deciding.
     pub may_open: fn(&Row, &Request) -> Result<u8, Code>,
@@ -71,6 +77,9 @@ pub const DOCUMENT_01: Rules = Rules {
     handle,
     no_answer,
     table_fits,
+    operator_fits,
+    shares_fit,
+    share_is_full: |_, table, new| share_is_full(table, new),
     row_is_free,
     may_add,
     header_tests,
@@ -84,7 +93,7 @@ pub const DOCUMENT_01: Rules = Rules {
     sums,
     same_row: |held, written| held == written,
     conditions: CONDITIONS,
-    find: |_, table, name| find(table, name),
+    find: |_, table, operator, name| find(table, operator, name),
     store,
     may_open: deciding::may_open,
     at_limit: deciding::at_limit,

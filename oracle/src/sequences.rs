@@ -4,15 +4,18 @@ use crate::cases::{digits, entries, garnish, text};
 use crate::damages::odd_row;
 use crate::drafts::{Draft, DraftAvp};
 use crate::either_case::typed;
-use crate::generator::{add, request};
-use crate::program::Operation;
+use crate::generator::{add, enter, request};
 use crate::random::Random;
 use crate::reading_a_message::{Name, PROXY_INFO, VISITED_NETWORK};
 use crate::recorder::Recorder;
 use crate::the_table::{BARRED, ROW, Row, decode, find, row_at};
 
-/// Enters two to four subscribers, then sends requests for all of them in turn by
-/// chance. How often accesses are ended differs, so that some rows stay full.
+/// An operator and one of its names.
+type Subject = (u32, Vec<u8>);
+
+/// Enters two to four subscribers, of several operators and of few names, then sends
+/// requests for all of them in turn by chance. How often accesses are ended differs, so
+/// that some rows stay full.
 pub fn sequence(recorder: &mut Recorder, random: &mut Random) {
     let count = random.from_to(2, 4);
     let mut table = vec![0; ROW * (count + random.below(3))];
@@ -21,11 +24,18 @@ pub fn sequence(recorder: &mut Recorder, random: &mut Random) {
         table.extend(vec![0; ROW]);
     }
     recorder.set_table(&table);
-    let names = set_up(recorder, count, random);
+    let subjects = subjects(count, random);
+    let shares = shares_of(&subjects);
+    set_up(recorder, &subjects, &shares, random);
     let ends = *random.pick(&[2, 4, 12]);
     for _ in 0..random.from_to(15, 70) {
-        let name = random.pick(&names);
-        let row = find(&recorder.table, name).and_then(|i| decode(row_at(&recorder.table, i)));
+        let (operator, name) = random.pick(&subjects).clone();
+        if random.once_in(30) {
+            let names = [name.clone(), digits(random)];
+            recorder.call(enter(operator, &shares, &names[random.below(2)]), false);
+        }
+        let index = find(&recorder.table, operator, &name);
+        let row = index.and_then(|i| decode(row_at(&recorder.table, i)));
         let Some(row) = row.filter(|_| !recorder.is_full()) else {
             return;
         };
@@ -33,24 +43,42 @@ pub fn sequence(recorder: &mut Recorder, random: &mut Random) {
         if random.once_in(3) {
             garnish(&mut draft, random);
         }
-        recorder.call(request(&draft, wag, random), false);
+        recorder.call(request(operator, &draft, wag, random), false);
     }
 }
 
+/// Two names and three operators, some of the six that these make.
+fn subjects(count: usize, random: &mut Random) -> Vec<Subject> {
+    let names = [digits(random), digits(random)];
+    let operators = [0, *random.pick(&[1, 15]), random.below(16) as u32];
+    let one = |random: &mut Random| (*random.pick(&operators), random.pick(&names).clone());
+    let mut all: Vec<Subject> = (0..count).map(|_| one(random)).collect();
+    all.sort_unstable();
+    all.dedup();
+    random.shuffle(&mut all);
+    all
+}
+
+/// A row for each subscriber.
+fn shares_of(subjects: &[Subject]) -> Vec<u32> {
+    let mut shares = vec![0; 16];
+    for (operator, _) in subjects {
+        shares[*operator as usize] += 1;
+    }
+    shares
+}
+
 /// Enters subscribers with W-APNs; an entry is barred only now and then.
-fn set_up(recorder: &mut Recorder, count: usize, random: &mut Random) -> Vec<Vec<u8>> {
-    let mut names: Vec<Vec<u8>> = (0..count).map(|_| digits(random)).collect();
-    names.sort_unstable();
-    names.dedup();
-    for name in &names {
-        recorder.call(Operation::Enter { name: name.clone() }, false);
+fn set_up(recorder: &mut Recorder, subjects: &[Subject], shares: &[u32], random: &mut Random) {
+    for (operator, name) in subjects {
+        let operator = *operator;
+        recorder.call(enter(operator, shares, name), false);
         for entry in entries(random) {
             let barred = if random.once_in(8) { BARRED } else { 0 };
             let flags = entry.flags & !BARRED | barred;
-            recorder.call(add(name, &entry.label, entry.limit, flags), false);
+            recorder.call(add(operator, name, &entry.label, entry.limit, flags), false);
         }
     }
-    names
 }
 
 /// The next request of a subscriber, and the WAG's word.

@@ -17,6 +17,7 @@ pub const MOST_ENTRIES: usize = 4;
 pub const NAME: usize = 2;
 pub const IN_USE: usize = 17;
 pub const ENTRY_COUNT: usize = 18;
+pub const OPERATOR: usize = 19;
 pub const LINE: usize = 20;
 pub const ENTRIES: usize = 32;
 pub const ENTRY: usize = 104;
@@ -28,6 +29,9 @@ pub const POLICY: usize = 264;
 
 /// Both sums stand at the end of each block, the second sum first.
 pub const SUMS: usize = 510;
+
+/// No operator has a higher number (W8).
+pub const LAST_OPERATOR: u8 = 15;
 
 pub const BARRED: u8 = 1;
 pub const MAY_ROAM: u8 = 2;
@@ -49,9 +53,11 @@ pub struct Access {
     pub policy: Option<Vec<u8>>,
 }
 
-/// One subscriber. `places[k]` is place k + 1; `line` holds place numbers.
+/// One subscriber of one operator. `places[k]` is place k + 1; `line` holds place
+/// numbers.
 #[derive(Clone, Debug, PartialEq, Eq, Default)]
 pub struct Row {
+    pub operator: u8,
     pub name: Vec<u8>,
     pub entries: Vec<Entry>,
     pub line: Vec<u8>,
@@ -123,6 +129,7 @@ pub fn decode(bytes: &[u8]) -> Option<Row> {
         return None;
     }
     let mut row = Row {
+        operator: head[OPERATOR],
         name: text(head, NAME, head[1], 15)?,
         ..Row::default()
     };
@@ -191,6 +198,7 @@ fn encode_head(head: &mut [u8], row: &Row) {
         head[IN_USE] |= u8::from(place.is_some()) << bit;
     }
     head[ENTRY_COUNT] = row.entries.len() as u8;
+    head[OPERATOR] = row.operator;
     put(head, LINE, &row.line);
     for (index, entry) in row.entries.iter().enumerate() {
         let start = ENTRIES + ENTRY * index;
@@ -223,6 +231,7 @@ pub fn put(to: &mut [u8], start: usize, from: &[u8]) {
 
 /// What a row that stands in the right form must keep besides.
 pub const CONDITIONS: &[fn(&Row) -> bool] = &[
+    operator_in_range,
     name_is_digits,
     labels_have_length,
     flags_in_range,
@@ -236,6 +245,10 @@ pub const CONDITIONS: &[fn(&Row) -> bool] = &[
     entries_exist,
     within_limits,
 ];
+
+fn operator_in_range(row: &Row) -> bool {
+    row.operator <= LAST_OPERATOR
+}
 
 fn name_is_digits(row: &Row) -> bool {
     !row.name.is_empty() && row.name.iter().all(u8::is_ascii_digit)
@@ -316,9 +329,14 @@ pub fn sound(rules: &Rules, bytes: &[u8]) -> Option<Row> {
     (kept && (rules.same_row)(bytes, &encode(rules, &row))).then_some(row)
 }
 
-/// The index of the first row that bears this name, sound or not.
-pub fn find(table: &[u8], name: &[u8]) -> Option<usize> {
-    table.chunks_exact(ROW).position(|row| bears(row, name))
+/// The index of the first row of this operator that bears this name, sound or not.
+pub fn find(table: &[u8], operator: u32, name: &[u8]) -> Option<usize> {
+    let matches = |row: &[u8]| is_of(row, operator) && bears(row, name);
+    table.chunks_exact(ROW).position(matches)
+}
+
+pub fn is_of(row: &[u8], operator: u32) -> bool {
+    u32::from(row[OPERATOR]) == operator
 }
 
 pub fn bears(row: &[u8], name: &[u8]) -> bool {

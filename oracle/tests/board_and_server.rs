@@ -10,7 +10,7 @@ use oracle::drafts::Draft;
 use oracle::handling::Call;
 use oracle::random::Random;
 use oracle::rules::DOCUMENT_01;
-use oracle::set_up::NewEntry;
+use oracle::set_up::{NewEntry, NewRow};
 use oracle::the_board::{
     ASKED, BoardRules, CONNECTED, CUT, Event, LONGEST, OFF, REQUEST_W7, Screen, TERMINATION,
     TYPE_0, TYPE_1,
@@ -47,6 +47,7 @@ impl Desk {
             &DOCUMENT_01,
             Call {
                 table: &mut self.table,
+                operator: 0,
                 host: b"aaa",
                 realm: b"home",
                 message: &asked.draft.bytes(),
@@ -262,17 +263,29 @@ fn asked(which: u32, name: &[u8], session: &[u8], label: &[u8]) -> Asked {
     }
 }
 
+/// A subscriber of operator 0, whose share is the whole table.
+fn enter(table: &mut [u8], name: &[u8]) -> u8 {
+    let mut shares = [0; 16];
+    shares[0] = (table.len() / ROW) as u32;
+    let new = NewRow {
+        operator: 0,
+        shares: &shares,
+        name,
+    };
+    (DOCUMENT_01.enter)(&DOCUMENT_01, table, &new)
+}
+
 /// Entering and adding move no access.
 fn set_up(table: &mut [u8], random: &mut Random) {
     let name = [b'0' + random.below(10) as u8];
-    (DOCUMENT_01.enter)(&DOCUMENT_01, table, &name);
+    enter(table, &name);
     let label = [b'l', random.byte()];
     let new = NewEntry {
         label: &label,
         limit: random.from_to(1, 8) as u8,
         flags: 0,
     };
-    (DOCUMENT_01.add)(&DOCUMENT_01, table, &name, &new);
+    (DOCUMENT_01.add)(&DOCUMENT_01, table, 0, &name, &new);
 }
 
 /// Things that a run has to meet.
@@ -485,13 +498,16 @@ fn the_run_tells_wrong_boards() {
 fn small_desk() -> Desk {
     let mut table = vec![0; 2 * ROW];
     for name in [b"1", b"2"] {
-        assert_eq!((DOCUMENT_01.enter)(&DOCUMENT_01, &mut table, name), 0);
+        assert_eq!(enter(&mut table, name), 0);
         let new = NewEntry {
             label: b"board",
             limit: 2,
             flags: 0,
         };
-        assert_eq!((DOCUMENT_01.add)(&DOCUMENT_01, &mut table, name, &new), 0);
+        assert_eq!(
+            (DOCUMENT_01.add)(&DOCUMENT_01, &mut table, 0, name, &new),
+            0
+        );
     }
     let board = [b"a", b"b", b"c"].map(|session| screen(session, OFF, 0));
     Desk {

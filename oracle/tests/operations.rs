@@ -2,14 +2,15 @@
 //! of any size stops the program, and subscribers do not touch each other.
 
 use oracle::drafts::{Draft, DraftAvp};
-use oracle::generator::{add, generate, request};
+use oracle::generator::{add, enter, generate, request};
 use oracle::handling::Call;
+use oracle::operators::all_rows;
 use oracle::program::{Asked, Operation, Room, Seen, perform};
 use oracle::random::Random;
 use oracle::reading_a_message::PROXY_INFO;
 use oracle::rules::DOCUMENT_01;
 use oracle::script::{Changes, Record, judge};
-use oracle::set_up::NewEntry;
+use oracle::set_up::{NewEntry, NewRow};
 use oracle::the_table::{ROW, find, row_at, sound};
 
 fn run(operation: &Operation, table: &mut [u8]) -> Seen {
@@ -95,6 +96,7 @@ fn no_size_stops_a_request() {
         let mut table = vec![0xFF; ROW * (size % 3) + other % 2];
         let call = Call {
             table: &mut table,
+            operator: size as u32 % 16,
             host: &long[..size],
             realm: &long,
             message: &long[..other],
@@ -117,7 +119,19 @@ fn no_size_stops_a_set_up() {
         let mut table = vec![0; ROW];
         let name = &long[..size];
         let right = if (1..=15).contains(&size) { 0 } else { 9 };
-        assert_eq!((rules.enter)(rules, &mut table, name), right);
+        let shares = &all_rows(&table, 3);
+        let subscriber = NewRow {
+            operator: 3,
+            shares,
+            name,
+        };
+        assert_eq!((rules.enter)(rules, &mut table, &subscriber), right);
+        let many = &vec![0; size + 17];
+        let subscriber = NewRow {
+            shares: many,
+            ..subscriber
+        };
+        assert_eq!((rules.enter)(rules, &mut table, &subscriber), 26);
         let label = name;
         let (limit, flags) = (size as u8, 0);
         let new = NewEntry {
@@ -125,7 +139,7 @@ fn no_size_stops_a_set_up() {
             limit,
             flags,
         };
-        assert_eq!((rules.add)(rules, &mut table, &long, &new), 12);
+        assert_eq!((rules.add)(rules, &mut table, 3, &long, &new), 12);
         let part = size.min(ROW - 1);
         assert_eq!((rules.clear)(rules, &mut table[..part]), 1);
     }
@@ -179,6 +193,7 @@ fn chance_does_not_stop_the_program() {
 fn ask(message: Vec<u8>) -> Operation {
     let seed = 3;
     Operation::Handle(Asked {
+        operator: 0,
         host: b"h".to_vec(),
         realm: b"r".to_vec(),
         message,
@@ -193,26 +208,27 @@ fn ask(message: Vec<u8>) -> Operation {
 
 // ---- Order between subscribers ----------------------------------------------------
 
-const NAMES: [&[u8]; 3] = [b"001", b"0010", b"999"];
+/// Operators and their names, one of which two of them have.
+const SUBSCRIBERS: [(u32, &[u8]); 4] = [(0, b"001"), (7, b"001"), (0, b"0010"), (15, b"999")];
 
-/// A table with three subscribers, each with two W-APNs.
-fn three_subscribers() -> Vec<u8> {
-    let mut table = vec![0; 4 * ROW];
-    for name in NAMES {
-        run(
-            &Operation::Enter {
-                name: name.to_vec(),
-            },
-            &mut table,
-        );
-        run(&add(name, b"board", 2, 2), &mut table);
-        run(&add(name, b"yard", 3, 0), &mut table);
+/// A table with four subscribers, each with two W-APNs.
+fn four_subscribers() -> Vec<u8> {
+    let mut table = vec![0; 5 * ROW];
+    let shares = [2, 0, 0, 0, 0, 0, 0, 1, 0, 0, 0, 0, 0, 0, 0, 1];
+    for (operator, name) in SUBSCRIBERS {
+        for operation in [
+            enter(operator, &shares, name),
+            add(operator, name, b"board", 2, 2),
+            add(operator, name, b"yard", 3, 0),
+        ] {
+            assert_eq!(run(&operation, &mut table).numbers[0], 0);
+        }
     }
     table
 }
 
 /// Requests of one subscriber, some of which can not be read as far as the name.
-fn requests_of(name: &[u8], random: &mut Random) -> Vec<Operation> {
+fn requests_of((operator, name): (u32, &[u8]), random: &mut Random) -> Vec<Operation> {
     let one = |random: &mut Random| {
         let session = [*random.pick(b"abcdefgh")];
         let label: &[u8] = if random.once_in(2) { b"board" } else { b"yard" };
@@ -227,7 +243,7 @@ fn requests_of(name: &[u8], random: &mut Random) -> Vec<Operation> {
         if random.once_in(10) {
             draft.avps.truncate(random.below(10));
         }
-        request(&draft, random.once_in(2), random)
+        request(operator, &draft, random.once_in(2), random)
     };
     (0..30).map(|_| one(random)).collect()
 }
@@ -235,7 +251,7 @@ fn requests_of(name: &[u8], random: &mut Random) -> Vec<Operation> {
 /// Handles lists in an order of chance that keeps each list's own order; gives each
 /// list's results, and the table.
 fn mixed(lists: &[Vec<Operation>], random: &mut Random) -> (Vec<Vec<Seen>>, Vec<u8>) {
-    let mut table = three_subscribers();
+    let mut table = four_subscribers();
     let mut turns: Vec<usize> = Vec::new();
     for (turn, list) in lists.iter().enumerate() {
         turns.extend(vec![turn; list.len()]);
@@ -254,10 +270,9 @@ fn mixed(lists: &[Vec<Operation>], random: &mut Random) -> (Vec<Vec<Seen>>, Vec<
 fn order_between_subscribers_does_not_matter() {
     let mut random = Random::new(25);
     for _ in 0..12 {
-        let lists: Vec<_> = NAMES
-            .iter()
-            .map(|name| requests_of(name, &mut random))
-            .collect();
+        let lists: Vec<_> = SUBSCRIBERS
+            .map(|subscriber| requests_of(subscriber, &mut random))
+            .into();
         let first = mixed(&lists, &mut random);
         for _ in 0..4 {
             assert!(mixed(&lists, &mut random) == first);
@@ -268,11 +283,11 @@ fn order_between_subscribers_does_not_matter() {
 
 /// Each subscriber's requests alone give the same answers and the same row.
 fn alone(lists: &[Vec<Operation>], (results, table): &(Vec<Vec<Seen>>, Vec<u8>)) {
-    for (turn, name) in NAMES.iter().enumerate() {
-        let mut own = three_subscribers();
+    for (turn, (operator, name)) in SUBSCRIBERS.into_iter().enumerate() {
+        let mut own = four_subscribers();
         let seen: Vec<Seen> = lists[turn].iter().map(|o| run(o, &mut own)).collect();
         assert!(seen == results[turn]);
-        let index = find(table, name).unwrap();
+        let index = find(table, operator, name).unwrap();
         assert!(row_at(&own, index) == row_at(table, index));
     }
 }

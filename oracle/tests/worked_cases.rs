@@ -2,7 +2,7 @@
 
 use oracle::handling::Call;
 use oracle::rules::DOCUMENT_01;
-use oracle::set_up::NewEntry;
+use oracle::set_up::{NewEntry, NewRow};
 use oracle::the_table::{ROW, sums};
 use oracle::{Outcome, experimental, plain};
 
@@ -32,12 +32,15 @@ impl Bench {
             limit,
             flags,
         };
-        assert_eq!((rules.enter)(rules, &mut table, NAME), 0);
-        assert_eq!(
-            (rules.add)(rules, &mut table, NAME, &new(b"board", 2, 0)),
-            0
-        );
-        assert_eq!((rules.add)(rules, &mut table, NAME, &new(b"yard", 1, 1)), 0);
+        let subscriber = NewRow {
+            operator: 0,
+            shares: &[1, 0, 0, 0, 0, 0, 0, 0, 0, 0, 0, 0, 0, 0, 0, 0],
+            name: NAME,
+        };
+        assert_eq!((rules.enter)(rules, &mut table, &subscriber), 0);
+        for entry in [new(b"board", 2, 0), new(b"yard", 1, 1)] {
+            assert_eq!((rules.add)(rules, &mut table, 0, NAME, &entry), 0);
+        }
         Bench {
             table,
             answer: Vec::new(),
@@ -50,6 +53,7 @@ impl Bench {
         self.notice = vec![0xBB; 256];
         let call = Call {
             table: &mut self.table,
+            operator: 0,
             host: b"aaa",
             realm: b"home",
             message,

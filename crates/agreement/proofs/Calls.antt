@@ -11,7 +11,7 @@ use Rattle.message.specs.ReadingAMessage.{Ask, tunnel, read, request}
 use Rattle.table.specs.TheTable.{Access, Subscriber, isRowOf, lookup, row, rowAt, rowLength, readRow}
 use Rattle.table.specs.Soundness.{onEntry, sound}
 use Rattle.table.proofs.Good.{Good, Standing}
-use Rattle.rules.specs.Calls.{Call, Reply, handle, reply, resultOf}
+use Rattle.rules.specs.Calls.{account, Call, Reply, handle, reply, resultOf}
 use Rattle.order.specs.ChecksInOrder.{decidingChecks, noneFails}
 use Rattle.order.specs.Demand2.{afterwards, cutFor, exceeds, firstAlone, found, onAsked, placeTaken, requestIn, succeeds}
 use Rattle.order.specs.OpenedFirst.{sessionCut}
@@ -37,7 +37,7 @@ pub record Done (t u : List ℕ) (c : Call) (q : Ask) (r : Reply) : Type 0 where
 module _ (t : List ℕ) (c : Call) (s : succeeds t c ≡ true) where
   row-in : (i : ℕ) → found t c ≡ row i → i < length t / rowLength
   unfolding found lookup
-  row-in i e = in-table (isRowOf ((requestIn c) .user)) t i e
+  row-in i e = in-table (isRowOf (account c (requestIn c))) t i e
 
   done-won : Won t c → Done t ((handle t c) .table) c ((requestIn c) .ask) ((handle t c) .reply)
   done-won (won i o a h) =

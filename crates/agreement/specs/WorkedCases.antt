@@ -18,7 +18,7 @@ unfoldable pub other : List ℕ
 other = 52 ∷ 50 ∷ []
 
 unfoldable pub subscriber : (who : List ℕ) → Subscriber
-subscriber who = record { name = who; entries = record { label = board; flags = 0; limit = 1 } ∷ []; accesses = [] }
+subscriber who = record { operator = 0; name = who; entries = record { label = board; flags = 0; limit = 1 } ∷ []; accesses = [] }
 
 unfoldable pub two : List ℕ
 two = rowBytes (subscriber name) ++ rowBytes (subscriber other)

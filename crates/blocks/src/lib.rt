@@ -110,7 +110,7 @@ pub fn head_form(b: &[u8]) -> bool
     if 4 < b[18] {
         return false;
     }
-    if b[19] != 0 {
+    if 15 < b[19] {
         return false;
     }
     if !line_form(&b[20..28]) {

@@ -250,6 +250,10 @@ pub zeros-three : zeros 3 ≡ 0 ∷ 0 ∷ 0 ∷ []
 unfolding zeros
 zeros-three = refl
 
+pub zeros-two : zeros 2 ≡ 0 ∷ 0 ∷ []
+unfolding zeros
+zeros-two = refl
+
 pub filled-none : (n : ℕ) → filled [] n ≡ zeros n
 filled-none n = let q : n - 0 ≡ n = omega arith in filled-is [] n (omega arith) ∙ ap (λ (j : ℕ). zeros j) q
 

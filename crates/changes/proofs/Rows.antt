@@ -23,7 +23,7 @@ use Rattle.table.proofs.Sound.{clauses, row-is, says-good}
 use Rattle.changes.specs.Changes.{freed, hold, leave, lowestFree, newAccess, opened, routed, withAccesses, named, withEntry}
 use Rattle.changes.specs.Writes.{closedUp, entriesWith, headWith, lowestClear, openedBytes, policyWith}
 use Rattle.changes.proofs.Bits.{bits-bound, is-vacant, lowest-clear}
-use Rattle.changes.proofs.Blocks.{bits-with, bits-without, closed-filled, filled-more, filled-none, put-over, put-room, zeros-split, zeros-three}
+use Rattle.changes.proofs.Blocks.{bits-with, bits-without, closed-filled, filled-more, filled-none, put-over, put-room, zeros-split, zeros-two}
 use Rattle.changes.proofs.Puts.{freed-puts, onPlace, opened-puts, putBlock, routed-puts}
 use Rattle.changes.proofs.Stays.{free-place, line-snoc}
 use Rattle.changes.proofs.Sums.{block-agrees}
@@ -37,13 +37,13 @@ abbrev behind : Subscriber → List ℕ
 behind s =
     (zeros 4 ++ (filled (entriesBytes (s .entries)) 416 ++ zeros 62))
     ++ (sumsFrom 0 0 (1 ∷ length (s .name) ∷ filled (s .name) 15
-    ++ (usedBits (line (s .accesses)) ∷ length (s .entries) ∷ 0 ∷ filled (line (s .accesses)) 8
+    ++ (usedBits (line (s .accesses)) ∷ length (s .entries) ∷ s .operator ∷ filled (line (s .accesses)) 8
     ++ (zeros 4 ++ (filled (entriesBytes (s .entries)) 416 ++ zeros 62))))
     ++ placesBytes (s .accesses) places)
 
 row-shape : (s : Subscriber)
     → rowBytes s ≡ 1 ∷ length (s .name) ∷ filled (s .name) 15
-    ++ (usedBits (line (s .accesses)) ∷ length (s .entries) ∷ 0 ∷ filled (line (s .accesses)) 8 ++ behind s)
+    ++ (usedBits (line (s .accesses)) ∷ length (s .entries) ∷ s .operator ∷ filled (line (s .accesses)) 8 ++ behind s)
 unfolding rowBytes headBytes sealed
 row-shape s = simp append-assoc
 
@@ -336,21 +336,21 @@ regroup p q x c z n l g r =
 abbrev headSums : Subscriber → List ℕ
 headSums s =
     sumsFrom 0 0 (1 ∷ length (s .name) ∷ filled (s .name) 15
-    ++ (usedBits (line (s .accesses)) ∷ length (s .entries) ∷ 0 ∷ filled (line (s .accesses)) 8
+    ++ (usedBits (line (s .accesses)) ∷ length (s .entries) ∷ s .operator ∷ filled (line (s .accesses)) 8
     ++ (zeros 4 ++ (filled (entriesBytes (s .entries)) 416 ++ zeros 62))))
 
 head-is : (s : Subscriber) → headBytes s ≡ 1 ∷ length (s .name) ∷ filled (s .name) 15
-    ++ (usedBits (line (s .accesses)) ∷ length (s .entries) ∷ 0 ∷ filled (line (s .accesses)) 8
+    ++ (usedBits (line (s .accesses)) ∷ length (s .entries) ∷ s .operator ∷ filled (line (s .accesses)) 8
     ++ (zeros 4 ++ (filled (entriesBytes (s .entries)) 416 ++ (zeros 62 ++ headSums s))))
 unfolding headBytes sealed
 head-is s = simp append-assoc
 
 entry-end : (s : Subscriber) (e : Entry) {c : ℕ} {m : List ℕ} → c ≡ length (s .entries ++ (e ∷ [])) → m ≡ filled (entriesBytes (s .entries ++ (e ∷ []))) 416
-    → sealed (1 ∷ length (s .name) ∷ filled (s .name) 15 ++ (usedBits (line (s .accesses)) ∷ c ∷ 0 ∷ filled (line (s .accesses)) 8 ++ (zeros 4 ++ (m ++ zeros 62))))
+    → sealed (1 ∷ length (s .name) ∷ filled (s .name) 15 ++ (usedBits (line (s .accesses)) ∷ c ∷ s .operator ∷ filled (line (s .accesses)) 8 ++ (zeros 4 ++ (m ++ zeros 62))))
     ≡ headBytes (withEntry e s)
 unfolding headBytes withEntry
 entry-end s e p q =
-    λ i. sealed (1 ∷ length (s .name) ∷ filled (s .name) 15 ++ (usedBits (line (s .accesses)) ∷ p i ∷ 0 ∷ filled (line (s .accesses)) 8 ++ (zeros 4 ++ (q i ++ zeros 62))))
+    λ i. sealed (1 ∷ length (s .name) ∷ filled (s .name) 15 ++ (usedBits (line (s .accesses)) ∷ p i ∷ s .operator ∷ filled (line (s .accesses)) 8 ++ (zeros 4 ++ (q i ++ zeros 62))))
 
 row-entry : (s : Subscriber) (e : Entry) → headBytes (withEntry e s) ++ placesBytes (s .accesses) places ≡ rowBytes (withEntry e s)
 unfolding rowBytes withEntry
@@ -377,13 +377,13 @@ module _ (s : Subscriber) (e : Entry) (lt : length (s .entries) < 4) where
       let hg : length g ≡ 4 = length-zeros 4 in
       let z : List ℕ = zeros 62 in
       let hz : length z ≡ 62 = length-zeros 62 in
-      let e1 : take 18 (headBytes s) ≡ 1 ∷ length (s .name) ∷ n ++ (x ∷ []) = ap (take 18) (head-is s) ∙ front18 1 (length (s .name)) x c 0 n l g m z t hn hl hg hm hz in
-      let e2 : part (headBytes s) 19 13 ≡ 0 ∷ l ++ g = ap (λ (u : List ℕ). part u 19 13) (head-is s) ∙ at19 1 (length (s .name)) x c 0 n l g m z t hn hl hg hm hz in
-      let e3 : part (headBytes s) 32 416 ≡ m = ap (λ (u : List ℕ). part u 32 416) (head-is s) ∙ at32 1 (length (s .name)) x c 0 n l g m z t hn hl hg hm hz in
-      let e4 : part (headBytes s) 448 62 ≡ z = ap (λ (u : List ℕ). part u 448 62) (head-is s) ∙ at448 1 (length (s .name)) x c 0 n l g m z t hn hl hg hm hz in
+      let e1 : take 18 (headBytes s) ≡ 1 ∷ length (s .name) ∷ n ++ (x ∷ []) = ap (take 18) (head-is s) ∙ front18 1 (length (s .name)) x c (s .operator) n l g m z t hn hl hg hm hz in
+      let e2 : part (headBytes s) 19 13 ≡ s .operator ∷ l ++ g = ap (λ (u : List ℕ). part u 19 13) (head-is s) ∙ at19 1 (length (s .name)) x c (s .operator) n l g m z t hn hl hg hm hz in
+      let e3 : part (headBytes s) 32 416 ≡ m = ap (λ (u : List ℕ). part u 32 416) (head-is s) ∙ at32 1 (length (s .name)) x c (s .operator) n l g m z t hn hl hg hm hz in
+      let e4 : part (headBytes s) 448 62 ≡ z = ap (λ (u : List ℕ). part u 448 62) (head-is s) ∙ at448 1 (length (s .name)) x c (s .operator) n l g m z t hn hl hg hm hz in
       let count : c + 1 ≡ length (s .entries ++ (e ∷ [])) = sym (length-append (s .entries) (e ∷ [])) in
       (λ i. sealed (e1 i ++ ((c + 1) ∷ e2 i ++ (put (e3 i) (104 * c) (entryBytes e) ++ e4 i))))
-      ∙ ap sealed (regroup 1 (length (s .name)) x (c + 1) 0 n l g (put m (104 * c) (entryBytes e) ++ z))
+      ∙ ap sealed (regroup 1 (length (s .name)) x (c + 1) (s .operator) n l g (put m (104 * c) (entryBytes e) ++ z))
       ∙ entry-end s e count (sym room-put)
 
 pub entry-law : (r : List ℕ) (e : Entry) → sound r ≡ true → length ((readRow r) .entries) < 4
@@ -417,48 +417,56 @@ unfolding usedBits line fromBits places counted isOn every pick
 none-used = refl
 
 -- what stands behind the name of a new row, in block 0
-new-rest : zeros 493 ≡ usedBits (line []) ∷ 0 ∷ 0 ∷ filled (line []) 8 ++ (zeros 4 ++ (filled (entriesBytes []) 416 ++ zeros 62))
+abbrev newRest : ℕ → List ℕ
+newRest op = zeros 2 ++ (op ∷ zeros 490)
+
+new-rest : (op : ℕ) → newRest op ≡ usedBits (line []) ∷ 0 ∷ op ∷ filled (line []) 8 ++ (zeros 4 ++ (filled (entriesBytes []) 416 ++ zeros 62))
 unfolding line entriesBytes
-new-rest =
-    zeros-split 3 490
-    ∙ (λ i. zeros-three i ++ (zeros-split 8 482 i))
-    ∙ (λ i. 0 ∷ 0 ∷ 0 ∷ sym (filled-none 8) i ++ zeros-split 4 478 i)
-    ∙ (λ i. 0 ∷ 0 ∷ 0 ∷ filled [] 8 ++ (zeros 4 ++ zeros-split 416 62 i))
-    ∙ (λ i. sym none-used i ∷ 0 ∷ 0 ∷ filled [] 8 ++ (zeros 4 ++ (sym (filled-none 416) i ++ zeros 62)))
+new-rest op =
+    (λ i. zeros-two i ++ (op ∷ zeros-split 8 482 i))
+    ∙ (λ i. 0 ∷ 0 ∷ op ∷ sym (filled-none 8) i ++ zeros-split 4 478 i)
+    ∙ (λ i. 0 ∷ 0 ∷ op ∷ filled [] 8 ++ (zeros 4 ++ zeros-split 416 62 i))
+    ∙ (λ i. sym none-used i ∷ 0 ∷ op ∷ filled [] 8 ++ (zeros 4 ++ (sym (filled-none 416) i ++ zeros 62)))
 
-new-zeros : zeros rowLength ≡ zeros 2 ++ (zeros 15 ++ (zeros 493 ++ (zeros 2 ++ zeros 4096)))
-new-zeros =
-    zeros-split 2 4606
-    ∙ ap (λ (t : List ℕ). zeros 2 ++ t) (zeros-split 15 4591
-    ∙ ap (λ (t : List ℕ). zeros 15 ++ t) (zeros-split 493 4098 ∙ ap (λ (t : List ℕ). zeros 493 ++ t) (zeros-split 2 4096)))
+length-rest : (op : ℕ) → length (newRest op) ≡ 493
+length-rest op = simp (length-append, length-zeros)
 
-pub new-law : (name z : List ℕ) → length name ≤ 15 → z ≡ put (put (zeros rowLength) 0 (1 ∷ length name ∷ [])) 2 name
-    → sealed (take 510 (take 512 z)) ++ drop 512 z ≡ rowBytes (named name)
+new-zeros : (op : ℕ) → put (zeros rowLength) 19 (op ∷ []) ≡ zeros 2 ++ (zeros 15 ++ (newRest op ++ (zeros 2 ++ zeros 4096)))
+new-zeros op =
+    ap (λ (t : List ℕ). put t 19 (op ∷ [])) (zeros-split 19 4589 ∙ ap (λ (t : List ℕ). zeros 19 ++ t) (zeros-split 1 4588))
+    ∙ put-over (zeros 19) (zeros 1) (op ∷ []) (zeros 4588) 19 (length-zeros 19) (length-zeros 1)
+    ∙ (λ i. (zeros-split 2 17 ∙ ap (λ (t : List ℕ). zeros 2 ++ t) (zeros-split 15 2)) i ++ ((op ∷ []) ++ (zeros-split 490 4098 ∙ ap (λ (t : List ℕ). zeros 490 ++ t) (zeros-split 2 4096)) i))
+    ∙ simp append-assoc
+
+pub new-law : (op : ℕ) (name z : List ℕ) → length name ≤ 15 → z ≡ put (put (put (zeros rowLength) 19 (op ∷ [])) 0 (1 ∷ length name ∷ [])) 2 name
+    → sealed (take 510 (take 512 z)) ++ drop 512 z ≡ rowBytes (named (record { operator = op; name = name }))
 unfolding named rowBytes headBytes
-new-law name z l e =
+new-law op name z l e =
+    let rest : List ℕ = newRest op in
+    let hr : length rest ≡ 493 = length-rest op in
     let a : List ℕ = 1 ∷ length name ∷ [] in
     let f : List ℕ = filled name 15 in
     let hf : length f ≡ 15 = length-filled name 15 in
-    let w : List ℕ = a ++ (f ++ (zeros 493 ++ (zeros 2 ++ zeros 4096))) in
+    let w : List ℕ = a ++ (f ++ (rest ++ (zeros 2 ++ zeros 4096))) in
     let ez : z ≡ w =
     e
-    ∙ ap (λ (t : List ℕ). put (put t 0 a) 2 name) new-zeros
-    ∙ ap (λ (t : List ℕ). put t 2 name) (put-over [] (zeros 2) a (zeros 15 ++ (zeros 493 ++ (zeros 2 ++ zeros 4096))) 0 refl (length-zeros 2))
-    ∙ put-room a name (zeros 493 ++ (zeros 2 ++ zeros 4096)) 2 15 refl l in
-    let et : take 510 (take 512 w) ≡ a ++ (f ++ zeros 493) =
+    ∙ ap (λ (t : List ℕ). put (put t 0 a) 2 name) (new-zeros op)
+    ∙ ap (λ (t : List ℕ). put t 2 name) (put-over [] (zeros 2) a (zeros 15 ++ (rest ++ (zeros 2 ++ zeros 4096))) 0 refl (length-zeros 2))
+    ∙ put-room a name (rest ++ (zeros 2 ++ zeros 4096)) 2 15 refl l in
+    let et : take 510 (take 512 w) ≡ a ++ (f ++ rest) =
     take-take 510 512 w (omega arith)
-    ∙ take-past 2 508 a (f ++ (zeros 493 ++ (zeros 2 ++ zeros 4096))) refl
-    ∙ ap (λ (t : List ℕ). a ++ t) (take-past 15 493 f (zeros 493 ++ (zeros 2 ++ zeros 4096)) hf
-    ∙ ap (λ (t : List ℕ). f ++ t) (take-at (zeros 493) (zeros 2 ++ zeros 4096) 493 (length-zeros 493))) in
+    ∙ take-past 2 508 a (f ++ (rest ++ (zeros 2 ++ zeros 4096))) refl
+    ∙ ap (λ (t : List ℕ). a ++ t) (take-past 15 493 f (rest ++ (zeros 2 ++ zeros 4096)) hf
+    ∙ ap (λ (t : List ℕ). f ++ t) (take-at (rest) (zeros 2 ++ zeros 4096) 493 hr)) in
     let ed : drop 512 w ≡ placesBytes [] places =
-    drop-past 2 510 a (f ++ (zeros 493 ++ (zeros 2 ++ zeros 4096))) refl
-    ∙ drop-past 15 495 f (zeros 493 ++ (zeros 2 ++ zeros 4096)) hf
-    ∙ drop-past 493 2 (zeros 493) (zeros 2 ++ zeros 4096) (length-zeros 493)
+    drop-past 2 510 a (f ++ (rest ++ (zeros 2 ++ zeros 4096))) refl
+    ∙ drop-past 15 495 f (rest ++ (zeros 2 ++ zeros 4096)) hf
+    ∙ drop-past 493 2 (rest) (zeros 2 ++ zeros 4096) hr
     ∙ drop-past 2 0 (zeros 2) (zeros 4096) (length-zeros 2)
     ∙ places-zero in
     ap (λ (t : List ℕ). sealed (take 510 (take 512 t)) ++ drop 512 t) ez
     ∙ (λ i. sealed (et i) ++ ed i)
-    ∙ ap (λ (t : List ℕ). sealed (a ++ (f ++ t)) ++ placesBytes [] places) new-rest
+    ∙ ap (λ (t : List ℕ). sealed (a ++ (f ++ t)) ++ placesBytes [] places) (new-rest op)
 
 -- A ROW OF A TABLE
 

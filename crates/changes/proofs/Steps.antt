@@ -42,20 +42,33 @@ module _ (p q x c z : ℕ) (n l y t : List ℕ) (hn : length n ≡ 15) (hl : len
       ∙ ap (take m) (drop-past 15 11 n (x ∷ c ∷ z ∷ l ++ (y ++ t)) hn ∙ drop-past 8 0 l (y ++ t) hl)
       ∙ take-at y t m hy
 
--- what a row is found by says whose it is
-pub row-name : (s : Subscriber) → foundBy (rowBytes s) ≡ 1 ∷ length (s .name) ∷ filled (s .name) 15
-unfolding foundBy rowBytes headBytes sealed
-row-name s =
+-- byte 19, and the first 17
+row-operator : (s : Subscriber) → getD (rowBytes s) 19 0 ≡ s .operator
+unfolding rowBytes headBytes sealed
+row-operator s =
+    List·getD-append (headBytes s) (placesBytes (s .accesses) places) 0 19 (rw length-head (omega arith))
+    ∙ ap (λ (u : List ℕ). getD u 19 0) (body-is 1 (length (s .name)) (usedBits (line (s .accesses))) (length (s .entries)) (s .operator) (filled (s .name) 15) (filled (line (s .accesses)) 8)
+    (zeros 4 ++ (filled (entriesBytes (s .entries)) 416 ++ zeros 62)) _ (length-filled _ 15) (length-filled _ 8))
+    ∙ getD-past 15 2 (filled (s .name) 15) _ (length-filled _ 15)
+
+row-front : (s : Subscriber) → take 17 (rowBytes s) ≡ 1 ∷ length (s .name) ∷ filled (s .name) 15
+unfolding rowBytes headBytes sealed
+row-front s =
     take-append-le 17 (headBytes s) (placesBytes (s .accesses) places) (rw length-head (omega arith))
-    ∙ front17 1 (length (s .name)) (usedBits (line (s .accesses))) (length (s .entries)) 0 (filled (s .name) 15) (filled (line (s .accesses)) 8)
+    ∙ front17 1 (length (s .name)) (usedBits (line (s .accesses))) (length (s .entries)) (s .operator) (filled (s .name) 15) (filled (line (s .accesses)) 8)
     (zeros 4 ++ (filled (entriesBytes (s .entries)) 416 ++ zeros 62)) _ (length-filled _ 15) (length-filled _ 8)
+
+-- what a row is found by says whose it is
+pub row-account : (s : Subscriber) → foundBy (rowBytes s) ≡ s .operator ∷ 1 ∷ length (s .name) ∷ filled (s .name) 15
+unfolding foundBy
+row-account s = rw (row-operator s, row-front s)
 
 -- byte 17
 pub row-bits : (s : Subscriber) → getD (rowBytes s) 17 0 ≡ usedBits (line (s .accesses))
 unfolding rowBytes headBytes sealed
 row-bits s =
     List·getD-append (headBytes s) (placesBytes (s .accesses) places) 0 17 (rw length-head (omega arith))
-    ∙ ap (λ (u : List ℕ). getD u 17 0) (body-is 1 (length (s .name)) (usedBits (line (s .accesses))) (length (s .entries)) 0 (filled (s .name) 15) (filled (line (s .accesses)) 8)
+    ∙ ap (λ (u : List ℕ). getD u 17 0) (body-is 1 (length (s .name)) (usedBits (line (s .accesses))) (length (s .entries)) (s .operator) (filled (s .name) 15) (filled (line (s .accesses)) 8)
     (zeros 4 ++ (filled (entriesBytes (s .entries)) 416 ++ zeros 62)) _ (length-filled _ 15) (length-filled _ 8))
     ∙ getD-past 15 0 (filled (s .name) 15) _ (length-filled _ 15)
 
@@ -79,12 +92,12 @@ head-line s a =
     let n : List ℕ = filled (s .name) 15 in
     let l : List ℕ = filled (line (s .accesses)) 8 in
     let y : List ℕ = zeros 4 ++ (filled (entriesBytes (s .entries)) 416 ++ zeros 62) in
-    let b : List ℕ = body 1 (length (s .name)) (usedBits (line (s .accesses))) (length (s .entries)) 0 n l y [] (length-filled _ 15) (length-filled _ 8) in
+    let b : List ℕ = body 1 (length (s .name)) (usedBits (line (s .accesses))) (length (s .entries)) (s .operator) n l y [] (length-filled _ 15) (length-filled _ 8) in
     let t : List ℕ = sumsFrom 0 0 b in
     let ly : length y ≡ 482 = simp (length-append, length-filled, length-zeros) in
-    let e1 : take 17 (headBytes s) ≡ 1 ∷ length (s .name) ∷ n = front17 1 (length (s .name)) (usedBits (line (s .accesses))) (length (s .entries)) 0 n l y t (length-filled _ 15) (length-filled _ 8) in
-    let e2 : part (headBytes s) 18 2 ≡ length (s .entries) ∷ 0 ∷ [] = at18 1 (length (s .name)) (usedBits (line (s .accesses))) (length (s .entries)) 0 n l y t (length-filled _ 15) (length-filled _ 8) in
-    let e3 : part (headBytes s) 28 482 ≡ y = from28 1 (length (s .name)) (usedBits (line (s .accesses))) (length (s .entries)) 0 n l y t (length-filled _ 15) (length-filled _ 8) 482 ly in
+    let e1 : take 17 (headBytes s) ≡ 1 ∷ length (s .name) ∷ n = front17 1 (length (s .name)) (usedBits (line (s .accesses))) (length (s .entries)) (s .operator) n l y t (length-filled _ 15) (length-filled _ 8) in
+    let e2 : part (headBytes s) 18 2 ≡ length (s .entries) ∷ s .operator ∷ [] = at18 1 (length (s .name)) (usedBits (line (s .accesses))) (length (s .entries)) (s .operator) n l y t (length-filled _ 15) (length-filled _ 8) in
+    let e3 : part (headBytes s) 28 482 ≡ y = from28 1 (length (s .name)) (usedBits (line (s .accesses))) (length (s .entries)) (s .operator) n l y t (length-filled _ 15) (length-filled _ 8) 482 ly in
     sym (λ i. sealed (e1 i ++ (usedBits (line a) ∷ e2 i ++ (filled (line a) 8 ++ e3 i))))
 
 -- a place with another policy: bytes 4 and 5, the third text, and the sums

@@ -6,10 +6,10 @@ use Prim.Native.Nat.{ℕ}
 use lib.Dec.{eqb}
 use Rattle.octets.specs.Choice.{pick}
 use Rattle.octets.specs.Lists.{every, firstOr, keep}
-use Rattle.table.specs.TheTable.{Access, Entry, Subscriber, places}
+use Rattle.table.specs.TheTable.{Access, Account, Entry, Subscriber, places}
 
 abbrev pub withAccesses : List Access → Subscriber → Subscriber
-withAccesses a s = record { name = s .name; entries = s .entries; accesses = a }
+withAccesses a s = record { operator = s .operator; name = s .name; entries = s .entries; accesses = a }
 
 -- A PLACE IS FREED: its access leaves, and with it its bit and its number on the order line, which closes up.
 unfoldable pub leave : ℕ → List Access → List Access
@@ -40,10 +40,10 @@ hold k route a =
 unfoldable pub routed : ℕ → List ℕ → Subscriber → Subscriber
 routed k route s = withAccesses (map (hold k route) (s .accesses)) s
 
--- SET-UP: a subscriber with that name and nothing else.
-unfoldable pub named : List ℕ → Subscriber
-named n = record { name = n; entries = []; accesses = [] }
+-- SET-UP: a subscriber of that operator with that name, and nothing else.
+unfoldable pub named : Account → Subscriber
+named a = record { operator = a .operator; name = a .name; entries = []; accesses = [] }
 
 -- The next entry, as given, behind the others.
 unfoldable pub withEntry : Entry → Subscriber → Subscriber
-withEntry e s = record { name = s .name; entries = s .entries ++ (e ∷ []); accesses = s .accesses }
+withEntry e s = record { operator = s .operator; name = s .name; entries = s .entries ++ (e ∷ []); accesses = s .accesses }

@@ -212,12 +212,14 @@ pub fn append_entry(row: &mut [u8], label: &[u8], flags: u8, limit: u8)
     write_more(&mut row[0..512], n, label, flags, limit);
 }
 
-// A subscriber with that name and nothing else.
-pub fn new_row(row: &mut [u8], name: &[u8])
+// A subscriber of that operator with that name, and nothing else.
+pub fn new_row(row: &mut [u8], op: u8, name: &[u8])
     requires { ⌜ (length (now row) ≡ rowLength) × (length (now name) ≤ 15) ⌝ }
-    ensures { λ _. ⌜ now (row .exit) ≡ rowBytes (named (now (name .entry))) ⌝ }
+    ensures { λ _. ⌜ now (row .exit) ≡ rowBytes (named (record { operator = op; name = now (name .entry) })) ⌝ }
 {
     octets::clear(row);
+    let operator = [op];
+    octets::put_bytes(row, 19, &operator);
     let head = [1, name.len() as u8];
     octets::put_bytes(row, 0, &head);
     octets::put_bytes(row, 2, name);

@@ -124,24 +124,24 @@ unfolding answeredBy
 written-is d n m host realm room t a u en ea = λ j. leaves (record { code = d .code; kind = d .kind; length = en j; place = d .place; cut = d .cut }) t (ea j) u
 
 -- what is decided and the notice room, answered
-pub answered-is : (k : Kind) (n : ℕ) (user : Span) (m host realm room notice : List ℕ) (wag : Bool) (place : ℕ) (cut : List Access) (t u : List ℕ)
+pub answered-is : (k : Kind) (n : ℕ) (user : Span) (o : ℕ) (m host realm room notice : List ℕ) (wag : Bool) (place : ℕ) (cut : List Access) (t u : List ℕ)
     → u ≡ noticeRoom cut notice
     → answeredBy (record { code = n; kind = k; user = user; place = place; cut = cutFor cut }) m host realm room t u
-    ≡ record { reply = reply (callOf m host realm room notice wag) (codeFrom k n) place cut; table = t }
+    ≡ record { reply = reply (callOf o m host realm room notice wag) (codeFrom k n) place cut; table = t }
 unfolding answeredBy leaves reply callOf
-answered-is k n user m host realm room notice wag place cut t u eu =
+answered-is k n user o m host realm room notice wag place cut t u eu =
     let c = codeFrom k n in
     λ i. record { reply = record { result = result-is k n (length (answer m host realm c)) place cut i; answer = answerRoom m host realm c room; notice = eu i }; table = t }
 
-pub settled-is : (t : List ℕ) (i : ℕ) (m host realm room notice : List ℕ) (wag : Bool) (v : Verdict) (k : Kind) (n : ℕ) (user : Span) (d : Done) (t′ u : List ℕ)
+pub settled-is : (t : List ℕ) (i o : ℕ) (m host realm room notice : List ℕ) (wag : Bool) (v : Verdict) (k : Kind) (n : ℕ) (user : Span) (d : Done) (t′ u : List ℕ)
     → v .code ≡ codeFrom k n
     → t′ ≡ tableAfter t i v
     → u ≡ noticeRoom (v .cut) notice
     → d ≡ doneFor v
     → answeredBy (record { code = n; kind = k; user = user; place = d .place; cut = d .cut }) m host realm room t′ u
-    ≡ settled t (callOf m host realm room notice wag) i v
+    ≡ settled t (callOf o m host realm room notice wag) i v
 unfolding settled doneFor
-settled-is t i m host realm room notice wag v k n user d t′ u ec et eu ed =
+settled-is t i o m host realm room notice wag v k n user d t′ u ec et eu ed =
     ap (λ (x : Done). answeredBy (record { code = n; kind = k; user = user; place = x .place; cut = x .cut }) m host realm room t′ u) ed
-    ∙ answered-is k n user m host realm room notice wag (v .place) (v .cut) t′ u eu
-    ∙ (λ j. record { reply = reply (callOf m host realm room notice wag) (sym ec j) (v .place) (v .cut); table = et j })
+    ∙ answered-is k n user o m host realm room notice wag (v .place) (v .cut) t′ u eu
+    ∙ (λ j. record { reply = reply (callOf o m host realm room notice wag) (sym ec j) (v .place) (v .cut); table = et j })

@@ -17,39 +17,51 @@ use Rattle.message.specs.declared.Kind.the-variants.{NoAnswer}
 use Rattle.message.proofs.Callers.{message-length}
 use Rattle.effects.specs.declared.Cut.the-variants.{NoCut}
 use Rattle.message.specs.CallsThatGetNoAnswer.{messageNumber}
-use Rattle.table.specs.TheTable.{tableNumber}
+use Rattle.table.specs.TheTable.{firstNumber, tableNumber}
+use Rattle.table.proofs.Rows.{first-operator, first-table}
 use Rattle.rules.specs.Calls.{Call, callNumber, handle, onReading, silent}
 use Rattle.decision.specs.Outcomes.{callOf, cutHost, cutMade, cutSession, leaves, resultSaid}
 
 module _ (t : List ℕ) (c : Call) where
-  pub number-table : (tableNumber t ≡ 0 → ⊥) → callNumber t c ≡ tableNumber t
-  unfolding callNumber firstOf pick
-  number-table h = rw (ne-eqb (tableNumber t) 0 h)
+  pub number-first : (firstNumber t (c .operator) ≡ 0 → ⊥) → callNumber t c ≡ firstNumber t (c .operator)
+  unfolding callNumber firstNumber firstOf pick
+  number-first h =
+      by-test (eqb (tableNumber t) 0)
+      (λ e. by-test (eqb (require (leb (c .operator) 15) 33) 0)
+      (λ g. absurd (h (rw (e, g))))
+      (λ g. rw (e, g)))
+      (λ e. rw e)
 
-  module _ (z : tableNumber t ≡ 0) where
+  module _ (z : firstNumber t (c .operator) ≡ 0) where
+    y : tableNumber t ≡ 0
+    y = first-table t (c .operator) z
+
+    o : leb (c .operator) 15 ≡ true
+    o = first-operator t (c .operator) z
+
     pub number-host : within 1 128 (length (c .host)) ≡ false → callNumber t c ≡ 2
     unfolding callNumber firstOf require pick
-    number-host h = rw (z, h)
+    number-host h = rw (y, o, h)
 
     module _ (hh : within 1 128 (length (c .host)) ≡ true) where
       pub number-realm : within 1 128 (length (c .realm)) ≡ false → callNumber t c ≡ 2
       unfolding callNumber firstOf require pick
-      number-realm h = rw (z, hh, h)
+      number-realm h = rw (y, o, hh, h)
 
       module _ (hr : within 1 128 (length (c .realm)) ≡ true) where
         pub number-answer : length (c .answer) < 5120 → callNumber t c ≡ 3
         unfolding callNumber firstOf require pick
-        number-answer h = rw (z, hh, hr, lt-leb 5120 (length (c .answer)) h)
+        number-answer h = rw (y, o, hh, hr, lt-leb 5120 (length (c .answer)) h)
 
         module _ (ha : 5120 ≤ length (c .answer)) where
           pub number-notice : length (c .notice) < 256 → callNumber t c ≡ 4
           unfolding callNumber firstOf require pick
-          number-notice h = rw (z, hh, hr, le-leb 5120 (length (c .answer)) ha, lt-leb 256 (length (c .notice)) h)
+          number-notice h = rw (y, o, hh, hr, le-leb 5120 (length (c .answer)) ha, lt-leb 256 (length (c .notice)) h)
 
           pub number-message : 256 ≤ length (c .notice) → callNumber t c ≡ messageNumber (c .message)
           unfolding callNumber firstOf require pick
           number-message h =
-              rw (z, hh, hr, le-leb 5120 (length (c .answer)) ha, le-leb 256 (length (c .notice)) h)
+              rw (y, o, hh, hr, le-leb 5120 (length (c .answer)) ha, le-leb 256 (length (c .notice)) h)
               (by-test (eqb (messageNumber (c .message)) 0)
               (λ e. rw e (sym (eqb-true (messageNumber (c .message)) 0 e)))
               (λ e. rw e))
@@ -65,7 +77,7 @@ pub record Ready (m host realm room : List ℕ) : Type 0 where
   pub room-fits : 5120 ≤ length room
 
 -- what lent things are like where no number is given
-module _ (t m host realm room notice : List ℕ) (wag : Bool) (z : callNumber t (callOf m host realm room notice wag) ≡ 0) where
+module _ (t : List ℕ) (o : ℕ) (m host realm room notice : List ℕ) (wag : Bool) (z : callNumber t (callOf o m host realm room notice wag) ≡ 0) where
   names : Bool
   names = within 1 128 (length host) && within 1 128 (length realm)
 
@@ -78,7 +90,7 @@ module _ (t m host realm room notice : List ℕ) (wag : Bool) (z : callNumber t 
 
   after-table : firstOf (require names 2 ∷ others) ≡ 0
   unfolding callNumber callOf names others
-  after-table = others-pass (tableNumber t) _ z
+  after-table = others-pass (require (leb o 15) 33) _ (others-pass (tableNumber t) _ z)
 
   names-fit : names ≡ true
   names-fit = passed names 2 (omega arith) (first-passes (require names 2) others after-table)
@@ -114,7 +126,7 @@ module _ (t : List ℕ) (c : Call) where
   unfolding handle pick
   unanswered n e nz = rw (ne-eqb (callNumber t c) 0 (λ z. nz (e ∙ z)), e)
 
-pub silent-is : (t m host realm room notice : List ℕ) (wag : Bool) (n : ℕ)
-    → leaves (record { code = n; kind = NoAnswer; length = 0; place = 0; cut = NoCut }) t room notice ≡ silent t (callOf m host realm room notice wag) n
+pub silent-is : (t : List ℕ) (o : ℕ) (m host realm room notice : List ℕ) (wag : Bool) (n : ℕ)
+    → leaves (record { code = n; kind = NoAnswer; length = 0; place = 0; cut = NoCut }) t room notice ≡ silent t (callOf o m host realm room notice wag) n
 unfolding leaves resultSaid silent callOf codeFrom kindOf cutMade cutSession cutHost
-silent-is t m host realm room notice wag n = refl
+silent-is t o m host realm room notice wag n = refl

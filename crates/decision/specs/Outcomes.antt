@@ -62,9 +62,9 @@ pub record Named (m : List ℕ) (d : Decided) : Type 0 where
   pub small : d .code < 65536
 
 -- A call, from what is lent.
-unfoldable pub callOf : (message host realm answer notice : List ℕ) → (wag : Bool) → Call
-callOf message host realm answer notice wag =
-    record { message = message; host = host; realm = realm; answer = answer; notice = notice; wag = wag }
+unfoldable pub callOf : (operator : ℕ) → (message host realm answer notice : List ℕ) → (wag : Bool) → Call
+callOf o message host realm answer notice wag =
+    record { operator = o; message = message; host = host; realm = realm; answer = answer; notice = notice; wag = wag }
 
 -- The texts that a request brings for its change; none where it brings none.
 unfoldable pub sessionText : List ℕ → Asked → List ℕ

@@ -36,18 +36,19 @@ fn name_fits(s: &[u8]) -> bool
     s.len() <= 128
 }
 
-// The first of the numbers 1 to 8 that a call is refused with, 0 where none is.
+// The first of the numbers 1, 33 and 2 to 8 that a call is refused with, 0 where none is.
 pub fn call_number(
     table: &[u8],
+    op: u32,
     host: &[u8],
     realm: &[u8],
     message: &[u8],
     answer: &[u8],
     notice: &[u8],
 ) -> u32
-    ensures { λ r. ⌜ ((wag : Bool) → r ≡ callNumber (now (table .entry)) (callOf (now (message .entry)) (now (host .entry)) (now (realm .entry)) (now (answer .entry)) (now (notice .entry)) wag)) ⌝ }
+    ensures { λ r. ⌜ ((wag : Bool) → r ≡ callNumber (now (table .entry)) (callOf op (now (message .entry)) (now (host .entry)) (now (realm .entry)) (now (answer .entry)) (now (notice .entry)) wag)) ⌝ }
 {
-    let n = table::table_number(table);
+    let n = table::number_for(table, op);
     if n != 0 {
         return n;
     }
@@ -180,8 +181,8 @@ fn plan_for(row: &[u8], m: &[u8], asked: Asked, wag: bool) -> Plan
 
 // A refusal, which leaves the table as it is and has no notice.
 fn refused(kind: Kind, code: u32) -> Decided
-    ensures { λ r. ⌜ (r .code ≡ code) × ((m host realm room table notice : List ℕ) (wag : Bool) → answeredBy r m host realm room table notice
-        ≡ refusal table (callOf m host realm room notice wag) (codeFrom kind code)) ⌝ }
+    ensures { λ r. ⌜ (r .code ≡ code) × ((o : ℕ) (m host realm room table notice : List ℕ) (wag : Bool) → answeredBy r m host realm room table notice
+        ≡ refusal table (callOf o m host realm room notice wag) (codeFrom kind code)) ⌝ }
 {
     Decided {
         code: code,
@@ -205,8 +206,8 @@ fn settle(
     requires { ⌜ (256 ≤ length (now notice)) × (rowLength * i + rowLength ≤ length (now table)) × (sound (rowAt (now table) i) ≡ true)
         × (every (isInside (now m)) (spansIn asked) ≡ true) × (isInside (now m) user ≡ true)
         × (read (now m) ≡ request (record { user = bytesOf (now m) user; ask = asks (now m) asked })) ⌝ }
-    ensures { λ r. ⌜ Named (now (m .entry)) r × ((host realm room : List ℕ) → answeredBy r (now (m .entry)) host realm room (now (table .exit)) (now (notice .exit))
-        ≡ settled (now (table .entry)) (callOf (now (m .entry)) host realm room (now (notice .entry)) wag) i
+    ensures { λ r. ⌜ Named (now (m .entry)) r × ((o : ℕ) (host realm room : List ℕ) → answeredBy r (now (m .entry)) host realm room (now (table .exit)) (now (notice .exit))
+        ≡ settled (now (table .entry)) (callOf o (now (m .entry)) host realm room (now (notice .entry)) wag) i
         (decide (asks (now (m .entry)) asked) wag (readRow (rowAt (now (table .entry)) i)))) ⌝ }
 {
     let a = table::ROW_LENGTH * i;
@@ -232,6 +233,7 @@ fn settle(
 // A request that was read: the user's row is found and tested, then the request is settled on it.
 fn on_request(
     table: &mut [u8],
+    op: u32,
     m: &[u8],
     wag: bool,
     user: Span,
@@ -242,10 +244,10 @@ fn on_request(
         × (every (isInside (now m)) (spansIn asked) ≡ true) × (isInside (now m) user ≡ true)
         × (read (now m) ≡ request (record { user = bytesOf (now m) user; ask = asks (now m) asked })) ⌝ }
     ensures { λ r. ⌜ Named (now (m .entry)) r × ((host realm room : List ℕ) → answeredBy r (now (m .entry)) host realm room (now (table .exit)) (now (notice .exit))
-        ≡ onRow (now (table .entry)) (callOf (now (m .entry)) host realm room (now (notice .entry)) wag)
-        (record { user = bytesOf (now (m .entry)) user; ask = asks (now (m .entry)) asked }) (lookup (now (table .entry)) (bytesOf (now (m .entry)) user))) ⌝ }
+        ≡ onRow (now (table .entry)) (callOf op (now (m .entry)) host realm room (now (notice .entry)) wag)
+        (record { user = bytesOf (now (m .entry)) user; ask = asks (now (m .entry)) asked }) (lookup (now (table .entry)) (record { operator = op; name = bytesOf (now (m .entry)) user }))) ⌝ }
 {
-    let found = table::lookup(table, text(m, user));
+    let found = table::lookup(table, op, text(m, user));
     let RowFound::At(i) = found else {
         return refused(Kind::Experimental, 5001);
     };
@@ -258,25 +260,33 @@ fn on_request(
 }
 
 // What is decided on a message as it was read: it was refused, or it is a request.
-fn on_reading(table: &mut [u8], m: &[u8], wag: bool, told: Told, notice: &mut [u8]) -> Decided
+fn on_reading(
+    table: &mut [u8],
+    op: u32,
+    m: &[u8],
+    wag: bool,
+    told: Told,
+    notice: &mut [u8],
+) -> Decided
     requires { ⌜ (256 ≤ length (now notice)) × (tableNumber (now table) ≡ 0)
         × (says (now m) told ≡ read (now m)) × (every (isInside (now m)) (spans told) ≡ true) ⌝ }
     ensures { λ r. ⌜ Named (now (m .entry)) r × ((host realm room : List ℕ) → answeredBy r (now (m .entry)) host realm room (now (table .exit)) (now (notice .exit))
-        ≡ onReading (now (table .entry)) (callOf (now (m .entry)) host realm room (now (notice .entry)) wag) (read (now (m .entry)))) ⌝ }
+        ≡ onReading (now (table .entry)) (callOf op (now (m .entry)) host realm room (now (notice .entry)) wag) (read (now (m .entry)))) ⌝ }
 {
     match told {
         Told::Refused(code) => {
             return refused(Kind::Plain, code);
         }
         Told::Request(user, asked) => {
-            return on_request(table, m, wag, user, asked, notice);
+            return on_request(table, op, m, wag, user, asked, notice);
         }
     }
 }
 
-// One request: read, decided on and answered. Nothing is asked of what is lent; a bad table, name, room or message gets its number.
+// One request of an operator: read, decided on and answered. Nothing is asked of what is lent; a bad table, name, room or message gets its number.
 pub fn handle(
     table: &mut [u8],
+    op: u32,
     host: &[u8],
     realm: &[u8],
     message: &[u8],
@@ -285,9 +295,9 @@ pub fn handle(
     notice: &mut [u8],
 ) -> Outcome
     ensures { λ r. ⌜ leaves r (now (table .exit)) (now (answer .exit)) (now (notice .exit))
-        ≡ handle (now (table .entry)) (callOf (now (message .entry)) (now (host .entry)) (now (realm .entry)) (now (answer .entry)) (now (notice .entry)) wag) ⌝ }
+        ≡ handle (now (table .entry)) (callOf op (now (message .entry)) (now (host .entry)) (now (realm .entry)) (now (answer .entry)) (now (notice .entry)) wag) ⌝ }
 {
-    let n = call_number(table, host, realm, message, answer, notice);
+    let n = call_number(table, op, host, realm, message, answer, notice);
     if n != 0 {
         return Outcome {
             code: n,
@@ -300,7 +310,7 @@ pub fn handle(
     let heard = request::read(message);
     let told = heard.told;
     let proxies = heard.proxies;
-    let decided = on_reading(table, message, wag, told, notice);
+    let decided = on_reading(table, op, message, wag, told, notice);
     let kind = decided.kind;
     let code = decided.code;
     let user = decided.user;

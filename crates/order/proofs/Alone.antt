@@ -8,6 +8,7 @@ use Rattle.octets.specs.Choice.{pick}
 use Rattle.octets.specs.Lists.{keep}
 use Rattle.octets.proofs.Lists.{by-test}
 use Rattle.rules.specs.Calls.{Call, Reply}
+use Rattle.table.specs.TheTable.{Account}
 use Rattle.order.specs.Demand3.{Subject, nobody, subscriber, sameSubject, subject, isOf, callsOf, repliesOf, Record, absent, bytes, isBy, callsBy, repliesBy}
 use Rattle.order.proofs.Finding.{subject-eq, subject-refl, finds, ownerOf, finds-owner}
 
@@ -129,20 +130,20 @@ module _ (act : Call → List ℕ → List ℕ) (says : Call → List ℕ → Re
 
     -- THE TABLE: two lists in which each subscriber's calls are the same
     abbrev pub Alike : List Call → List Call → Type 0
-    Alike cs ds = (name : List ℕ) → callsOf (subscriber name) cs ≡ callsOf (subscriber name) ds
+    Alike cs ds = (who : Account) → callsOf (subscriber who) cs ≡ callsOf (subscriber who) ds
 
     owner-alike : (r : List ℕ) (cs ds : List Call) → Alike cs ds → callsOf (ownerOf r) cs ≡ callsOf (ownerOf r) ds
     unfolding ownerOf
     owner-alike r cs ds h = h _
 
     rest-alike : (r : List ℕ) (cs ds : List Call) → Alike cs ds → Alike (rest r cs) (rest r ds)
-    rest-alike r cs ds h name =
+    rest-alike r cs ds h who =
         by-test (finds (ownerOf r) r)
-        (λ l. by-test (sameSubject (subscriber name) (ownerOf r))
-        (λ e. let p : subscriber name ≡ ownerOf r = subject-eq (subscriber name) (ownerOf r) e in
+        (λ l. by-test (sameSubject (subscriber who) (ownerOf r))
+        (λ e. let p : subscriber who ≡ ownerOf r = subject-eq (subscriber who) (ownerOf r) e in
         rw (p, rest-owner r cs l, rest-owner r ds l))
-        (λ e. rest-other r (subscriber name) cs e ∙ h name ∙ sym (rest-other r (subscriber name) ds e)))
-        (λ l. rw (rest-none r cs l, rest-none r ds l) (h name))
+        (λ e. rest-other r (subscriber who) cs e ∙ h who ∙ sym (rest-other r (subscriber who) ds e)))
+        (λ l. rw (rest-none r cs l, rest-none r ds l) (h who))
 
     mine-alike : (r : List ℕ) (cs ds : List Call) → Alike cs ds → mine r cs ≡ mine r ds
     mine-alike r cs ds h =

@@ -13,7 +13,7 @@ use Rattle.octets.proofs.Choice.{first-passes, others-pass}
 use Rattle.octets.proofs.Lists.{by-test}
 use Rattle.octets.specs.Texts.{pieces}
 use Rattle.message.specs.ReadingAMessage.{read, readingCode, listCode, command, avps, userName, valueOf, requestOf}
-use Rattle.table.specs.TheTable.{rowLength, tableNumber}
+use Rattle.table.specs.TheTable.{Account, rowLength, tableNumber}
 use Rattle.rules.specs.Calls.{Call, Reply, run}
 use Rattle.order.specs.Demand3.{Subject, nobody, subscriber, sameSubject, subject, sentBy, isOf, callsOf, recordOf, ownNumber, Counting, nameRead, sender, isBy, callsBy, repliesBy, brought, told, SameBrought, SameBroughtBy}
 use Rattle.order.specs.Demand3.{SubjectCounts, SenderCounts, NoSender, RepliesAloneBy, RecordAloneBy, SameTableBy, SameRepliesBy, SameRecordBy}
@@ -37,16 +37,16 @@ unfolding repliesBy callsBy keep pick
 replies-map f owner who [] = refl
 replies-map f owner who (c ∷ cs) = by-test (isBy owner who c) (λ e. rw (e, replies-map f owner who cs)) (λ e. rw (e, replies-map f owner who cs))
 
-module _ (owner : Call → Subject) (counts : Counting owner) (name : List ℕ) where
+module _ (owner : Call → Subject) (counts : Counting owner) (mine : Account) where
   abbrev who : Subject
-  who = subscriber name
+  who = subscriber mine
 
   -- each of the subscriber's calls is counted
   all : (c : Call) → isBy owner who c ≡ false → sameSubject (subject c) who ≡ false
   unfolding isBy
   all c f =
       by-test (sameSubject (subject c) who)
-      (λ e. let p : owner c ≡ who = counts c name (subject-eq (subject c) who e) in
+      (λ e. let p : owner c ≡ who = counts c mine (subject-eq (subject c) who e) in
       let z : sameSubject (owner c) who ≡ true = rw p (subject-refl who) in
       cc)
       (λ e. e)
@@ -78,34 +78,34 @@ module _ (owner : Call → Subject) (counts : Counting owner) (name : List ℕ) 
       (A.same-answers-by act says lost stable who owner all others cs (pieces rowLength (length t / rowLength) t) (pieces rowLength (length t / rowLength) t) refl)
 
 pub replies-alone-by : RepliesAloneBy
-replies-alone-by owner counts t cs name =
+replies-alone-by owner counts t cs mine =
     by-test (eqb (tableNumber t) 0)
-    (λ e. good-replies owner counts name t (eqb-true (tableNumber t) 0 e) cs)
-    (λ e. rw (bad-replies t e cs, bad-replies t e (callsBy owner (subscriber name) cs)) (replies-map (λ (c : Call). silence c (tableNumber t)) owner (subscriber name) cs))
+    (λ e. good-replies owner counts mine t (eqb-true (tableNumber t) 0 e) cs)
+    (λ e. rw (bad-replies t e cs, bad-replies t e (callsBy owner (subscriber mine) cs)) (replies-map (λ (c : Call). silence c (tableNumber t)) owner (subscriber mine) cs))
 
 pub record-alone-by : RecordAloneBy
-record-alone-by owner counts t cs name =
-    record-alone t cs name
-    ∙ ap (λ (ds : List Call). recordOf name ((run t ds) .table)) (sym (inside owner counts name cs))
-    ∙ sym (record-alone t (callsBy owner (subscriber name) cs) name)
+record-alone-by owner counts t cs mine =
+    record-alone t cs mine
+    ∙ ap (λ (ds : List Call). recordOf mine ((run t ds) .table)) (sym (inside owner counts mine cs))
+    ∙ sym (record-alone t (callsBy owner (subscriber mine) cs) mine)
 
 pub same-table-by : SameTableBy
 same-table-by owner counts t cs ds h =
-    same-table t cs ds (λ name. same-inside owner counts name cs ds (h name))
+    same-table t cs ds (λ mine. same-inside owner counts mine cs ds (h mine))
 
 pub same-replies-by : SameRepliesBy
-same-replies-by owner counts t cs ds name h =
-    ap (map told) (replies-alone-by owner counts t cs name)
-    ∙ (same-run t (callsBy owner (subscriber name) cs) (callsBy owner (subscriber name) ds) h) .replies
-    ∙ ap (map told) (sym (replies-alone-by owner counts t ds name))
+same-replies-by owner counts t cs ds mine h =
+    ap (map told) (replies-alone-by owner counts t cs mine)
+    ∙ (same-run t (callsBy owner (subscriber mine) cs) (callsBy owner (subscriber mine) ds) h) .replies
+    ∙ ap (map told) (sym (replies-alone-by owner counts t ds mine))
 
 pub same-record-by : SameRecordBy
-same-record-by owner counts t cs ds name h = same-record t cs ds name (same-inside owner counts name cs ds h)
+same-record-by owner counts t cs ds mine h = same-record t cs ds mine (same-inside owner counts mine cs ds h)
 
 -- THE TWO COUNTINGS
 
 pub subject-counts : SubjectCounts
-subject-counts c name h = h
+subject-counts c mine h = h
 
 first-take : (n : ℕ) (cs : List ℕ) → firstOf cs ≡ 0 → firstOf (take n cs) ≡ 0
 unfolding firstOf pick
@@ -124,33 +124,33 @@ name-read m h =
     eq-eqb _ 0 (first-both _ _ (first-passes _ _ h) (first-both _ _ (first-passes _ _ (others-pass _ _ h))
     (first-both _ _ (first-passes _ _ l) (first-take 8 _ (others-pass _ _ l)))))
 
-read-passes : (m : List ℕ) (name : List ℕ) → sentBy (read m) ≡ subscriber name → readingCode m ≡ 0
+read-passes : (o : ℕ) (m : List ℕ) (mine : Account) → sentBy o (read m) ≡ subscriber mine → readingCode m ≡ 0
 unfolding read sentBy pick
-read-passes m name h =
+read-passes o m mine h =
     by-test (eqb (readingCode m) 0)
     (λ e. eqb-true (readingCode m) 0 e)
-    (λ e. let z : nobody ≡ subscriber name = rw e at h in let y : _≡_ {A = ℕ} 0 1 = cc in absurd (omega arith))
+    (λ e. let z : nobody ≡ subscriber mine = rw e at h in let y : _≡_ {A = ℕ} 0 1 = cc in absurd (omega arith))
 
-read-name : (m : List ℕ) → readingCode m ≡ 0 → sentBy (read m) ≡ subscriber (valueOf userName (avps m))
+read-name : (o : ℕ) (m : List ℕ) → readingCode m ≡ 0 → sentBy o (read m) ≡ subscriber (record { operator = o; name = valueOf userName (avps m) })
 unfolding read sentBy requestOf pick
-read-name m h = rw h
+read-name o m h = rw h
 
-own-passes : (c : Call) (name : List ℕ) → subject c ≡ subscriber name → eqb (ownNumber c) 0 ≡ true
+own-passes : (c : Call) (mine : Account) → subject c ≡ subscriber mine → eqb (ownNumber c) 0 ≡ true
 unfolding subject pick
-own-passes c name h =
+own-passes c mine h =
     by-test (eqb (ownNumber c) 0)
     (λ e. e)
-    (λ e. let z : nobody ≡ subscriber name = rw e at h in cc)
+    (λ e. let z : nobody ≡ subscriber mine = rw e at h in cc)
 
-message-is : (c : Call) (name : List ℕ) → subject c ≡ subscriber name → sentBy (read (c .message)) ≡ subscriber name
+message-is : (c : Call) (mine : Account) → subject c ≡ subscriber mine → sentBy (c .operator) (read (c .message)) ≡ subscriber mine
 unfolding subject pick
-message-is c name h = rw (own-passes c name h) at h
+message-is c mine h = rw (own-passes c mine h) at h
 
 pub sender-counts : SenderCounts
 unfolding sender pick
-sender-counts c name h =
-    let r : readingCode (c .message) ≡ 0 = read-passes (c .message) name (message-is c name h) in
-    rw (own-passes c name h, name-read (c .message) r) (sym (read-name (c .message) r) ∙ message-is c name h)
+sender-counts c mine h =
+    let r : readingCode (c .message) ≡ 0 = read-passes (c .operator) (c .message) mine (message-is c mine h) in
+    rw (own-passes c mine h, name-read (c .message) r) (sym (read-name (c .operator) (c .message) r) ∙ message-is c mine h)
 
 no-sender-by : (c : Call) (s : Subject) → subject c ≡ s → sender c ≡ nobody → s ≡ nobody
 no-sender-by c nobody e h = refl

@@ -12,24 +12,27 @@ use Rattle.octets.proofs.Lists.{by-test}
 use Rattle.octets.proofs.Pieces.{length-pieces}
 use Rattle.message.specs.Codes.{plain, userUnknown, numberOf}
 use Rattle.message.specs.ReadingAMessage.{Ask, tunnel, policy, termination, Request, Reading, refused, request, read}
-use Rattle.table.specs.TheTable.{Subscriber, Found, foundBy, row, nothing, later, firstRow, lookup, rows, rowAt, withRow, rowLength, tableNumber, readRow, rowBytes, isRowOf}
+use Rattle.table.specs.TheTable.{Account, Subscriber, Found, foundBy, row, nothing, later, firstRow, lookup, rows, rowAt, withRow, rowLength, tableNumber, readRow, rowBytes, isRowOf}
 use Rattle.table.specs.Soundness.{sound}
 use Rattle.table.proofs.Bytes.{length-row}
 use Rattle.table.proofs.Rows.{length-rowAt, length-withRow, nth-row, row-same, rows-with, whole-rows}
 use Rattle.table.proofs.Sound.{row-is}
 use Rattle.changes.specs.Changes.{freed, opened, routed}
 use Rattle.changes.proofs.Rows.{row-size}
-use Rattle.changes.proofs.Steps.{row-name}
+use Rattle.changes.proofs.Steps.{row-account}
 use Rattle.rules.specs.Deciding.{Verdict, decide, type0, type1, terminate, admit, openOn, refuse, grant, heldAlready}
-use Rattle.rules.specs.Calls.{Call, Reply, Left, callNumber, silent, reply, refusal, tableAfter, settled, onRow, onReading, handle}
+use Rattle.rules.specs.Calls.{account, Call, Reply, Left, callNumber, silent, reply, refusal, tableAfter, settled, onRow, onReading, handle}
 use Rattle.order.specs.Demand3.{Subject, nobody, subscriber, subject, sentBy, ownNumber}
 use Rattle.order.proofs.Finding.{finds, finds-alike}
 use Rattle.order.proofs.Alone as A
 
--- WHAT IS DECIDED KEEPS THE NAME
+-- WHAT IS DECIDED KEEPS THE ACCOUNT
+
+abbrev pub accountOf : Subscriber → Account
+accountOf s = record { operator = s .operator; name = s .name }
 
 abbrev Named : Subscriber → Verdict → Type 0
-Named s v = v .after .name ≡ s .name
+Named s v = accountOf (v .after) ≡ accountOf s
 
 module _ (s : Subscriber) where
   named-admit : (n : ℕ) (session host : List ℕ) → Named s (admit n session host s)
@@ -52,7 +55,7 @@ module _ (s : Subscriber) where
   unfolding terminate refuse grant freed
   named-terminate session label = by-pick (Named s) _ (λ e. refl) (λ e. refl)
 
-  pub name-kept : (q : Ask) (wag : Bool) → (decide q wag s) .after .name ≡ s .name
+  pub name-kept : (q : Ask) (wag : Bool) → accountOf ((decide q wag s) .after) ≡ accountOf s
   unfolding decide
   name-kept (tunnel session host label visited) wag = named-type0 session host label visited
   name-kept (policy session route) wag = named-type1 session route wag
@@ -99,19 +102,19 @@ lost c = pick (eqb (ownNumber c) 0) (lostOn c (read (c .message))) (silence c (o
 
 -- WHAT STAYS OF A ROW: its length, and what it is found by
 
-record Kept (r q : List ℕ) : Type 0 where
-  size : length q ≡ length r
-  bearer : foundBy q ≡ foundBy r
+pub record Kept (r q : List ℕ) : Type 0 where
+  pub size : length q ≡ length r
+  pub bearer : foundBy q ≡ foundBy r
 
-self : (r : List ℕ) → Kept r r
+pub self : (r : List ℕ) → Kept r r
 self r = record { size = refl; bearer = refl }
 
-written : (r : List ℕ) (s : Subscriber) → sound r ≡ true → s .name ≡ (readRow r) .name → Kept r (rowBytes s)
+pub written : (r : List ℕ) (s : Subscriber) → sound r ≡ true → accountOf s ≡ accountOf (readRow r) → Kept r (rowBytes s)
 written r s h n =
     record {
       size = length-row s ∙ sym (row-size r h);
       bearer =
-          row-name s ∙ ap (λ (i : List ℕ). 1 ∷ length i ∷ filled i 15) n ∙ sym (row-name (readRow r)) ∙ ap foundBy (sym (row-is r h));
+          row-account s ∙ ap (λ (a : Account). a .operator ∷ 1 ∷ length (a .name) ∷ filled (a .name) 15) n ∙ sym (row-account (readRow r)) ∙ ap foundBy (sym (row-is r h));
     }
 
 kept-after : (c : Call) (q : Request) (r : List ℕ) → Kept r (rowAfter c q r)
@@ -126,7 +129,7 @@ unfolding actOn
 kept-on c (refused code) r = self r
 kept-on c (request q) r = kept-after c q r
 
-kept : (c : Call) (r : List ℕ) → Kept r (act c r)
+pub kept : (c : Call) (r : List ℕ) → Kept r (act c r)
 unfolding act
 kept c r = by-pick (Kept r) _ (λ e. kept-on c (read (c .message)) r) (λ e. self r)
 
@@ -172,11 +175,11 @@ module _ (c : Call) where
   not-answered e = rw e
 
   pub was-refused : (code : ℕ) → eqb (ownNumber c) 0 ≡ true → read (c .message) ≡ refused code → subject c ≡ nobody
-  unfolding subject sentBy pick
+  unfolding subject sentBy account pick
   was-refused code e g = rw (e, g)
 
-  pub was-read : (q : Request) → eqb (ownNumber c) 0 ≡ true → read (c .message) ≡ request q → subject c ≡ subscriber (q .user)
-  unfolding subject sentBy pick
+  pub was-read : (q : Request) → eqb (ownNumber c) 0 ≡ true → read (c .message) ≡ request q → subject c ≡ subscriber (account c q)
+  unfolding subject sentBy account pick
   was-read q e g = rw (e, g)
 
 -- THE ROW THAT IS FOUND
@@ -215,22 +218,22 @@ unfolding chosen later
 chosen-later nothing r rs d f = refl
 chosen-later (row i) r rs d f = refl
 
-module _ (c : Call) (name : List ℕ) (of : subject c ≡ subscriber name) where
-  tab-found : (rs : List (List ℕ)) → tab rs c ≡ replaced (firstRow (isRowOf name) rs) rs (act c)
+module _ (c : Call) (who : Account) (of : subject c ≡ subscriber who) where
+  tab-found : (rs : List (List ℕ)) → tab rs c ≡ replaced (firstRow (isRowOf who) rs) rs (act c)
   unfolding A.tab finds firstRow replaced pick
   tab-found [] = refl
   tab-found (r ∷ rs) =
-      by-test (isRowOf name r)
+      by-test (isRowOf who r)
       (λ e. rw (of, e))
-      (λ e. rw (of, e, replaced-later (firstRow (isRowOf name) rs) r rs (act c), tab-found rs))
+      (λ e. rw (of, e, replaced-later (firstRow (isRowOf who) rs) r rs (act c), tab-found rs))
 
-  ans-found : (rs : List (List ℕ)) → ans rs c ≡ chosen (firstRow (isRowOf name) rs) rs (lost c) (says c)
+  ans-found : (rs : List (List ℕ)) → ans rs c ≡ chosen (firstRow (isRowOf who) rs) rs (lost c) (says c)
   unfolding A.ans finds firstRow chosen pick
   ans-found [] = refl
   ans-found (r ∷ rs) =
-      by-test (isRowOf name r)
+      by-test (isRowOf who r)
       (λ e. rw (of, e))
-      (λ e. rw (of, e, chosen-later (firstRow (isRowOf name) rs) r rs (lost c) (says c)) (ans-found rs))
+      (λ e. rw (of, e, chosen-later (firstRow (isRowOf who) rs) r rs (lost c) (says c)) (ans-found rs))
 
 -- a row that is found is there
 unfoldable pub There : Found → ℕ → Type 0
@@ -299,17 +302,17 @@ module _ (n : ℕ) (t : List ℕ) (size : length t ≡ rowLength * n) (c : Call)
   unfolding onRow settled refusal replyOn pick
   row-reply i = by-test (sound (rowAt t i)) (λ h. rw h) (λ h. rw h)
 
-  on-found : (F : Found) → F ≡ firstRow (isRowOf (q .user)) (pieces rowLength n t) → There F n → Agrees n t c (onRow t c q F)
+  on-found : (F : Found) → F ≡ firstRow (isRowOf (account c q)) (pieces rowLength n t) → There F n → Agrees n t c (onRow t c q F)
   unfolding There onRow refusal replaced chosen
   on-found nothing e l =
-      let of : subject c ≡ subscriber (q .user) = was-read c q own g in
+      let of : subject c ≡ subscriber (account c q) = was-read c q own g in
       record {
         size = refl;
-        rows-are = sym (tab-found c (q .user) of (pieces rowLength n t) ∙ ap (λ (G : Found). replaced G (pieces rowLength n t) (act c)) (sym e));
-        reply-is = sym (ans-found c (q .user) of (pieces rowLength n t) ∙ ap (λ (G : Found). chosen G (pieces rowLength n t) (lost c) (says c)) (sym e) ∙ lost-is);
+        rows-are = sym (tab-found c (account c q) of (pieces rowLength n t) ∙ ap (λ (G : Found). replaced G (pieces rowLength n t) (act c)) (sym e));
+        reply-is = sym (ans-found c (account c q) of (pieces rowLength n t) ∙ ap (λ (G : Found). chosen G (pieces rowLength n t) (lost c) (says c)) (sym e) ∙ lost-is);
       }
   on-found (row i) e l =
-      let of : subject c ≡ subscriber (q .user) = was-read c q own g in
+      let of : subject c ≡ subscriber (account c q) = was-read c q own g in
       let k : length (rowAfter c q (rowAt t i)) ≡ rowLength = length-after c q (rowAt t i) ∙ length-rowAt n t size i l in
       let d : getD (pieces rowLength n t) i [] ≡ rowAt t i = nth-row n t size i l in
       record {
@@ -318,10 +321,10 @@ module _ (n : ℕ) (t : List ℕ) (size : length t ≡ rowLength * n) (c : Call)
             ap (pieces rowLength n) (table-is i l)
             ∙ rows-with n t size i l (rowAfter c q (rowAt t i)) k
             ∙ ap (λ (r : List ℕ). set (pieces rowLength n t) i r) (sym (act-is (rowAt t i)) ∙ ap (act c) (sym d))
-            ∙ sym (tab-found c (q .user) of (pieces rowLength n t) ∙ ap (λ (G : Found). replaced G (pieces rowLength n t) (act c)) (sym e));
+            ∙ sym (tab-found c (account c q) of (pieces rowLength n t) ∙ ap (λ (G : Found). replaced G (pieces rowLength n t) (act c)) (sym e));
         reply-is =
             row-reply i ∙ sym (says-is (rowAt t i)) ∙ ap (says c) (sym d)
-            ∙ sym (ans-found c (q .user) of (pieces rowLength n t) ∙ ap (λ (G : Found). chosen G (pieces rowLength n t) (lost c) (says c)) (sym e));
+            ∙ sym (ans-found c (account c q) of (pieces rowLength n t) ∙ ap (λ (G : Found). chosen G (pieces rowLength n t) (lost c) (says c)) (sym e));
       }
 
 module _ (t : List ℕ) (good : tableNumber t ≡ 0) where
@@ -331,7 +334,7 @@ module _ (t : List ℕ) (good : tableNumber t ≡ 0) where
   by-reading : (c : Call) (g : Reading) → eqb (ownNumber c) 0 ≡ true → read (c .message) ≡ g → Agrees count t c (onReading t c g)
   unfolding onReading refusal lookup rows
   by-reading c (refused code) own e = unmoved count t c (was-refused c code own e) (refusal t c (plain code)) refl (sym (lost-refused c code own e))
-  by-reading c (request q) own e = on-found count t (whole-rows t good) c q own e (lookup t (q .user)) refl (subst (There (lookup t (q .user))) (length-pieces rowLength count t) (there (isRowOf (q .user)) (rows t)))
+  by-reading c (request q) own e = on-found count t (whole-rows t good) c q own e (lookup t (account c q)) refl (subst (There (lookup t (account c q))) (length-pieces rowLength count t) (there (isRowOf (account c q)) (rows t)))
 
   pub one-call : (c : Call) → Agrees count t c (handle t c)
   unfolding silent silence

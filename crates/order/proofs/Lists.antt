@@ -12,7 +12,7 @@ use Rattle.octets.proofs.Lists.{by-test}
 use Rattle.octets.proofs.Pieces.{joined, length-pieces}
 use Rattle.octets.specs.Texts.{pieces}
 use Rattle.message.specs.ReadingAMessage.{Reading, refused, request, read}
-use Rattle.table.specs.TheTable.{Found, row, nothing, later, firstRow, lookup, rows, rowLength, tableNumber, isRowOf}
+use Rattle.table.specs.TheTable.{Account, Found, row, nothing, later, firstRow, lookup, rows, rowLength, tableNumber, isRowOf}
 use Rattle.table.proofs.Rows.{joined-rows, nth-row, whole-rows}
 use Rattle.rules.specs.Calls.{Call, Reply, Left, silent, refusal, onReading, handle, ranFirst, run}
 use Rattle.order.specs.Demand3.{Subject, nobody, subscriber, sameSubject, subject, sentBy, isOf, callsOf, repliesOf, Record, absent, bytes, recordAt, recordOf, ownNumber}
@@ -100,38 +100,38 @@ unfolding heldAt later
 held-later nothing r rs = refl
 held-later (row i) r rs = refl
 
-record-found : (name : List ℕ) (rs : List (List ℕ)) → recordIn (subscriber name) rs ≡ heldAt (firstRow (isRowOf name) rs) rs
+record-found : (who : Account) (rs : List (List ℕ)) → recordIn (subscriber who) rs ≡ heldAt (firstRow (isRowOf who) rs) rs
 unfolding A.recordIn finds firstRow heldAt pick
-record-found name [] = refl
-record-found name (r ∷ rs) =
-    by-test (isRowOf name r)
+record-found who [] = refl
+record-found who (r ∷ rs) =
+    by-test (isRowOf who r)
     (λ e. rw e)
-    (λ e. rw (e, held-later (firstRow (isRowOf name) rs) r rs) (record-found name rs))
+    (λ e. rw (e, held-later (firstRow (isRowOf who) rs) r rs) (record-found who rs))
 
 record-cut : (n : ℕ) (t : List ℕ) → length t ≡ rowLength * n → (F : Found) → There F n → recordAt t F ≡ heldAt F (pieces rowLength n t)
 unfolding recordAt heldAt There
 record-cut n t size nothing l = refl
 record-cut n t size (row i) l = ap bytes (sym (nth-row n t size i l))
 
-record-is : (n : ℕ) (t name : List ℕ) → length t ≡ rowLength * n → length t / rowLength ≡ n → recordOf name t ≡ recordIn (subscriber name) (pieces rowLength n t)
+record-is : (n : ℕ) (t : List ℕ) (who : Account) → length t ≡ rowLength * n → length t / rowLength ≡ n → recordOf who t ≡ recordIn (subscriber who) (pieces rowLength n t)
 unfolding recordOf lookup rows
-record-is n t name size e =
-    let l : There (firstRow (isRowOf name) (pieces rowLength n t)) n = rw (length-pieces rowLength n t) at (there (isRowOf name) (pieces rowLength n t)) in
-    rw e (record-cut n t size (firstRow (isRowOf name) (pieces rowLength n t)) l ∙ sym (record-found name (pieces rowLength n t)))
+record-is n t who size e =
+    let l : There (firstRow (isRowOf who) (pieces rowLength n t)) n = rw (length-pieces rowLength n t) at (there (isRowOf who) (pieces rowLength n t)) in
+    rw e (record-cut n t size (firstRow (isRowOf who) (pieces rowLength n t)) l ∙ sym (record-found who (pieces rowLength n t)))
 
 -- no call changes where a row is found
-find-tab : (name : List ℕ) (c : Call) (rs : List (List ℕ)) → firstRow (isRowOf name) (A.tab act says lost rs c) ≡ firstRow (isRowOf name) rs
+find-tab : (who : Account) (c : Call) (rs : List (List ℕ)) → firstRow (isRowOf who) (A.tab act says lost rs c) ≡ firstRow (isRowOf who) rs
 unfolding A.tab firstRow finds pick
-find-tab name c [] = refl
-find-tab name c (r ∷ rs) =
+find-tab who c [] = refl
+find-tab who c (r ∷ rs) =
     by-test (finds (subject c) r)
-    (λ e. rw e (rw (stable (subscriber name) c r)))
-    (λ e. rw (e, find-tab name c rs))
+    (λ e. rw e (rw (stable (subscriber who) c r)))
+    (λ e. rw (e, find-tab who c rs))
 
-find-runs : (name : List ℕ) (cs : List Call) (rs : List (List ℕ)) → firstRow (isRowOf name) (runs rs cs) ≡ firstRow (isRowOf name) rs
+find-runs : (who : Account) (cs : List Call) (rs : List (List ℕ)) → firstRow (isRowOf who) (runs rs cs) ≡ firstRow (isRowOf who) rs
 unfolding A.runs
-find-runs name [] rs = refl
-find-runs name (c ∷ cs) rs = find-runs name cs (A.tab act says lost rs c) ∙ find-tab name c rs
+find-runs who [] rs = refl
+find-runs who (c ∷ cs) rs = find-runs who cs (A.tab act says lost rs c) ∙ find-tab who c rs
 
 -- ANY TABLE
 
@@ -150,25 +150,25 @@ module _ (t : List ℕ) (good : tableNumber t ≡ 0) where
       rw ((ran cs) .replies-are, (ran (callsOf who cs)) .replies-are)
       (A.same-answers act says lost stable who cs (pieces rowLength count t) (pieces rowLength count t) refl)
 
-  record-after : (name : List ℕ) (cs : List Call) → recordOf name ((run t cs) .table) ≡ recordIn (subscriber name) (runs (pieces rowLength count t) cs)
-  record-after name cs =
-      record-is count ((run t cs) .table) name (size-after cs) (ap (λ (l : ℕ). l / rowLength) ((ran cs) .size))
-      ∙ ap (recordIn (subscriber name)) ((ran cs) .rows-are)
+  record-after : (who : Account) (cs : List Call) → recordOf who ((run t cs) .table) ≡ recordIn (subscriber who) (runs (pieces rowLength count t) cs)
+  record-after who cs =
+      record-is count ((run t cs) .table) who (size-after cs) (ap (λ (l : ℕ). l / rowLength) ((ran cs) .size))
+      ∙ ap (recordIn (subscriber who)) ((ran cs) .rows-are)
 
-  good-record : (cs : List Call) (name : List ℕ) → recordOf name ((run t cs) .table) ≡ recordOf name ((run t (callsOf (subscriber name) cs)) .table)
-  good-record cs name =
-      record-after name cs
-      ∙ A.same-record act says lost stable (subscriber name) cs (pieces rowLength count t) (pieces rowLength count t) refl
-      ∙ sym (record-after name (callsOf (subscriber name) cs))
+  good-record : (cs : List Call) (who : Account) → recordOf who ((run t cs) .table) ≡ recordOf who ((run t (callsOf (subscriber who) cs)) .table)
+  good-record cs who =
+      record-after who cs
+      ∙ A.same-record act says lost stable (subscriber who) cs (pieces rowLength count t) (pieces rowLength count t) refl
+      ∙ sym (record-after who (callsOf (subscriber who) cs))
 
-  good-lookup : (cs : List Call) (name : List ℕ) → lookup ((run t cs) .table) name ≡ lookup t name
+  good-lookup : (cs : List Call) (who : Account) → lookup ((run t cs) .table) who ≡ lookup t who
   unfolding lookup rows
-  good-lookup cs name =
-      ap (λ (l : ℕ). firstRow (isRowOf name) (pieces rowLength (l / rowLength) ((run t cs) .table))) ((ran cs) .size)
-      ∙ ap (firstRow (isRowOf name)) ((ran cs) .rows-are)
-      ∙ find-runs name cs (pieces rowLength count t)
+  good-lookup cs who =
+      ap (λ (l : ℕ). firstRow (isRowOf who) (pieces rowLength (l / rowLength) ((run t cs) .table))) ((ran cs) .size)
+      ∙ ap (firstRow (isRowOf who)) ((ran cs) .rows-are)
+      ∙ find-runs who cs (pieces rowLength count t)
 
-  good-table : (cs ds : List Call) → ((name : List ℕ) → callsOf (subscriber name) cs ≡ callsOf (subscriber name) ds) → (run t cs) .table ≡ (run t ds) .table
+  good-table : (cs ds : List Call) → ((who : Account) → callsOf (subscriber who) cs ≡ callsOf (subscriber who) ds) → (run t cs) .table ≡ (run t ds) .table
   good-table cs ds h =
       sym (joined-rows count ((run t cs) .table) (size-after cs))
       ∙ ap (joined) ((ran cs) .rows-are ∙ A.same-rows act says lost stable (pieces rowLength count t) cs ds h ∙ sym ((ran ds) .rows-are))
@@ -181,19 +181,19 @@ replies-alone t cs who =
     (λ e. rw (bad-replies t e cs, bad-replies t e (callsOf who cs)) (replies-map (λ (c : Call). silence c (tableNumber t)) who cs))
 
 pub record-alone : RecordAlone
-record-alone t cs name =
+record-alone t cs who =
     by-test (eqb (tableNumber t) 0)
-    (λ e. good-record t (eqb-true (tableNumber t) 0 e) cs name)
-    (λ e. ap (recordOf name) (bad-table t e cs ∙ sym (bad-table t e (callsOf (subscriber name) cs))))
+    (λ e. good-record t (eqb-true (tableNumber t) 0 e) cs who)
+    (λ e. ap (recordOf who) (bad-table t e cs ∙ sym (bad-table t e (callsOf (subscriber who) cs))))
 
 pub lookup-stays : LookupStays
-lookup-stays t cs name =
+lookup-stays t cs who =
     by-test (eqb (tableNumber t) 0)
-    (λ e. good-lookup t (eqb-true (tableNumber t) 0 e) cs name)
-    (λ e. ap (λ (u : List ℕ). lookup u name) (bad-table t e cs))
+    (λ e. good-lookup t (eqb-true (tableNumber t) 0 e) cs who)
+    (λ e. ap (λ (u : List ℕ). lookup u who) (bad-table t e cs))
 
 -- two lists in which each subscriber's calls are equal
-pub equal-calls : (t : List ℕ) (cs ds : List Call) → ((name : List ℕ) → callsOf (subscriber name) cs ≡ callsOf (subscriber name) ds) → (run t cs) .table ≡ (run t ds) .table
+pub equal-calls : (t : List ℕ) (cs ds : List Call) → ((who : Account) → callsOf (subscriber who) cs ≡ callsOf (subscriber who) ds) → (run t cs) .table ≡ (run t ds) .table
 equal-calls t cs ds h =
     by-test (eqb (tableNumber t) 0)
     (λ e. good-table t (eqb-true (tableNumber t) 0 e) cs ds h)
@@ -202,7 +202,7 @@ equal-calls t cs ds h =
 -- NOBODY
 
 -- what a call of nobody gets, by its own number and what was read
-nobody-reading : (t : List ℕ) (c : Call) (g : Reading) → sentBy g ≡ nobody → (onReading t c g) ≡ record { reply = lostOn c g; table = t }
+nobody-reading : (t : List ℕ) (c : Call) (g : Reading) → sentBy (c .operator) g ≡ nobody → (onReading t c g) ≡ record { reply = lostOn c g; table = t }
 unfolding onReading sentBy lostOn refusal
 nobody-reading t c (refused code) h = refl
 nobody-reading t c (request q) h = cc

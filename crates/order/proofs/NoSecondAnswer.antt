@@ -22,7 +22,7 @@ one-given : (g h : Given) → leaves (g .outcome) (g .table) (g .answer) (g .not
 one-given g h e = sym (given-back g) ∙ ap givenBack e ∙ given-back h
 
 pub one-answer : OneAnswer
-one-answer table host realm message wag answer notice g h p q = one-given g h (p ∙ sym q)
+one-answer table operator host realm message wag answer notice g h p q = one-given g h (p ∙ sym q)
 
 -- SET-UP
 
@@ -33,7 +33,7 @@ pub one-clearing : OneClearing
 one-clearing table n m t u p q = one-left n m t u (p ∙ sym q)
 
 pub one-entering : OneEntering
-one-entering table name n m t u p q = one-left n m t u (p ∙ sym q)
+one-entering table shares a n m t u p q = one-left n m t u (p ∙ sym q)
 
 pub one-adding : OneAdding
-one-adding table name label limit flags n m t u p q = one-left n m t u (p ∙ sym q)
+one-adding table a label limit flags n m t u p q = one-left n m t u (p ∙ sym q)

@@ -11,11 +11,11 @@ use lib.ListN.{getD, length, take}
 use Rattle.octets.specs.Choice.{pick}
 use Rattle.octets.proofs.Lists.{and-left, and-right, by-test}
 use Rattle.message.specs.ReadingAMessage.{Ask, readingCode, command, avps, requestOf, request, read}
-use Rattle.table.specs.TheTable.{Entry, Subscriber, Found, row, nothing, later, firstRow, lookup, rows, isRowOf, rowAt, rowLength, tableNumber, readRow}
+use Rattle.table.specs.TheTable.{Account, Entry, Subscriber, Found, row, nothing, later, firstRow, lookup, rows, isRowOf, rowAt, rowLength, tableNumber, readRow}
 use Rattle.table.specs.Soundness.{sound}
 use Rattle.table.proofs.Sound.{says-good}
 use Rattle.table.proofs.Rows.{nth-row, whole-rows}
-use Rattle.rules.specs.Calls.{Call, handle, run, ranFirst, callNumber}
+use Rattle.rules.specs.Calls.{account, Call, handle, run, ranFirst, callNumber}
 use Rattle.order.specs.Demand2.{requestIn, found, said, succeeds, exceeds, placeTaken}
 use Rattle.order.specs.Demand3.{subscriber, isOf, subject, ownNumber}
 use Rattle.order.specs.OpenedFirst.{lineAfter, history, lineOf, entriesOf, labelIn, labelAsked, onLabel, tunnelCut}
@@ -44,17 +44,17 @@ unfolding Passes firstRow pick
 passes f [] = tt
 passes f (r ∷ rs) = by-test (f r) (λ e. rw e e) (λ e. rw e (passes-later f r rs (firstRow f rs) (passes f rs)))
 
-found-row : (t name : List ℕ) (i : ℕ) → lookup t name ≡ row i → isRowOf name (getD (rows t) i []) ≡ true
+found-row : (t : List ℕ) (who : Account) (i : ℕ) → lookup t who ≡ row i → isRowOf who (getD (rows t) i []) ≡ true
 unfolding lookup Passes
-found-row t name i e = rw e at (passes (isRowOf name) (rows t))
+found-row t who i e = rw e at (passes (isRowOf who) (rows t))
 
-found-at : (t name : List ℕ) (i : ℕ) → tableNumber t ≡ 0 → lookup t name ≡ row i → isRowOf name (rowAt t i) ≡ true
+found-at : (t : List ℕ) (who : Account) (i : ℕ) → tableNumber t ≡ 0 → lookup t who ≡ row i → isRowOf who (rowAt t i) ≡ true
 unfolding lookup rows
-found-at t name i good e =
-    let r : getD (rows t) i [] ≡ rowAt t i = nth-row (length t / rowLength) t (whole-rows t good) i (in-table (isRowOf name) t i e) in
-    rw r at (found-row t name i e)
+found-at t who i good e =
+    let r : getD (rows t) i [] ≡ rowAt t i = nth-row (length t / rowLength) t (whole-rows t good) i (in-table (isRowOf who) t i e) in
+    rw r at (found-row t who i e)
 
-one-owner : (a b r : List ℕ) → isRowOf a r ≡ true → isRowOf b r ≡ true → subscriber a ≡ subscriber b
+one-owner : (a b : Account) (r : List ℕ) → isRowOf a r ≡ true → isRowOf b r ≡ true → subscriber a ≡ subscriber b
 unfolding finds
 one-owner a b r p q = finds-owner (subscriber a) r p ∙ sym (finds-owner (subscriber b) r q)
 
@@ -67,26 +67,26 @@ read-is : (m : List ℕ) → readingCode m ≡ 0 → read m ≡ request (request
 unfolding read pick
 read-is m h = rw h
 
-subject-won : (t : List ℕ) (c : Call) (j : ℕ) → OnRow t c j → callNumber t c ≡ 0 → subject c ≡ subscriber ((requestIn c) .user)
+subject-won : (t : List ℕ) (c : Call) (j : ℕ) → OnRow t c j → callNumber t c ≡ 0 → subject c ≡ subscriber (account c (requestIn c))
 unfolding requestIn
 subject-won t c j o a =
     let own : eqb (ownNumber c) 0 ≡ true = eq-eqb (ownNumber c) 0 (sym (number-good t c (rows-there t c a)) ∙ a) in
     was-read c (requestOf (command (c .message)) (avps (c .message))) own (read-is (c .message) (o .was-read))
 
-same-name : (a b : List ℕ) → subscriber a ≡ subscriber b → a ≡ b
-same-name a b e = cc
+same-account : (a b : Account) → subscriber a ≡ subscriber b → a ≡ b
+same-account a b e = cc
 
-module _ (t name : List ℕ) (i : ℕ) (here : lookup t name ≡ row i) (c : Call) where
+module _ (t : List ℕ) (who : Account) (i : ℕ) (here : lookup t who ≡ row i) (c : Call) where
   -- one on this row is its subscriber's, and one of its subscriber is on this row
-  own-call : found t c ≡ row i → Won t c → isOf (subscriber name) c ≡ true
+  own-call : found t c ≡ row i → Won t c → isOf (subscriber who) c ≡ true
   unfolding isOf found
   own-call e (won j o a h) =
-      let s : subject c ≡ subscriber name = subject-won t c j o a ∙ one-owner _ _ _ (found-row t _ i e) (found-row t name i here) in
-      rw s (subject-refl (subscriber name))
+      let s : subject c ≡ subscriber who = subject-won t c j o a ∙ one-owner _ _ _ (found-row t _ i e) (found-row t who i here) in
+      rw s (subject-refl (subscriber who))
 
-  own-row : subject c ≡ subscriber name → Won t c → found t c ≡ row i
+  own-row : subject c ≡ subscriber who → Won t c → found t c ≡ row i
   unfolding found
-  own-row of (won j o n h) = ap (lookup t) (same-name _ _ (sym (subject-won t c j o n) ∙ of)) ∙ here
+  own-row of (won j o n h) = ap (lookup t) (same-account _ _ (sym (subject-won t c j o n) ∙ of)) ∙ here
 
 -- what its reply shows of the row that it is on
 module _ (t : List ℕ) (c : Call) (i : ℕ) (e : found t c ≡ row i) where
@@ -134,30 +134,30 @@ module _ (t : List ℕ) (c : Call) (i : ℕ) where
   unsound-one u (on h e) = not-both _ ((success-replaces-row t c i h e) .was-sound) u
   unsound-one u (stays e) = e
 
-module _ (t name : List ℕ) (i : ℕ) (here : lookup t name ≡ row i) (c : Call) where
+module _ (t : List ℕ) (who : Account) (i : ℕ) (here : lookup t who ≡ row i) (c : Call) where
   abbrev granted : Bool
-  granted = isOf (subscriber name) c && eqb ((handle t c) .reply .result .code) 2001
+  granted = isOf (subscriber who) c && eqb ((handle t c) .reply .result .code) 2001
 
   line-stays : granted ≡ false → Touched t c i → lineOf ((handle t c) .table) i ≡ lineOf t i
-  line-stays b (on h e) = not-both granted (rw (own-call t name i here c e (won-success t c h), success-exactly t c ∙ h)) b
+  line-stays b (on h e) = not-both granted (rw (own-call t who i here c e (won-success t c h), success-exactly t c ∙ h)) b
   line-stays b (stays e) = rw e
 
   one-call : lineOf ((handle t c) .table) i ≡ pick granted (lineAfter (entriesOf t i) ((requestIn c) .ask) ((handle t c) .reply) (lineOf t i)) (lineOf t i)
   unfolding isOf pick
   one-call =
       by-test granted
-      (λ b. let h : succeeds t c ≡ true = sym (success-exactly t c) ∙ and-right (isOf (subscriber name) c) _ b in
-      let of : subject c ≡ subscriber name = subject-eq (subject c) (subscriber name) (and-left (isOf (subscriber name) c) _ b) in
-      rw b (shows t c i (own-row t name i here c of (won-success t c h)) h (won-success t c h)))
+      (λ b. let h : succeeds t c ≡ true = sym (success-exactly t c) ∙ and-right (isOf (subscriber who) c) _ b in
+      let of : subject c ≡ subscriber who = subject-eq (subject c) (subscriber who) (and-left (isOf (subscriber who) c) _ b) in
+      rw b (shows t c i (own-row t who i here c of (won-success t c h)) h (won-success t c h)))
       (λ b. rw b (line-stays b (touched t c i)))
 
   -- a second row of the name is on no call's way
-  second-found : (j : ℕ) → isRowOf name (rowAt t j) ≡ true → found t c ≡ row j → Won t c → row j ≡ row i
+  second-found : (j : ℕ) → isRowOf who (rowAt t j) ≡ true → found t c ≡ row j → Won t c → row j ≡ row i
   unfolding found
   second-found j of e (won k o a h) =
-      sym e ∙ ap (lookup t) (same-name _ _ (one-owner _ _ _ (found-at t _ j (rows-there t c a) e) of)) ∙ here
+      sym e ∙ ap (lookup t) (same-account _ _ (one-owner _ _ _ (found-at t _ j (rows-there t c a) e) of)) ∙ here
 
-  second-one : (j : ℕ) → (j ≡ i → ⊥) → isRowOf name (rowAt t j) ≡ true → Touched t c j → rowAt ((handle t c) .table) j ≡ rowAt t j
+  second-one : (j : ℕ) → (j ≡ i → ⊥) → isRowOf who (rowAt t j) ≡ true → Touched t c j → rowAt ((handle t c) .table) j ≡ rowAt t j
   second-one j ne of (on h e) = absurd (ne (same-row j i (second-found j of e (won-success t c h))))
   second-one j ne of (stays e) = e
 
@@ -177,19 +177,19 @@ unsound-row-stays t (c ∷ cs) j u =
 
 pub second-row-stays : SecondRowStays
 unfolding run ranFirst
-second-row-stays t [] name i j here ne of = refl
-second-row-stays t (c ∷ cs) name i j here ne of =
-    let e : rowAt ((handle t c) .table) j ≡ rowAt t j = second-one t name i here c j ne of (touched t c j) in
-    second-row-stays ((handle t c) .table) cs name i j (lookup-stays t (c ∷ []) name ∙ here) ne (ap (isRowOf name) e ∙ of) ∙ e
+second-row-stays t [] who i j here ne of = refl
+second-row-stays t (c ∷ cs) who i j here ne of =
+    let e : rowAt ((handle t c) .table) j ≡ rowAt t j = second-one t who i here c j ne of (touched t c j) in
+    second-row-stays ((handle t c) .table) cs who i j (lookup-stays t (c ∷ []) who ∙ here) ne (ap (isRowOf who) e ∙ of) ∙ e
 
 pub line-is-history : LineIsHistory
 unfolding run ranFirst history
-line-is-history t [] name i here = refl
-line-is-history t (c ∷ cs) name i here =
+line-is-history t [] who i here = refl
+line-is-history t (c ∷ cs) who i here =
     let u : List ℕ = (handle t c) .table in
-    line-is-history u cs name i (lookup-stays t (c ∷ []) name ∙ here)
-    ∙ ap (λ (es : List Entry). history name es cs ((run u cs) .replies) (lineOf u i)) (entries-one t c i (touched t c i))
-    ∙ ap (history name (entriesOf t i) cs ((run u cs) .replies)) (one-call t name i here c)
+    line-is-history u cs who i (lookup-stays t (c ∷ []) who ∙ here)
+    ∙ ap (λ (es : List Entry). history who es cs ((run u cs) .replies) (lineOf u i)) (entries-one t c i (touched t c i))
+    ∙ ap (history who (entriesOf t i) cs ((run u cs) .replies)) (one-call t who i here c)
 
 -- THE CUT
 
@@ -211,11 +211,11 @@ module _ (t : List ℕ) (c : Call) (i : ℕ) (e : found t c ≡ row i) where
       (cut-named c (placeTaken ((requestIn c) .ask) (readRow (rowAt t i))) ((requestIn c) .ask) (c .wag) (readRow (rowAt t i)) (says-good (rowAt t i) (rw q at (o .was-sound))) (rw q at (sym (o .none) ∙ h)) full)
 
 pub cut-opened-first : CutOpenedFirst
-cut-opened-first t before c name i here of cut =
+cut-opened-first t before c who i here of cut =
     let u : List ℕ = (run t before) .table in
     let both : succeeds u c && exceeds ((requestIn c) .ask) (said u c) ≡ true = cuts _ (sym (cut-exactly u c) ∙ cut) in
     let h : succeeds u c ≡ true = and-left (succeeds u c) _ both in
-    let e : found u c ≡ row i = own-row u name i (lookup-stays t before name ∙ here) c of (won-success u c h) in
-    let line : lineOf u i ≡ history name (entriesOf t i) before ((run t before) .replies) (lineOf t i) = line-is-history t before name i here in
+    let e : found u c ≡ row i = own-row u who i (lookup-stays t before who ∙ here) c of (won-success u c h) in
+    let line : lineOf u i ≡ history who (entriesOf t i) before ((run t before) .replies) (lineOf t i) = line-is-history t before who i here in
     let entries : entriesOf u i ≡ entriesOf t i = entries-stay t before i in
     rw (← line, ← entries) (names-first u c i e h (and-right (succeeds u c) _ both) (won-success u c h))

@@ -202,7 +202,7 @@ message-other m =
 pub call-other : (t : List ℕ) (c : Call) → other (callNumber t c) ≡ true
 unfolding callNumber tableNumber every other
 call-other t c =
-    first-other _ (both (require-other _ 1 refl) (both (require-other _ 2 refl) (both (require-other _ 3 refl) (both (require-other _ 4 refl) (both (message-other (c .message)) refl)))))
+    first-other _ (both (require-other _ 1 refl) (both (require-other _ 33 refl) (both (require-other _ 2 refl) (both (require-other _ 3 refl) (both (require-other _ 4 refl) (both (message-other (c .message)) refl))))))
 
 -- THE TEXTS OF A REQUEST FIT A ROW
 

@@ -19,7 +19,7 @@ use Rattle.table.proofs.Good.{Good}
 use Rattle.table.proofs.Rows.{row-other, row-with, whole-rows}
 use Rattle.table.proofs.Sound.{says-good, sound-row}
 use Rattle.rules.specs.Deciding.{Verdict}
-use Rattle.rules.specs.Calls.{Call, Left, callNumber, silent, refusal, tableAfter, settled, handle, ranFirst, run}
+use Rattle.rules.specs.Calls.{account, Call, Left, callNumber, silent, refusal, tableAfter, settled, handle, ranFirst, run}
 use Rattle.plans.proofs.Stay.{stays}
 use Rattle.order.specs.ChecksInOrder.{noneFails}
 use Rattle.order.specs.Demand2.{requestIn, found, checks, afterwards, Replaced, SuccessReplacesRow, OtherRowsStay, SoundStaysSound, SoundStaysInList}
@@ -45,7 +45,7 @@ in-table f t i e =
 module _ (t : List ℕ) (c : Call) where
   row-in : (i : ℕ) → found t c ≡ row i → i < length t / rowLength
   unfolding found lookup
-  row-in i e = in-table (isRowOf ((requestIn c) .user)) t i e
+  row-in i e = in-table (isRowOf (account c (requestIn c))) t i e
 
   -- the table that a call leaves: as it was, or with one row of what was decided
   settled-table : (P : List ℕ → Type 0) (i : ℕ) (v : Verdict) → P t → P (withRow t i (rowBytes (v .after))) → P ((settled t c i v) .table)

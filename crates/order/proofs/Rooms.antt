@@ -24,7 +24,7 @@ use Rattle.table.specs.TheTable.{Access, Found, row, nothing, lookup, rowAt, re
 use Rattle.table.specs.Soundness.{sound}
 use Rattle.changes.proofs.Steps.{keep-map}
 use Rattle.rules.specs.Deciding.{Verdict, decide}
-use Rattle.rules.specs.Calls.{Call, Left, answerLeast, noticeLength, callNumber, silent, noticeRoom, resultOf, reply, refusal, settled, onRow, onReading, handle, Ran, ranFirst, run}
+use Rattle.rules.specs.Calls.{account, Call, Left, answerLeast, noticeLength, callNumber, silent, noticeRoom, resultOf, reply, refusal, settled, onRow, onReading, handle, Ran, ranFirst, run}
 use Rattle.order.specs.Demand3.{Subject, subscriber, sameSubject, ownNumber, sentBy, nobody, subject, isOf, callsOf, recordOf, Brought, brought, Told, told, SameLeft, RoomsOf}
 use Rattle.order.specs.Demand3.{SameBrought, SameTable, SameReplies, SameRecord}
 use Rattle.order.proofs.Lists.{equal-calls, replies-alone, record-alone}
@@ -108,7 +108,7 @@ module _ (t : List ℕ) (c : Call) where
   rooms-reading : (g : Reading) → Roomed (onReading t c g)
   unfolding onReading refusal
   rooms-reading (refused code) = rooms-reply c (plain code) 0 []
-  rooms-reading (request q) = rooms-row q (lookup t (q .user))
+  rooms-reading (request q) = rooms-row q (lookup t (account c q))
 
   pub rooms-after : RoomsOf c ((handle t c) .reply)
   unfolding handle
@@ -116,10 +116,11 @@ module _ (t : List ℕ) (c : Call) where
 
 -- A CALL: what else it leaves depends on what it brings
 
--- the tests 2 to 8
+-- the tests 33 and 2 to 8
 tests : Brought → List ℕ
 tests b =
-    require (within 1 128 (length (b .host)) && within 1 128 (length (b .realm))) 2
+    require (leb (b .operator) 15) 33
+    ∷ require (within 1 128 (length (b .host)) && within 1 128 (length (b .realm))) 2
     ∷ require (b .answerFits) 3
     ∷ require (b .noticeFits) 4
     ∷ messageNumber (b .message)
@@ -133,6 +134,10 @@ module _ (t : List ℕ) (c d : Call) (e : brought c ≡ brought d) where
   same-message : c .message ≡ d .message
   unfolding brought
   same-message = ap (λ (b : Brought). b .message) e
+
+  same-operator : c .operator ≡ d .operator
+  unfolding brought
+  same-operator = ap (λ (b : Brought). b .operator) e
 
   same-word : c .wag ≡ d .wag
   unfolding brought
@@ -162,9 +167,10 @@ module _ (t : List ℕ) (c d : Call) (e : brought c ≡ brought d) where
       (λ h. rw h (same-refusal (plain 5012)))
 
   same-reading : (g : Reading) → SameLeft (onReading t c g) (onReading t d g)
-  unfolding onReading
+  unfolding onReading account
   same-reading (refused code) = same-refusal (plain code)
-  same-reading (request q) = same-row q (lookup t (q .user))
+  same-reading (request q) =
+      subst (λ (o : ℕ). SameLeft (onRow t c q (lookup t (account c q))) (onRow t d q (lookup t (record { operator = o; name = q .user })))) same-operator (same-row q (lookup t (account c q)))
 
   pub brought-decides : SameLeft (handle t c) (handle t d)
   unfolding handle pick
@@ -194,7 +200,7 @@ same-run t (c ∷ cs) (d ∷ ds) h =
 -- THE CALLS OF ONE SUBJECT, by what they bring
 
 ofBrought : Subject → Brought → Bool
-ofBrought who b = sameSubject (pick (eqb (firstOf (tests b)) 0) (sentBy (read (b .message))) nobody) who
+ofBrought who b = sameSubject (pick (eqb (firstOf (tests b)) 0) (sentBy (b .operator) (read (b .message))) nobody) who
 
 brought-of : (who : Subject) (cs : List Call) → map brought (callsOf who cs) ≡ keep (ofBrought who) (map brought cs)
 unfolding callsOf isOf subject ownNumber tests ofBrought brought
@@ -216,6 +222,7 @@ room-fits false n h = lt-leb n 0 (omega arith)
 roomed : Brought → Call
 roomed b =
     record {
+      operator = b .operator;
       message = b .message;
       host = b .host;
       realm = b .realm;

@@ -1,6 +1,6 @@
 -- Set-up: what is written is sound, since the numbers test what a sound row needs.
 use mathlib.Core.Path.{_≡_, refl, sym, ap, _∙_}
-use mathlib.Core.Bool.{Bool, true, false}
+use mathlib.Core.Bool.{Bool, true, false, _&&_}
 use mathlib.Core.List.{List, [], _∷_, _++_}
 use Prim.Native.Nat.{ℕ, zero, suc, _+_, _*_, _/_, _≤_, _<_}
 use native.Mathlib.Omega.{arith}
@@ -14,16 +14,16 @@ use Rattle.octets.specs.Texts.{allZero, filled, pieces, zeros}
 use Rattle.octets.proofs.Choice.{first-passes, others-pass, passed}
 use Rattle.octets.proofs.Lists.{and-left, both, by-test, same-refl, within-high}
 use Rattle.octets.proofs.Pieces.{length-pieces}
-use Rattle.table.specs.TheTable.{Entry, Subscriber, Found, row, nothing, later, isFound, firstRow, rows, lookup, isRowOf, rowAt, withRow, rowLength, tableNumber, readRow, rowBytes}
+use Rattle.table.specs.TheTable.{Account, Entry, Subscriber, firstNumber, hasName, Found, row, nothing, later, isFound, firstRow, rows, lookup, isRowOf, rowAt, withRow, rowLength, tableNumber, readRow, rowBytes}
 use Rattle.table.specs.Soundness.{isName, limits, sound}
 use Rattle.table.proofs.Bytes.{length-row, read-row}
 use Rattle.table.proofs.Good.{Good, goodEntry}
-use Rattle.table.proofs.Rows.{found-by, length-withRow, row-other, row-with, rows-with, whole-rows}
+use Rattle.table.proofs.Rows.{first-operator, first-table, found-by, length-withRow, row-other, row-with, rows-with, whole-rows}
 use Rattle.table.proofs.Sound.{says-good, sound-row}
 use Rattle.setup.specs.SetUp.{SetUp, leaving, clear, enter, enterNumber, add, addAt, entryNumber, withRowAt}
 use Rattle.changes.specs.Changes.{named, withEntry}
 use Rattle.changes.proofs.Stays.{MayEnter}
-use Rattle.changes.proofs.Steps.{row-name}
+use Rattle.changes.proofs.Steps.{row-account}
 use Rattle.changes.proofs.Keep.{good-named, good-entered}
 use Rattle.order.specs.SettingUp.{Wrote, ClearRefused, EnterRefused, AddRefused, ClearedZero, EnterWrites, EnteredFound, AddWrites}
 use Rattle.order.proofs.Rest.{in-table}
@@ -52,7 +52,7 @@ cleared-zero t h = leaving-done _ t _ (sym (leaving-number (tableNumber t) t (ze
 
 pub enter-refused : EnterRefused
 unfolding enter
-enter-refused t name h = leaving-refused _ t _ h
+enter-refused t shares a h = leaving-refused _ t _ h
 
 at-refused : (F : Found) (t : List ℕ) (e : Entry) → eqb ((addAt F t e) .number) 0 ≡ false → (addAt F t e) .table ≡ t
 unfolding addAt
@@ -61,10 +61,10 @@ at-refused (row i) t e h = leaving-refused _ t _ h
 
 pub add-refused : AddRefused
 unfolding add pick
-add-refused t name e h =
-    by-test (eqb (tableNumber t) 0)
-    (λ a. rw a (at-refused (lookup t name) t e (rw a at h)))
-    (λ a. rw a (leaving-refused 1 t t (rw a at h)))
+add-refused t a e h =
+    by-test (eqb (firstNumber t (a .operator)) 0)
+    (λ z. rw z (at-refused (lookup t a) t e (rw z at h)))
+    (λ z. rw z (leaving-refused (firstNumber t (a .operator)) t t (rw z at h)))
 
 -- A GOOD SUBSCRIBER IS WRITTEN
 
@@ -81,21 +81,27 @@ module _ (t : List ℕ) (good : tableNumber t ≡ 0) (i : ℕ) (there : i < leng
 
 -- ENTERING
 
-module _ (t name : List ℕ) (h : enterNumber t name ≡ 0) where
-  enter-rows : tableNumber t ≡ 0
+module _ (t shares : List ℕ) (a : Account) (h : enterNumber t shares a ≡ 0) where
+  enter-first : firstNumber t (a .operator) ≡ 0
   unfolding enterNumber
-  enter-rows = first-passes _ _ h
+  enter-first = first-passes _ _ h
 
-  enter-name : isName name ≡ true
+  enter-rows : tableNumber t ≡ 0
+  enter-rows = first-table t (a .operator) enter-first
+
+  enter-name : isName (a .name) ≡ true
   unfolding enterNumber
-  enter-name = passed _ 9 (omega arith) (first-passes _ _ (others-pass _ _ h))
+  enter-name = passed _ 9 (omega arith) (first-passes _ _ (others-pass _ _ (others-pass _ _ h)))
+
+  enter-good : Good (named a)
+  enter-good = good-named a enter-name (first-operator t (a .operator) enter-first)
 
 pub enter-writes : EnterWrites
 unfolding enter withRowAt
-enter-writes t name i h e =
-    let n : enterNumber t name ≡ 0 = sym (leaving-number (enterNumber t name) t _) ∙ h in
-    rw (leaving-done (enterNumber t name) t _ n, e)
-    (wrote t (enter-rows t name n) i (in-table allZero t i e) (named name) (good-named name (enter-name t name n)))
+enter-writes t shares a i h e =
+    let n : enterNumber t shares a ≡ 0 = sym (leaving-number (enterNumber t shares a) t _) ∙ h in
+    rw (leaving-done (enterNumber t shares a) t _ n, e)
+    (wrote t (enter-rows t shares a n) i (in-table allZero t i e) (named a) (enter-good t shares a n))
 
 -- ADDING
 
@@ -123,30 +129,30 @@ module _ (r : List ℕ) (e : Entry) (h : entryNumber r e ≡ 0) where
         sum-room = rw (sum-snoc (limits ((readRow r) .entries)) (e .limit)) (leb-true _ 8 (passed _ 17 (omega arith) (first-passes _ _ h4)));
       }
 
-add-rows : (t name : List ℕ) (e : Entry) → (add t name e) .number ≡ 0 → tableNumber t ≡ 0
+add-first : (t : List ℕ) (a : Account) (e : Entry) → (add t a e) .number ≡ 0 → firstNumber t (a .operator) ≡ 0
 unfolding add pick leaving
-add-rows t name e h =
-    by-test (eqb (tableNumber t) 0)
-    (λ a. eqb-true (tableNumber t) 0 a)
-    (λ a. let z : _≡_ {A = ℕ} 1 0 = rw a at h in absurd (omega arith))
+add-first t a e h =
+    by-test (eqb (firstNumber t (a .operator)) 0)
+    (λ z. eqb-true (firstNumber t (a .operator)) 0 z)
+    (λ z. rw z at h)
 
-add-is : (t name : List ℕ) (e : Entry) (i : ℕ) → tableNumber t ≡ 0 → lookup t name ≡ row i
-    → add t name e ≡ leaving (entryNumber (rowAt t i) e) t (withRow t i (rowBytes (withEntry e (readRow (rowAt t i)))))
+add-is : (t : List ℕ) (a : Account) (e : Entry) (i : ℕ) → firstNumber t (a .operator) ≡ 0 → lookup t a ≡ row i
+    → add t a e ≡ leaving (entryNumber (rowAt t i) e) t (withRow t i (rowBytes (withEntry e (readRow (rowAt t i)))))
 unfolding add addAt pick
-add-is t name e i a f = rw (a, f)
+add-is t a e i z f = rw (z, f)
 
-found-in : (t name : List ℕ) (i : ℕ) → lookup t name ≡ row i → i < length t / rowLength
+found-in : (t : List ℕ) (a : Account) (i : ℕ) → lookup t a ≡ row i → i < length t / rowLength
 unfolding lookup
-found-in t name i f = in-table (isRowOf name) t i f
+found-in t a i f = in-table (isRowOf a) t i f
 
 pub add-writes : AddWrites
-add-writes t name e i h f =
-    let a : tableNumber t ≡ 0 = add-rows t name e h in
+add-writes t a e i h f =
+    let z : firstNumber t (a .operator) ≡ 0 = add-first t a e h in
     let u : List ℕ = withRow t i (rowBytes (withEntry e (readRow (rowAt t i)))) in
-    let is : add t name e ≡ leaving (entryNumber (rowAt t i) e) t u = add-is t name e i a f in
+    let is : add t a e ≡ leaving (entryNumber (rowAt t i) e) t u = add-is t a e i z f in
     let n : entryNumber (rowAt t i) e ≡ 0 = sym (leaving-number (entryNumber (rowAt t i) e) t u) ∙ ap (λ (x : SetUp). x .number) (sym is) ∙ h in
     rw (is, leaving-done (entryNumber (rowAt t i) e) t u n)
-    (wrote t a i (found-in t name i f) (withEntry e (readRow (rowAt t i)))
+    (wrote t (first-table t (a .operator) z) i (found-in t a i f) (withEntry e (readRow (rowAt t i)))
     (good-entered e (readRow (rowAt t i)) (may-enter (rowAt t i) e n) (says-good (rowAt t i) (entry-sound (rowAt t i) e n))))
 
 -- A NAME THAT WAS ENTERED IS FOUND
@@ -174,34 +180,35 @@ name-part : (name : List ℕ) → length name ≤ 15 → take (length name) (fil
 unfolding filled
 name-part name h = take-take (length name) 15 (name ++ zeros 15) h ∙ take-at name (zeros 15) (length name) refl
 
-front-found : (name : List ℕ) → isName name ≡ true → isRowOf name (1 ∷ length name ∷ filled name 15) ≡ true
-unfolding isRowOf isName
-front-found name h =
+front-found : (a : Account) → isName (a .name) ≡ true → eqb (a .operator) (a .operator) && hasName (a .name) (1 ∷ length (a .name) ∷ filled (a .name) 15) ≡ true
+unfolding hasName isName
+front-found a h =
+    let name : List ℕ = a .name in
     let w : within 1 15 (length name) ≡ true = and-left (within 1 15 (length name)) _ h in
-    both w (both (eq-eqb (length name) (length name) refl) (rw (name-part name (within-high 1 15 _ w)) (same-refl name)))
+    both (eq-eqb (a .operator) (a .operator) refl)
+    (both w (both (eq-eqb (length name) (length name) refl) (rw (name-part name (within-high 1 15 _ w)) (same-refl name))))
 
-new-found : (name : List ℕ) → isName name ≡ true → isRowOf name (rowBytes (named name)) ≡ true
+new-found : (a : Account) → isName (a .name) ≡ true → isRowOf a (rowBytes (named a)) ≡ true
 unfolding named
-new-found name h =
-    sym (found-by name (rowBytes (named name))) ∙ ap (isRowOf name) (row-name (named name)) ∙ front-found name h
+new-found a h = found-by a (rowBytes (named a)) _ (row-account (named a)) ∙ front-found a h
 
-module _ (t name : List ℕ) (h : enterNumber t name ≡ 0) where
-  not-held : isFound (lookup t name) ≡ false
+module _ (t shares : List ℕ) (a : Account) (h : enterNumber t shares a ≡ 0) where
+  not-held : isFound (lookup t a) ≡ false
   unfolding enterNumber
-  not-held = not-true (isFound (lookup t name)) (passed _ 10 (omega arith) (first-passes _ _ (others-pass _ _ (others-pass _ _ h))))
+  not-held = not-true (isFound (lookup t a)) (passed _ 10 (omega arith) (first-passes _ _ (others-pass _ _ (others-pass _ _ (others-pass _ _ h)))))
 
-  look-after : (i : ℕ) → i < length t / rowLength → lookup (withRow t i (rowBytes (named name))) name ≡ row i
+  look-after : (i : ℕ) → i < length t / rowLength → lookup (withRow t i (rowBytes (named a))) a ≡ row i
   unfolding lookup rows
   look-after i l =
       let n : ℕ = length t / rowLength in
-      let size : length t ≡ rowLength * n = whole-rows t (enter-rows t name h) in
-      let r : List ℕ = rowBytes (named name) in
-      ap (λ (k : ℕ). firstRow (isRowOf name) (pieces rowLength (k / rowLength) (withRow t i r))) (length-withRow n t size i l r (length-row (named name)))
-      ∙ ap (firstRow (isRowOf name)) (rows-with n t size i l r (length-row (named name)))
-      ∙ found-put (isRowOf name) (pieces rowLength n t) i r not-held (new-found name (enter-name t name h)) (rw (length-pieces rowLength n t) l)
+      let size : length t ≡ rowLength * n = whole-rows t (enter-rows t shares a h) in
+      let r : List ℕ = rowBytes (named a) in
+      ap (λ (k : ℕ). firstRow (isRowOf a) (pieces rowLength (k / rowLength) (withRow t i r))) (length-withRow n t size i l r (length-row (named a)))
+      ∙ ap (firstRow (isRowOf a)) (rows-with n t size i l r (length-row (named a)))
+      ∙ found-put (isRowOf a) (pieces rowLength n t) i r not-held (new-found a (enter-name t shares a h)) (rw (length-pieces rowLength n t) l)
 
 pub entered-found : EnteredFound
 unfolding enter withRowAt
-entered-found t name i h e =
-    let n : enterNumber t name ≡ 0 = sym (leaving-number (enterNumber t name) t _) ∙ h in
-    rw (leaving-done (enterNumber t name) t _ n, e) (look-after t name n i (in-table allZero t i e))
+entered-found t shares a i h e =
+    let n : enterNumber t shares a ≡ 0 = sym (leaving-number (enterNumber t shares a) t _) ∙ h in
+    rw (leaving-done (enterNumber t shares a) t _ n, e) (look-after t shares a n i (in-table allZero t i e))

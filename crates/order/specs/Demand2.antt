@@ -12,7 +12,7 @@ use Rattle.table.specs.TheTable.{Access, Subscriber, Found, row, nothing, isFou
 use Rattle.table.specs.Soundness.{sound, onEntry}
 use Rattle.changes.specs.Changes.{freed, lowestFree, opened, routed}
 use Rattle.rules.specs.Deciding.{entryNamed, withSession, atLimit, placeOf}
-use Rattle.rules.specs.Calls.{Call, Left, callNumber, silent, reply, refusal, handle, run}
+use Rattle.rules.specs.Calls.{account, Call, Left, callNumber, silent, reply, refusal, handle, run}
 use Rattle.order.specs.ChecksInOrder.{Check, noRow, unsoundRow, check, firstFailing, noneFails, readingChecks, decidingChecks}
 
 -- THE CHECKS OF A CALL
@@ -22,7 +22,7 @@ unfoldable pub requestIn : Call → Request
 requestIn c = requestOf (command (c .message)) (avps (c .message))
 
 unfoldable pub found : List ℕ → Call → Found
-found t c = lookup t ((requestIn c) .user)
+found t c = lookup t (account c (requestIn c))
 
 unfoldable pub rowFound : List ℕ → Found → List ℕ
 rowFound t nothing = []

@@ -9,33 +9,36 @@ use Rattle.octets.specs.Choice.{pick, require, firstOf}
 use Rattle.octets.specs.Lists.{keep}
 use Rattle.octets.specs.Texts.{same, put}
 use Rattle.message.specs.ReadingAMessage.{Reading, refused, request, read, headerCode, walkCode, command, avps, startsWith, sessionId, userName, valueOf, fieldCode, fields}
-use Rattle.table.specs.TheTable.{Found, row, nothing, lookup, rowAt}
+use Rattle.table.specs.TheTable.{Account, Found, row, nothing, lookup, rowAt}
 use Rattle.rules.specs.Calls.{Call, Result, Reply, Left, ownTests, handle, run, answerLeast, noticeLength}
 
 -- WHOSE A CALL IS
 
 pub data Subject : Type 0 where
   nobody : Subject
-  subscriber : (name : List ℕ) → Subject
+  subscriber : Account → Subject
+
+unfoldable pub sameAccount : Account → Account → Bool
+sameAccount a b = eqb (a .operator) (b .operator) && same (a .name) (b .name)
 
 unfoldable pub sameSubject : Subject → Subject → Bool
 sameSubject nobody nobody = true
-sameSubject nobody (subscriber n) = false
-sameSubject (subscriber m) nobody = false
-sameSubject (subscriber m) (subscriber n) = same m n
+sameSubject nobody (subscriber b) = false
+sameSubject (subscriber a) nobody = false
+sameSubject (subscriber a) (subscriber b) = sameAccount a b
 
--- The tests that get no answer and do not look at the table: numbers 2 to 8, in order, 0 where none fails.
+-- The tests that get no answer and do not look at the table: numbers 33 and 2 to 8, in order, 0 where none fails.
 unfoldable pub ownNumber : Call → ℕ
 ownNumber c = firstOf (ownTests c)
 
--- A message that is refused as it is read is nobody's; any other is that of the User-Name in it.
-unfoldable pub sentBy : Reading → Subject
-sentBy (refused code) = nobody
-sentBy (request q) = subscriber (q .user)
+-- A message that is refused as it is read is nobody's; any other is that of its operator and of the User-Name in it.
+unfoldable pub sentBy : (operator : ℕ) → Reading → Subject
+sentBy o (refused code) = nobody
+sentBy o (request q) = subscriber (record { operator = o; name = q .user })
 
 -- A call that gets no answer, for another reason than the table, is nobody's; any other is its message's.
 unfoldable pub subject : Call → Subject
-subject c = pick (eqb (ownNumber c) 0) (sentBy (read (c .message))) nobody
+subject c = pick (eqb (ownNumber c) 0) (sentBy (c .operator) (read (c .message))) nobody
 
 unfoldable pub isOf : Subject → Call → Bool
 isOf who c = sameSubject (subject c) who
@@ -61,8 +64,8 @@ unfoldable pub recordAt : List ℕ → Found → Record
 recordAt t nothing = absent
 recordAt t (row i) = bytes (rowAt t i)
 
-unfoldable pub recordOf : List ℕ → List ℕ → Record
-recordOf name t = recordAt t (lookup t name)
+unfoldable pub recordOf : Account → List ℕ → Record
+recordOf a t = recordAt t (lookup t a)
 
 -- A LIST OF CALLS gets one reply for each call, in their order, and each is the one that `handle` gives on the table that
 -- the calls before it leave.
@@ -85,6 +88,7 @@ LastTable = (t : List ℕ) (before : List Call) (c : Call) → (run t (before ++
 
 -- What a call brings; of the two rooms only whether they are large enough, by the numbers 3 and 4.
 pub record Brought : Type 0 where
+  pub operator : ℕ
   pub message : List ℕ
   pub host : List ℕ
   pub realm : List ℕ
@@ -95,6 +99,7 @@ pub record Brought : Type 0 where
 unfoldable pub brought : Call → Brought
 brought c =
     record {
+      operator = c .operator;
       message = c .message;
       host = c .host;
       realm = c .realm;
@@ -143,22 +148,22 @@ RepliesAlone = (t : List ℕ) (cs : List Call) (who : Subject) → repliesOf who
 -- Each subscriber's record in the end is the one that its calls alone leave.
 abbrev pub RecordAlone : Type 0
 RecordAlone =
-    (t : List ℕ) (cs : List Call) (name : List ℕ)
-    → recordOf name ((run t cs) .table) ≡ recordOf name ((run t (callsOf (subscriber name) cs)) .table)
+    (t : List ℕ) (cs : List Call) (a : Account)
+    → recordOf a ((run t cs) .table) ≡ recordOf a ((run t (callsOf (subscriber a) cs)) .table)
 
 -- It is found in the row in which it was found before, or not at all if it was not.
 abbrev pub LookupStays : Type 0
-LookupStays = (t : List ℕ) (cs : List Call) (name : List ℕ) → lookup ((run t cs) .table) name ≡ lookup t name
+LookupStays = (t : List ℕ) (cs : List Call) (a : Account) → lookup ((run t cs) .table) a ≡ lookup t a
 
 -- Two lists in which a subject's calls bring the same, in the same order. Where all rooms are large enough that is: the same
--- message, own names and word from the WAG.
+-- operator, message, own names and word from the WAG.
 abbrev pub SameBrought : Subject → List Call → List Call → Type 0
 SameBrought who cs ds = map brought (callsOf who cs) ≡ map brought (callsOf who ds)
 
 -- If each subscriber's calls bring the same, both lists end with the same table, byte for byte.
 abbrev pub SameTable : Type 0
 SameTable =
-    (t : List ℕ) (cs ds : List Call) → ((name : List ℕ) → SameBrought (subscriber name) cs ds) → (run t cs) .table ≡ (run t ds) .table
+    (t : List ℕ) (cs ds : List Call) → ((a : Account) → SameBrought (subscriber a) cs ds) → (run t cs) .table ≡ (run t ds) .table
 
 -- A subject's calls are told the same, in the same order, and a subscriber's record ends the same, if these calls bring the
 -- same, whatever the others bring. So `ds` may be these calls alone, in other rooms.
@@ -169,8 +174,8 @@ SameReplies =
 
 abbrev pub SameRecord : Type 0
 SameRecord =
-    (t : List ℕ) (cs ds : List Call) (name : List ℕ) → SameBrought (subscriber name) cs ds
-    → recordOf name ((run t cs) .table) ≡ recordOf name ((run t ds) .table)
+    (t : List ℕ) (cs ds : List Call) (a : Account) → SameBrought (subscriber a) cs ds
+    → recordOf a ((run t cs) .table) ≡ recordOf a ((run t ds) .table)
 
 -- Nobody's call gets a reply that depends on no record: it is the same on any two tables of one length, and it changes
 -- nothing.
@@ -188,7 +193,7 @@ NobodysReplies = (t : List ℕ) (cs : List Call) → repliesOf nobody cs ((run t
 -- nobody's. Demand 3 holds for this counting too, and for any in which a call that is not refused is its subscriber's.
 
 abbrev pub Counting : (Call → Subject) → Type 0
-Counting owner = (c : Call) (name : List ℕ) → subject c ≡ subscriber name → owner c ≡ subscriber name
+Counting owner = (c : Call) (a : Account) → subject c ≡ subscriber a → owner c ≡ subscriber a
 
 -- The User-Name is read: header and walk pass, and so do the first eight of the list, of which User-Name is the eighth for
 -- both commands.
@@ -197,7 +202,7 @@ nameRead m =
     eqb (firstOf (headerCode m ∷ walkCode m ∷ require (startsWith sessionId (avps m)) 5005 ∷ take 8 (map (fieldCode (avps m)) (fields (command m) (avps m))))) 0
 
 unfoldable pub sender : Call → Subject
-sender c = pick (eqb (ownNumber c) 0 && nameRead (c .message)) (subscriber (valueOf userName (avps (c .message)))) nobody
+sender c = pick (eqb (ownNumber c) 0 && nameRead (c .message)) (subscriber (record { operator = c .operator; name = valueOf userName (avps (c .message)) })) nobody
 
 unfoldable pub isBy : (Call → Subject) → Subject → Call → Bool
 isBy owner who c = sameSubject (owner c) who
@@ -224,13 +229,13 @@ NoSender = (c : Call) → sender c ≡ nobody → subject c ≡ nobody
 -- A subscriber's replies and record by this counting.
 abbrev pub RepliesAloneBy : Type 0
 RepliesAloneBy =
-    (owner : Call → Subject) → Counting owner → (t : List ℕ) (cs : List Call) (name : List ℕ)
-    → repliesBy owner (subscriber name) cs ((run t cs) .replies) ≡ (run t (callsBy owner (subscriber name) cs)) .replies
+    (owner : Call → Subject) → Counting owner → (t : List ℕ) (cs : List Call) (a : Account)
+    → repliesBy owner (subscriber a) cs ((run t cs) .replies) ≡ (run t (callsBy owner (subscriber a) cs)) .replies
 
 abbrev pub RecordAloneBy : Type 0
 RecordAloneBy =
-    (owner : Call → Subject) → Counting owner → (t : List ℕ) (cs : List Call) (name : List ℕ)
-    → recordOf name ((run t cs) .table) ≡ recordOf name ((run t (callsBy owner (subscriber name) cs)) .table)
+    (owner : Call → Subject) → Counting owner → (t : List ℕ) (cs : List Call) (a : Account)
+    → recordOf a ((run t cs) .table) ≡ recordOf a ((run t (callsBy owner (subscriber a) cs)) .table)
 
 -- Two lists in which a subject's calls by this counting bring the same.
 abbrev pub SameBroughtBy : (Call → Subject) → Subject → List Call → List Call → Type 0
@@ -239,14 +244,14 @@ SameBroughtBy owner who cs ds = map brought (callsBy owner who cs) ≡ map broug
 abbrev pub SameTableBy : Type 0
 SameTableBy =
     (owner : Call → Subject) → Counting owner → (t : List ℕ) (cs ds : List Call)
-    → ((name : List ℕ) → SameBroughtBy owner (subscriber name) cs ds) → (run t cs) .table ≡ (run t ds) .table
+    → ((a : Account) → SameBroughtBy owner (subscriber a) cs ds) → (run t cs) .table ≡ (run t ds) .table
 
 abbrev pub SameRepliesBy : Type 0
 SameRepliesBy =
-    (owner : Call → Subject) → Counting owner → (t : List ℕ) (cs ds : List Call) (name : List ℕ) → SameBroughtBy owner (subscriber name) cs ds
-    → map told (repliesBy owner (subscriber name) cs ((run t cs) .replies)) ≡ map told (repliesBy owner (subscriber name) ds ((run t ds) .replies))
+    (owner : Call → Subject) → Counting owner → (t : List ℕ) (cs ds : List Call) (a : Account) → SameBroughtBy owner (subscriber a) cs ds
+    → map told (repliesBy owner (subscriber a) cs ((run t cs) .replies)) ≡ map told (repliesBy owner (subscriber a) ds ((run t ds) .replies))
 
 abbrev pub SameRecordBy : Type 0
 SameRecordBy =
-    (owner : Call → Subject) → Counting owner → (t : List ℕ) (cs ds : List Call) (name : List ℕ) → SameBroughtBy owner (subscriber name) cs ds
-    → recordOf name ((run t cs) .table) ≡ recordOf name ((run t ds) .table)
+    (owner : Call → Subject) → Counting owner → (t : List ℕ) (cs ds : List Call) (a : Account) → SameBroughtBy owner (subscriber a) cs ds
+    → recordOf a ((run t cs) .table) ≡ recordOf a ((run t ds) .table)

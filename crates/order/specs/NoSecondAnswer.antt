@@ -6,6 +6,7 @@ use mathlib.Core.Bool.{Bool}
 use mathlib.Core.List.{List}
 use Prim.Native.Nat.{ℕ}
 use Rattle.setup.specs.SetUp.{left, clear, enter, add}
+use Rattle.table.specs.TheTable.{Account}
 use Rattle.rules.specs.Calls.{handle}
 use Rattle.decision.specs.declared.Outcome.{Outcome}
 use Rattle.decision.specs.Outcomes.{callOf, leaves}
@@ -20,15 +21,15 @@ pub record Given : Type 0 where
   pub notice : List ℕ
 
 -- What `decision::handle` ensures of that.
-abbrev pub Promised : (table host realm message : List ℕ) → (wag : Bool) → (answer notice : List ℕ) → Given → Type 0
-Promised table host realm message wag answer notice g =
-    leaves (g .outcome) (g .table) (g .answer) (g .notice) ≡ handle table (callOf message host realm answer notice wag)
+abbrev pub Promised : (table : List ℕ) → (operator : ℕ) → (host realm message : List ℕ) → (wag : Bool) → (answer notice : List ℕ) → Given → Type 0
+Promised table operator host realm message wag answer notice g =
+    leaves (g .outcome) (g .table) (g .answer) (g .notice) ≡ handle table (callOf operator message host realm answer notice wag)
 
 abbrev pub OneAnswer : Type 0
 OneAnswer =
-    (table host realm message : List ℕ) (wag : Bool) (answer notice : List ℕ) (g h : Given)
-    → Promised table host realm message wag answer notice g
-    → Promised table host realm message wag answer notice h
+    (table : List ℕ) (operator : ℕ) (host realm message : List ℕ) (wag : Bool) (answer notice : List ℕ) (g h : Given)
+    → Promised table operator host realm message wag answer notice g
+    → Promised table operator host realm message wag answer notice h
     → g ≡ h
 
 -- SET-UP: the number that is returned, and the table as it stands then. `wm_clear`, `wm_enter` and `wm_add` ensure the same.
@@ -38,14 +39,14 @@ OneClearing = (table : List ℕ) (n m : ℕ) (t u : List ℕ) → left n t ≡ c
 
 abbrev pub OneEntering : Type 0
 OneEntering =
-    (table name : List ℕ) (n m : ℕ) (t u : List ℕ)
-    → left n t ≡ enter table name
-    → left m u ≡ enter table name
+    (table shares : List ℕ) (a : Account) (n m : ℕ) (t u : List ℕ)
+    → left n t ≡ enter table shares a
+    → left m u ≡ enter table shares a
     → (n ≡ m) × (t ≡ u)
 
 abbrev pub OneAdding : Type 0
 OneAdding =
-    (table name label : List ℕ) (limit flags n m : ℕ) (t u : List ℕ)
-    → left n t ≡ add table name (record { label = label; flags = flags; limit = limit })
-    → left m u ≡ add table name (record { label = label; flags = flags; limit = limit })
+    (table : List ℕ) (a : Account) (label : List ℕ) (limit flags n m : ℕ) (t u : List ℕ)
+    → left n t ≡ add table a (record { label = label; flags = flags; limit = limit })
+    → left m u ≡ add table a (record { label = label; flags = flags; limit = limit })
     → (n ≡ m) × (t ≡ u)

@@ -4,9 +4,10 @@ use mathlib.Core.Bool.{true}
 use mathlib.Core.List.{List, [], _∷_, _++_, map}
 use Prim.Native.Nat.{ℕ}
 use Rattle.octets.specs.Texts.{filled, zeros}
-use Rattle.message.specs.WorkedCases.{board, endAt, gateway, name, openAt, ownHost, ownRealm, session}
+use Rattle.message.specs.WorkedCases.{board, endAt, gateway, openAt, ownHost, ownRealm, session}
 use Rattle.table.specs.TheTable.{Entry}
 use Rattle.rules.specs.Calls.{Call, Reply}
+use Rattle.rules.specs.WorkedCases.{of}
 use Rattle.order.specs.OpenedFirst.{Tunnel, history}
 
 -- The subscriber of the worked cases, with "board" (limit 2, no flags).
@@ -14,7 +15,7 @@ unfoldable pub entered : List Entry
 entered = record { label = board; flags = 0; limit = 2 } ∷ []
 
 unfoldable pub calling : List ℕ → Call
-calling message = record { message = message; host = ownHost; realm = ownRealm; answer = zeros 5120; notice = zeros 256; wag = true }
+calling message = record { operator = 0; message = message; host = ownHost; realm = ownRealm; answer = zeros 5120; notice = zeros 256; wag = true }
 
 -- What the history looks at in a reply: 2001 without a cut, and 2001 with a cut of the tunnel of that letter.
 unfoldable pub granted : Reply
@@ -36,14 +37,14 @@ cutting letter =
 -- a and b are opened, a is ended, and a is opened again.
 unfoldable pub again : List Tunnel
 again =
-    history name entered
+    history (of 0) entered
     (calling (openAt (session 97) board) ∷ calling (openAt (session 98) board) ∷ calling (endAt (session 97) board) ∷ calling (openAt (session 97) board) ∷ [])
     (granted ∷ granted ∷ granted ∷ granted ∷ [])
     []
 
 -- Then c is opened, which cuts b.
 unfoldable pub andThenC : List Tunnel
-andThenC = history name entered (calling (openAt (session 99) board) ∷ []) (cutting 98 ∷ []) again
+andThenC = history (of 0) entered (calling (openAt (session 99) board) ∷ []) (cutting 98 ∷ []) again
 
 unfoldable pub named : List Tunnel → List (List ℕ)
 named line = map (λ (x : Tunnel). x .session) line

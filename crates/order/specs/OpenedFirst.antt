@@ -10,7 +10,7 @@ use Rattle.octets.specs.Choice.{pick}
 use Rattle.octets.specs.Lists.{keep}
 use Rattle.octets.specs.Texts.{same}
 use Rattle.message.specs.ReadingAMessage.{Ask, tunnel, policy, termination}
-use Rattle.table.specs.TheTable.{Entry, Access, Subscriber, row, lookup, isRowOf, rowAt, readRow}
+use Rattle.table.specs.TheTable.{Account, Entry, Access, Subscriber, row, lookup, isRowOf, rowAt, readRow}
 use Rattle.table.specs.Soundness.{sound, sameLabel}
 use Rattle.rules.specs.Deciding.{entryAt}
 use Rattle.rules.specs.Calls.{Call, Reply, handle, run}
@@ -49,12 +49,12 @@ lineAfter es (termination session label) r line = without session line
 
 -- The subscriber's line after a list of calls, of whomever, from the line before it: each of the subscriber's calls that is
 -- answered 2001 changes it, and no other call does. `rs` holds a reply for each call of `cs`, and `es` are the row's entries.
-unfoldable pub history : (name : List ℕ) → (es : List Entry) → (cs : List Call) → (rs : List Reply) → (line : List Tunnel) → List Tunnel
-history name es [] rs line = line
-history name es (c ∷ cs) [] line = line
-history name es (c ∷ cs) (r ∷ rs) line =
-    let own : Bool = isOf (subscriber name) c && eqb (r .result .code) 2001 in
-    history name es cs rs (pick own (lineAfter es ((requestIn c) .ask) r line) line)
+unfoldable pub history : (a : Account) → (es : List Entry) → (cs : List Call) → (rs : List Reply) → (line : List Tunnel) → List Tunnel
+history a es [] rs line = line
+history a es (c ∷ cs) [] line = line
+history a es (c ∷ cs) (r ∷ rs) line =
+    let own : Bool = isOf (subscriber a) c && eqb (r .result .code) 2001 in
+    history a es cs rs (pick own (lineAfter es ((requestIn c) .ask) r line) line)
 
 -- THE ORDER LINE
 
@@ -77,8 +77,8 @@ entriesOf t i = (readRow (rowAt t i)) .entries
 -- unsound, too: then both stay as they were.
 abbrev pub LineIsHistory : Type 0
 LineIsHistory =
-    (t : List ℕ) (cs : List Call) (name : List ℕ) (i : ℕ) → lookup t name ≡ row i
-    → lineOf ((run t cs) .table) i ≡ history name (entriesOf t i) cs ((run t cs) .replies) (lineOf t i)
+    (t : List ℕ) (cs : List Call) (a : Account) (i : ℕ) → lookup t a ≡ row i
+    → lineOf ((run t cs) .table) i ≡ history a (entriesOf t i) cs ((run t cs) .replies) (lineOf t i)
 
 -- The label that is asked for; no bytes where a policy is. The tunnels on a label, in their order. The tunnel that a cut notice
 -- names, on that label.
@@ -97,11 +97,11 @@ tunnelCut label r = record { session = sessionCut r; host = take (r .result .cut
 -- `before` it has them, the first is the one that its notice names.
 abbrev pub CutOpenedFirst : Type 0
 CutOpenedFirst =
-    (t : List ℕ) (before : List Call) (c : Call) (name : List ℕ) (i : ℕ) → lookup t name ≡ row i → subject c ≡ subscriber name
+    (t : List ℕ) (before : List Call) (c : Call) (a : Account) (i : ℕ) → lookup t a ≡ row i → subject c ≡ subscriber a
     → let r : Reply = (handle ((run t before) .table) c) .reply in
     let label : List ℕ = labelIn (entriesOf t i) (labelAsked ((requestIn c) .ask)) in
     r .result .cut ≡ 1
-    → take 1 (onLabel label (history name (entriesOf t i) before ((run t before) .replies) (lineOf t i))) ≡ tunnelCut label r ∷ []
+    → take 1 (onLabel label (history a (entriesOf t i) before ((run t before) .replies) (lineOf t i))) ≡ tunnelCut label r ∷ []
 
 -- WHAT NO CALL CHANGES
 
@@ -109,10 +109,10 @@ CutOpenedFirst =
 abbrev pub EntriesStay : Type 0
 EntriesStay = (t : List ℕ) (cs : List Call) (i : ℕ) → entriesOf ((run t cs) .table) i ≡ entriesOf t i
 
--- A second row of a name: the lookup finds the first.
+-- A second row of an account: the lookup finds the first.
 abbrev pub SecondRowStays : Type 0
 SecondRowStays =
-    (t : List ℕ) (cs : List Call) (name : List ℕ) (i j : ℕ) → lookup t name ≡ row i → (j ≡ i → ⊥) → isRowOf name (rowAt t j) ≡ true
+    (t : List ℕ) (cs : List Call) (a : Account) (i j : ℕ) → lookup t a ≡ row i → (j ≡ i → ⊥) → isRowOf a (rowAt t j) ≡ true
     → rowAt ((run t cs) .table) j ≡ rowAt t j
 
 -- An unsound row.

@@ -6,7 +6,7 @@ use Prim.Native.Nat.{ℕ}
 use lib.Dec.{eqb}
 use lib.ListN.{length}
 use Rattle.octets.specs.Texts.{allZero, zeros}
-use Rattle.table.specs.TheTable.{Entry, Subscriber, row, firstRow, rows, lookup, rowAt, readRow}
+use Rattle.table.specs.TheTable.{Account, Entry, Subscriber, row, firstRow, rows, lookup, rowAt, readRow}
 use Rattle.table.specs.Soundness.{sound}
 use Rattle.setup.specs.SetUp.{clear, enter, add}
 use Rattle.changes.specs.Changes.{named, withEntry}
@@ -16,10 +16,10 @@ abbrev pub ClearRefused : Type 0
 ClearRefused = (t : List ℕ) → eqb ((clear t) .number) 0 ≡ false → (clear t) .table ≡ t
 
 abbrev pub EnterRefused : Type 0
-EnterRefused = (t name : List ℕ) → eqb ((enter t name) .number) 0 ≡ false → (enter t name) .table ≡ t
+EnterRefused = (t shares : List ℕ) (a : Account) → eqb ((enter t shares a) .number) 0 ≡ false → (enter t shares a) .table ≡ t
 
 abbrev pub AddRefused : Type 0
-AddRefused = (t name : List ℕ) (e : Entry) → eqb ((add t name e) .number) 0 ≡ false → (add t name e) .table ≡ t
+AddRefused = (t : List ℕ) (a : Account) (e : Entry) → eqb ((add t a e) .number) 0 ≡ false → (add t a e) .table ≡ t
 
 -- A cleared table is zero throughout.
 abbrev pub ClearedZero : Type 0
@@ -31,16 +31,18 @@ pub record Wrote (t : List ℕ) (i : ℕ) (says : Subscriber) (after : List ℕ)
   pub row-says : readRow (rowAt after i) ≡ says
   pub others-stay : (j : ℕ) → (j ≡ i → ⊥) → rowAt after j ≡ rowAt t j
 
--- Entering writes the first wholly zero row: the name and nothing else.
+-- Entering writes the first wholly zero row: the operator, the name and nothing else.
 abbrev pub EnterWrites : Type 0
-EnterWrites = (t name : List ℕ) (i : ℕ) → (enter t name) .number ≡ 0 → firstRow allZero (rows t) ≡ row i → Wrote t i (named name) ((enter t name) .table)
+EnterWrites =
+    (t shares : List ℕ) (a : Account) (i : ℕ) → (enter t shares a) .number ≡ 0 → firstRow allZero (rows t) ≡ row i → Wrote t i (named a) ((enter t shares a) .table)
 
--- The name is then found in that row.
+-- The account is then found in that row.
 abbrev pub EnteredFound : Type 0
-EnteredFound = (t name : List ℕ) (i : ℕ) → (enter t name) .number ≡ 0 → firstRow allZero (rows t) ≡ row i → lookup ((enter t name) .table) name ≡ row i
+EnteredFound =
+    (t shares : List ℕ) (a : Account) (i : ℕ) → (enter t shares a) .number ≡ 0 → firstRow allZero (rows t) ≡ row i → lookup ((enter t shares a) .table) a ≡ row i
 
 -- Adding writes the subscriber's row: what it said, and one entry more, as given.
 abbrev pub AddWrites : Type 0
 AddWrites =
-    (t name : List ℕ) (e : Entry) (i : ℕ) → (add t name e) .number ≡ 0 → lookup t name ≡ row i
-    → Wrote t i (withEntry e (readRow (rowAt t i))) ((add t name e) .table)
+    (t : List ℕ) (a : Account) (e : Entry) (i : ℕ) → (add t a e) .number ≡ 0 → lookup t a ≡ row i
+    → Wrote t i (withEntry e (readRow (rowAt t i))) ((add t a e) .table)

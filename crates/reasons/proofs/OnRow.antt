@@ -16,7 +16,7 @@ use Rattle.message.proofs.Lengths.{passing}
 use Rattle.table.specs.TheTable.{Subscriber, Found, row, nothing, isFound, lookup, rowAt, readRow, barred, mayRoam}
 use Rattle.table.specs.Soundness.{sound, onEntry}
 use Rattle.rules.specs.Deciding.{Verdict, type0, type1, terminate, refuse, grant, heldAlready, entryNamed, entryAt, withSession, none}
-use Rattle.rules.specs.Calls.{Call, callNumber}
+use Rattle.rules.specs.Calls.{account, Call, callNumber}
 use Rattle.plans.specs.declared.Plan.{Plan}
 use Rattle.plans.specs.declared.Plan.the-variants.{NotSubscribed, Barred, RoamingNotAllowed, UnableToComply, UnusedByUser, Open, Route, Free}
 use Rattle.plans.proofs.Plan.{the-type}
@@ -158,7 +158,7 @@ module _ (t : List ℕ) (c : Call) where
   unfolding checks
   not-read n e = gives-first _ (readingChecks (c .message)) _ (refused-code (c .message) n e) (reading-gives (c .message))
 
-  pub was-read : (q : Request) → read (c .message) ≡ request q → firstFailed (rowChecks t (lookup t (q .user)) (q .ask) (c .wag)) ≡ firstFailed (checks t c)
+  pub was-read : (q : Request) → read (c .message) ≡ request q → firstFailed (rowChecks t (lookup t (account c q)) (q .ask) (c .wag)) ≡ firstFailed (checks t c)
   unfolding checks rowChecks rowBefore found requestIn
   was-read q e =
       rw ((passing (c .message) q e) .asked)

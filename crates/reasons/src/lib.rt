@@ -348,11 +348,11 @@ fn deciding_failed(row: &[u8], m: &[u8], asked: Asked, wag: bool) -> Reason
 }
 
 // A request that was read: the user's row, its soundness, then deciding.
-fn request_failed(table: &[u8], m: &[u8], wag: bool, user: Span, asked: Asked) -> Reason
+fn request_failed(table: &[u8], op: u32, m: &[u8], wag: bool, user: Span, asked: Asked) -> Reason
     requires { ⌜ (tableNumber (now table) ≡ 0) × (every (isInside (now m)) (spansIn asked) ≡ true) × (isInside (now m) user ≡ true) ⌝ }
-    ensures { λ r. ⌜ checkNamed r ≡ firstFailed (rowChecks (now (table .entry)) (lookup (now (table .entry)) (bytesOf (now (m .entry)) user)) (asks (now (m .entry)) asked) wag) ⌝ }
+    ensures { λ r. ⌜ checkNamed r ≡ firstFailed (rowChecks (now (table .entry)) (lookup (now (table .entry)) (record { operator = op; name = bytesOf (now (m .entry)) user })) (asks (now (m .entry)) asked) wag) ⌝ }
 {
-    let found = table::lookup(table, decision::text(m, user));
+    let found = table::lookup(table, op, decision::text(m, user));
     let RowFound::At(i) = found else {
         return Reason::NoRow;
     };
@@ -365,9 +365,9 @@ fn request_failed(table: &[u8], m: &[u8], wag: bool, user: Span, asked: Asked) -
 }
 
 // A message that gets an answer.
-fn answered_for(table: &[u8], m: &[u8], wag: bool) -> Reason
+fn answered_for(table: &[u8], op: u32, m: &[u8], wag: bool) -> Reason
     requires { ⌜ (tableNumber (now table) ≡ 0) × (20 ≤ length (now m)) ⌝ }
-    ensures { λ r. ⌜ ((host realm answer notice : List ℕ) → checkNamed r ≡ firstFailed (checks (now (table .entry)) (callOf (now (m .entry)) host realm answer notice wag))) ⌝ }
+    ensures { λ r. ⌜ ((host realm answer notice : List ℕ) → checkNamed r ≡ firstFailed (checks (now (table .entry)) (callOf op (now (m .entry)) host realm answer notice wag))) ⌝ }
 {
     let heard = request::read(m);
     let told = heard.told;
@@ -376,7 +376,7 @@ fn answered_for(table: &[u8], m: &[u8], wag: bool) -> Reason
             return reading_failed(m);
         }
         Told::Request(user, asked) => {
-            return request_failed(table, m, wag, user, asked);
+            return request_failed(table, op, m, wag, user, asked);
         }
     }
 }
@@ -387,6 +387,7 @@ fn answered_for(table: &[u8], m: &[u8], wag: bool) -> Reason
 // Nothing is asked of what is lent.
 pub fn first_failed(
     table: &[u8],
+    op: u32,
     host: &[u8],
     realm: &[u8],
     message: &[u8],
@@ -394,11 +395,11 @@ pub fn first_failed(
     answer: &[u8],
     notice: &[u8],
 ) -> Why
-    ensures { λ r. ⌜ groundNamed r ≡ groundOf (now (table .entry)) (callOf (now (message .entry)) (now (host .entry)) (now (realm .entry)) (now (answer .entry)) (now (notice .entry)) wag) ⌝ }
+    ensures { λ r. ⌜ groundNamed r ≡ groundOf (now (table .entry)) (callOf op (now (message .entry)) (now (host .entry)) (now (realm .entry)) (now (answer .entry)) (now (notice .entry)) wag) ⌝ }
 {
-    let n = decision::call_number(table, host, realm, message, answer, notice);
+    let n = decision::call_number(table, op, host, realm, message, answer, notice);
     if n != 0 {
         return Why::Unanswered(n);
     }
-    Why::Answered(answered_for(table, message, wag))
+    Why::Answered(answered_for(table, op, message, wag))
 }

@@ -6,7 +6,8 @@ use replay_verdict::Verdict;
 use replay_verdict::judged;
 use replay_verdict::number;
 use replay_verdict::text_end;
-ghost use Prim.Native.Nat.{_+_, _≤_};
+ghost use mathlib.Core.Path.{_≡_};
+ghost use Prim.Native.Nat.{_+_, _*_, _≤_};
 ghost use lib.ListN.{length};
 
 // A set-up operation returns its number.
@@ -63,21 +64,61 @@ pub fn play_clear(table: &mut [u8], r: &[u8]) -> Verdict
     judged(r, 0, got, table, &r[0..0], 0, &r[0..0], 0)
 }
 
-pub fn play_enter(table: &mut [u8], r: &[u8]) -> Verdict
-    requires { ⌜ length (now r) ≤ 65536 ⌝ }
+// The first n shares of a record, which begin at byte 8.
+fn read_shares(r: &[u8], n: usize, shares: &mut [u32; 17])
+    requires { ⌜ (n ≤ 17) × (8 + 4 * n ≤ length (now r)) × (length (now shares) ≡ 17) ⌝ }
+    ensures { λ _. ⌜ length (now (shares .exit)) ≡ 17 ⌝ }
 {
-    let e = text_end(r, 0);
+    let mut i: usize = 0;
+    while i < n {
+        shares[i] = octets::read32(r, 8 + 4 * i);
+        i += 1;
+    }
+}
+
+// An entering whose shares end at `from`, where the name's text begins.
+fn enter_named(table: &mut [u8], r: &[u8], n: usize, from: usize) -> Verdict
+    requires { ⌜ (n ≤ 17) × (from ≡ 8 + 4 * n) × (from ≤ length (now r)) × (length (now r) ≤ 65536) ⌝ }
+{
+    let e = text_end(r, from);
     if r.len() < e {
         return Verdict::Damaged;
     }
-    let got = set_up(setup::enter(table, &r[4..e]));
+    let mut shares = [0u32; 17];
+    read_shares(r, n, &mut shares);
+    let name = from + 4;
+    let all: &[u32] = &shares;
+    let got = set_up(setup::enter(table, octets::read32(r, 0), &all[0..n], &r[name..e]));
     judged(r, e, got, table, &r[0..0], 0, &r[0..0], 0)
 }
 
+// The operator, the number of shares, the shares, the name.
+pub fn play_enter(table: &mut [u8], r: &[u8]) -> Verdict
+    requires { ⌜ length (now r) ≤ 65536 ⌝ }
+{
+    if r.len() < 8 {
+        return Verdict::Damaged;
+    }
+    let n = number(r, 4);
+    if 17 < n {
+        return Verdict::Damaged;
+    }
+    let from = 8 + 4 * n;
+    if r.len() < from {
+        return Verdict::Damaged;
+    }
+    enter_named(table, r, n, from)
+}
+
+// The operator, the name, the label, the limit and the flags.
 pub fn play_add(table: &mut [u8], r: &[u8]) -> Verdict
     requires { ⌜ length (now r) ≤ 65536 ⌝ }
 {
-    let e = text_end(r, 0);
+    if r.len() < 4 {
+        return Verdict::Damaged;
+    }
+    let op = octets::read32(r, 0);
+    let e = text_end(r, 4);
     if r.len() < e {
         return Verdict::Damaged;
     }
@@ -86,11 +127,11 @@ pub fn play_add(table: &mut [u8], r: &[u8]) -> Verdict
         return Verdict::Damaged;
     }
     let label = e + 4;
-    let got = set_up(setup::add(table, &r[4..e], &r[label..f], r[f], r[f + 1]));
+    let got = set_up(setup::add(table, op, &r[8..e], &r[label..f], r[f], r[f + 1]));
     judged(r, f + 2, got, table, &r[0..0], 0, &r[0..0], 0)
 }
 
-// What stands between the texts of a request and what is expected: the word of the WAG, and the two rooms.
+// What stands between the texts of a request, which the operator comes before, and what is expected: the word of the WAG, and the two rooms.
 struct Rooms {
     wag: bool,
     answer: usize,
@@ -114,7 +155,10 @@ fn rooms_at(r: &[u8], at: usize) -> Rooms
 pub fn play_handle(table: &mut [u8], r: &[u8], answer: &mut [u8], notice: &mut [u8]) -> Verdict
     requires { ⌜ (length (now r) ≤ 65536) × (length (now answer) ≤ 65536) × (length (now notice) ≤ 65536) ⌝ }
 {
-    let host = text_end(r, 0);
+    if r.len() < 4 {
+        return Verdict::Damaged;
+    }
+    let host = text_end(r, 4);
     if r.len() < host {
         return Verdict::Damaged;
     }
@@ -139,7 +183,7 @@ fn in_rooms(
     answer: &mut [u8],
     notice: &mut [u8],
 ) -> Verdict
-    requires { ⌜ (4 ≤ host) × (host + 4 ≤ realm) × (realm + 4 ≤ message) × (message + 11 ≤ length (now r)) × (length (now r) ≤ 65536)
+    requires { ⌜ (8 ≤ host) × (host + 4 ≤ realm) × (realm + 4 ≤ message) × (message + 11 ≤ length (now r)) × (length (now r) ≤ 65536)
         × (length (now answer) ≤ 65536) × (length (now notice) ≤ 65536) ⌝ }
 {
     let room = rooms_at(r, message);
@@ -174,7 +218,7 @@ fn request(
     answer: &mut [u8],
     notice: &mut [u8],
 ) -> Verdict
-    requires { ⌜ (4 ≤ host) × (host + 4 ≤ realm) × (realm + 4 ≤ message) × (message + 11 ≤ length (now r)) × (length (now r) ≤ 65536)
+    requires { ⌜ (8 ≤ host) × (host + 4 ≤ realm) × (realm + 4 ≤ message) × (message + 11 ≤ length (now r)) × (length (now r) ≤ 65536)
         × (length (now answer) ≤ 65536) × (length (now notice) ≤ 65536) ⌝ }
 {
     replay_script::fill(answer, room.answer_seed);
@@ -193,14 +237,16 @@ fn ask(
     answer: &mut [u8],
     notice: &mut [u8],
 ) -> Verdict
-    requires { ⌜ (4 ≤ host) × (host + 4 ≤ realm) × (realm + 4 ≤ message) × (message + 11 ≤ length (now r)) × (length (now r) ≤ 65536)
+    requires { ⌜ (8 ≤ host) × (host + 4 ≤ realm) × (realm + 4 ≤ message) × (message + 11 ≤ length (now r)) × (length (now r) ≤ 65536)
         × (length (now answer) ≤ 65536) × (length (now notice) ≤ 65536) ⌝ }
 {
+    let op = octets::read32(r, 0);
     let from_realm = host + 4;
     let from_message = realm + 4;
     let o = decision::handle(
         table,
-        &r[4..host],
+        op,
+        &r[8..host],
         &r[from_realm..realm],
         &r[from_message..message],
         room.wag,

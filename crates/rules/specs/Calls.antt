@@ -10,15 +10,16 @@ use Rattle.message.specs.Codes.{Code, none, plain, userUnknown, numberOf, kindO
 use Rattle.message.specs.CallsThatGetNoAnswer.{messageNumber}
 use Rattle.message.specs.ReadingAMessage.{Request, Reading, refused, request, read}
 use Rattle.message.specs.WritingTheAnswer.{answer, answerRoom}
-use Rattle.table.specs.TheTable.{Access, rowBytes, readRow, tableNumber, rowAt, withRow, Found, row, nothing, lookup}
+use Rattle.table.specs.TheTable.{Access, Account, rowBytes, readRow, tableNumber, rowAt, withRow, Found, row, nothing, lookup}
 use Rattle.table.specs.Soundness.{sound}
 use Rattle.rules.specs.Deciding.{Verdict, decide}
 
 -- A CALL AND ITS REPLY
 
--- What a caller brings beside the table: a message; the names by which the server calls itself, host and realm; two rooms to write
+-- What a caller brings beside the table: the operator that the message came from; a message; the names by which the server calls itself, host and realm; two rooms to write
 -- into, with what stands in them; and the word of the wireless gateway (WAG), true for yes.
 pub record Call : Type 0 where
+  pub operator : ℕ
   pub message : List ℕ
   pub host : List ℕ
   pub realm : List ℕ
@@ -57,11 +58,12 @@ answerLeast = 5120
 abbrev pub noticeLength : ℕ
 noticeLength = 256
 
--- The tests that do not look at the table, in order: 2, the own host or realm is not 1 to 128 bytes; 3, the answer room is under
--- 5,120 bytes; 4, the notice room is under 256; then the message's own, 5 to 8.
+-- The tests that do not look at the table, in order: 33, the operator is over 15; 2, the own host or realm is not 1 to 128 bytes; 3, the answer
+-- room is under 5,120 bytes; 4, the notice room is under 256; then the message's own, 5 to 8.
 abbrev pub ownTests : Call → List ℕ
 ownTests c =
-    require (within 1 128 (length (c .host)) && within 1 128 (length (c .realm))) 2
+    require (leb (c .operator) 15) 33
+    ∷ require (within 1 128 (length (c .host)) && within 1 128 (length (c .realm))) 2
     ∷ require (leb answerLeast (length (c .answer))) 3
     ∷ require (leb noticeLength (length (c .notice))) 4
     ∷ messageNumber (c .message)
@@ -130,10 +132,14 @@ onRow t c q (row i) =
     let decided : Left = settled t c i (decide (q .ask) (c .wag) (readRow r)) in
     pick (sound r) decided (refusal t c (plain 5012))
 
+-- Whose row a request is for: that of the operator and the user.
+unfoldable pub account : Call → Request → Account
+account c q = record { operator = c .operator; name = q .user }
+
 -- The message is read; the first failing test gives the code.
 unfoldable pub onReading : List ℕ → Call → Reading → Left
 onReading t c (refused code) = refusal t c (plain code)
-onReading t c (request q) = onRow t c q (lookup t (q .user))
+onReading t c (request q) = onRow t c q (lookup t (account c q))
 
 unfoldable pub handle : List ℕ → Call → Left
 handle t c =

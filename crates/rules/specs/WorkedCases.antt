@@ -1,34 +1,44 @@
 -- The worked cases: the twelve with a star as one list, and others that shut out what the twelve let pass.
 use mathlib.Core.Bool.{Bool, true, _&&_}
 use mathlib.Core.List.{List, [], _∷_}
-use Prim.Native.Nat.{ℕ}
+use Prim.Native.Nat.{ℕ, _*_}
 use lib.Dec.{eqb}
 use lib.ListN.{take, drop}
 use Rattle.setup.specs.SetUp.{add, clear, enter}
 use Rattle.message.specs.WorkedCases.{board, capitalBoard, case10, case9, endAt, gate, gateway, name, openAt, openVisited, ownHost, ownRealm, routeBy, session, yard}
 use Rattle.octets.specs.Lists.{counted}
 use Rattle.octets.specs.Texts.{filled, part, same, zeros}
-use Rattle.table.specs.TheTable.{Entry, orderLine, readRow, rowBytes, rowLength}
-use Rattle.changes.specs.Changes.{withEntry}
+use Rattle.table.specs.TheTable.{Account, Entry, orderLine, rowAt, readRow, rowBytes, rowLength}
+use Rattle.changes.specs.Changes.{named, withEntry}
 use Rattle.table.specs.WorkedCases.{case8}
 use Rattle.rules.specs.Calls.{Left, handle}
 
 -- THE TABLE OF THE CASES, made by the set-up operations: one row, the subscriber with "board" (limit 2, no flags) and
 -- "yard" (limit 1, barred).
+-- The account is operator 0's, which has a share of one row.
+unfoldable pub of : (operator : ℕ) → Account
+of o = record { operator = o; name = name }
+
+unfoldable pub oneShare : List ℕ
+oneShare = 1 ∷ zeros 15
+
 unfoldable pub withLabel : List ℕ → (label : List ℕ) → (flags limit : ℕ) → List ℕ
-withLabel t label flags limit = (add t name (record { label = label; flags = flags; limit = limit })) .table
+withLabel t label flags limit = (add t (of 0) (record { label = label; flags = flags; limit = limit })) .table
 
 unfoldable pub start : List ℕ
-start = withLabel (withLabel ((enter ((clear (zeros rowLength)) .table) name) .table) board 0 2) yard 1 1
+start = withLabel (withLabel ((enter ((clear (zeros rowLength)) .table) oneShare (of 0)) .table) board 0 2) yard 1 1
 
 -- A call: the server's own names, an answer room of zeros, a notice room in which something stands (each byte once), and
 -- yes from the WAG.
 unfoldable pub noticeBefore : List ℕ
 noticeBefore = counted 0 256
 
+unfoldable pub askFrom : (operator : ℕ) → List ℕ → List ℕ → Left
+askFrom o t message =
+    handle t (record { operator = o; message = message; host = ownHost; realm = ownRealm; answer = zeros 5120; notice = noticeBefore; wag = true })
+
 unfoldable pub ask : List ℕ → List ℕ → Left
-ask t message =
-    handle t (record { message = message; host = ownHost; realm = ownRealm; answer = zeros 5120; notice = noticeBefore; wag = true })
+ask t message = askFrom 0 t message
 
 -- WHAT IS EXPECTED
 
@@ -99,7 +109,7 @@ unfoldable pub inBothCases : List ℕ
 inBothCases = rowBytes (withEntry capitalEntry (readRow start))
 
 unfoldable pub capitalOnly : List ℕ
-capitalOnly = withLabel ((enter (zeros rowLength) name) .table) capitalBoard 0 1
+capitalOnly = withLabel ((enter (zeros rowLength) oneShare (of 0)) .table) capitalBoard 0 1
 
 -- The gate's tunnel g is opened first, from a visited network, then a and b on board: g counts for the gate alone, so that
 -- b cuts nothing, and c cuts a, which is not the head of the line.
@@ -131,10 +141,52 @@ others =
     ∷ denied (ask (c .table) (endAt (session 66) board)) (c .table) 5042 2
     ∷ granted (ask (b .table) (openAt (session 66) board)) 2 (cutOf 97) (1 ∷ 3 ∷ 2 ∷ [])
     -- beside "board" it can not be added: 15; a row that has both is unsound: 5012, and 13 on adding
-    ∷ eqb ((add start name capitalEntry) .number) 15
+    ∷ eqb ((add start (of 0) capitalEntry) .number) 15
     ∷ denied (ask inBothCases (openAt (session 97) board)) inBothCases 5012 1
-    ∷ eqb ((add inBothCases name capitalEntry) .number) 13
+    ∷ eqb ((add inBothCases (of 0) capitalEntry) .number) 13
     -- it is stored as entered, and "board" is granted on it
     ∷ same (part capitalOnly 33 5) capitalBoard
     ∷ granted (ask capitalOnly (openAt (session 97) board)) 1 noCut (1 ∷ [])
+    ∷ []
+
+-- TWO OPERATORS
+
+-- Three rows, of which operator 0 may have one and operator 1 two. Both have a subscriber of the same name.
+unfoldable pub shared : List ℕ
+shared = 1 ∷ 2 ∷ zeros 14
+
+unfoldable pub both : List ℕ
+both = (enter ((enter (zeros (3 * rowLength)) shared (of 0)) .table) shared (of 1)) .table
+
+unfoldable pub other : (operator : ℕ) → Account
+other o = record { operator = o; name = 49 ∷ [] }
+
+unfoldable pub boardEntry : Entry
+boardEntry = record { label = board; flags = 0; limit = 2 }
+
+unfoldable pub operators : List Bool
+operators =
+    let served : List ℕ = (add both (of 1) boardEntry) .table in
+    let o : Left = askFrom 1 served (openAt (session 97) board) in
+    -- each has a row of its own, and what is done for one leaves that of the other
+    eqb ((enter (zeros (3 * rowLength)) shared (of 0)) .number) 0
+    ∷ same (rowAt served 0) (rowBytes (named (of 0)))
+    ∷ (eqb (o .reply .result .code) 2001 && (eqb (o .reply .result .place) 1 && (same (rowAt (o .table) 0) (rowAt both 0)
+    && same (orderLine (rowAt (o .table) 1)) (1 ∷ []))))
+    -- operator 0 has no label there, and operator 2 no account
+    ∷ denied (askFrom 0 served (openAt (session 97) board)) served 5044 2
+    ∷ denied (askFrom 2 served (openAt (session 97) board)) served 5001 2
+    -- 10: the same name once more; 27: operator 0's share is full, though a row is free, and operator 1's is not
+    ∷ eqb ((enter both shared (of 1)) .number) 10
+    ∷ eqb ((enter both shared (other 0)) .number) 27
+    ∷ eqb ((enter both shared (other 1)) .number) 0
+    -- 26: the shares come to more than the rows, or are not sixteen; 33: no operator is over 15
+    ∷ eqb ((enter both (2 ∷ 2 ∷ zeros 14) (other 1)) .number) 26
+    ∷ eqb ((enter both (1 ∷ 2 ∷ zeros 13) (other 1)) .number) 26
+    ∷ eqb ((enter both (2 ∷ 2 ∷ zeros 14) (other 16)) .number) 33
+    ∷ eqb ((add both (of 16) boardEntry) .number) 33
+    ∷ eqb ((askFrom 16 both []) .reply .result .code) 33
+    -- 33 comes before 2, and the shares are summed as whole numbers
+    ∷ eqb ((handle both (record { operator = 16; message = []; host = []; realm = []; answer = []; notice = []; wag = true })) .reply .result .code) 33
+    ∷ eqb ((enter both (1 ∷ 4294967295 ∷ zeros 14) (other 1)) .number) 26
     ∷ []

@@ -1,21 +1,23 @@
 -- The set-up operations: what each refusal and each success leaves.
 use mathlib.Core.Path.{_≡_, refl, sym, ap, _∙_}
 use mathlib.Core.Bool.{Bool, true, false, not, _&&_}
-use mathlib.Core.List.{List, [], _∷_}
-use Prim.Native.Nat.{ℕ, _+_, _-_, _/_, _%_, _≤_, _<_}
+use mathlib.Core.List.{List, [], _∷_, _++_}
+use Prim.Native.Nat.{ℕ, zero, suc, _+_, _-_, _/_, _≤_, _<_}
 use native.Mathlib.Omega.{arith}
-use borrow.Author.Tests.{eq-eqb, le-leb, le-ltb, leb-true, lt-leb, lt-ltb, ltb-true, ne-eqb}
+use borrow.Author.Tests.{eq-eqb, eqb-false, eqb-true, le-leb, le-ltb, leb-true, lt-leb, lt-ltb, ltb-true, ne-eqb, not-true}
 use lib.Dec.{eqb, leb, ltb}
-use lib.ListN.{length, getD}
+use lib.ListN.{length, getD, take}
 use Rattle.octets.specs.Choice.{firstOf, pick, require, within}
 use Rattle.octets.specs.Lists.{every, sumOf}
 use Rattle.octets.specs.Texts.{allZero, zeros}
 use Rattle.octets.proofs.Choice.{first-passes, others-pass, passed}
+use Rattle.octets.proofs.Pieces.{length-pieces}
 use Rattle.octets.proofs.Lists.{and-left, and-right, by-test, in-within, within-high, within-low}
 use Rattle.table.specs.Soundness.{entriesForm, isDigit, isName, labels, limits, sameLabel, sound}
-use Rattle.table.specs.TheTable.{Entry, Found, block, entriesRoom, firstRow, isFound, lookup, nothing, readEntries, readRow, row, rowAt, rowBytes, rowLength, rows, tableNumber, withRow}
+use Rattle.table.specs.TheTable.{Account, Entry, Found, firstNumber, ownRows, block, entriesRoom, firstRow, isFound, lookup, nothing, readEntries, readRow, row, rowAt, rowBytes, rowLength, rows, tableNumber, withRow}
 use Rattle.table.proofs.Sound.{clauses}
-use Rattle.setup.specs.SetUp.{add, addAt, clear, enter, enterNumber, entryNumber, leaving, left, withRowAt}
+use Rattle.setup.specs.SetUp.{add, addAt, clear, enter, enterNumber, entryNumber, leaving, left, share, sharesFit, withRowAt}
+use Rattle.setup.specs.Parts.{shareNumber}
 use Rattle.changes.specs.Changes.{named, withEntry}
 
 -- A NUMBER AND WHAT IT LEAVES
@@ -76,51 +78,147 @@ name-rest s lo hi = rw (in-within 1 15 (length s) lo hi)
 
 -- ENTERING
 
-module _ (t name : List ℕ) where
-  enter-refused : (n : ℕ) → enterNumber t name ≡ n → (n ≡ 0 → ⊥) → left n t ≡ enter t name
+-- one test more behind those of a list
+first-kept : (xs : List ℕ) (y n : ℕ) → firstOf xs ≡ n → (n ≡ 0 → ⊥) → firstOf (xs ++ (y ∷ [])) ≡ n
+unfolding firstOf pick
+first-kept [] y n e h = absurd (h (sym e))
+first-kept (x ∷ xs) y n e h = by-test (eqb x 0) (λ z. rw z (first-kept xs y n (rw z at e) h)) (λ z. rw z (rw z at e))
+
+first-left : (xs : List ℕ) (y : ℕ) → firstOf xs ≡ 0 → firstOf (xs ++ (y ∷ [])) ≡ firstOf (y ∷ [])
+unfolding firstOf pick
+first-left [] y e = refl
+first-left (x ∷ xs) y e =
+    by-test (eqb x 0)
+    (λ z. rw z (first-left xs y (rw z at e)))
+    (λ z. absurd (eqb-false x 0 z (rw z at e)))
+
+module _ (t shares : List ℕ) (a : Account) where
+  -- the numbers before 11, in order
+  abbrev unheld : Bool
+  unheld = not (isFound (lookup t a))
+
+  abbrev roomLeft : Bool
+  roomLeft = ltb (length (ownRows (a .operator) t)) (share (a .operator) shares)
+
+  pub share-first : (n : ℕ) → n ≡ firstNumber t (a .operator) → (n ≡ 0 → ⊥) → n ≡ shareNumber t shares a
+  unfolding shareNumber
+  share-first n e h = e ∙ sym (fails-first (firstNumber t (a .operator)) _ (λ z. h (e ∙ z)))
+
+  after-33 : firstNumber t (a .operator) ≡ 0
+      → shareNumber t shares a ≡ firstOf (require (sharesFit t shares) 26 ∷ require (isName (a .name)) 9 ∷ require unheld 10 ∷ require roomLeft 27 ∷ [])
+  unfolding shareNumber
+  after-33 h = passes-first (firstNumber t (a .operator)) _ h
+
+  pub share-26 : firstNumber t (a .operator) ≡ 0 → sharesFit t shares ≡ false → 26 ≡ shareNumber t shares a
+  share-26 h f = sym (after-33 h ∙ failed (sharesFit t shares) 26 _ f (omega arith))
+
+  after-26 : firstNumber t (a .operator) ≡ 0 → sharesFit t shares ≡ true
+      → shareNumber t shares a ≡ firstOf (require (isName (a .name)) 9 ∷ require unheld 10 ∷ require roomLeft 27 ∷ [])
+  after-26 h f = after-33 h ∙ passed-on (sharesFit t shares) 26 _ f
+
+  pub share-9 : firstNumber t (a .operator) ≡ 0 → sharesFit t shares ≡ true → isName (a .name) ≡ false → 9 ≡ shareNumber t shares a
+  share-9 h f m = sym (after-26 h f ∙ failed (isName (a .name)) 9 _ m (omega arith))
+
+  after-9 : firstNumber t (a .operator) ≡ 0 → sharesFit t shares ≡ true → isName (a .name) ≡ true
+      → shareNumber t shares a ≡ firstOf (require unheld 10 ∷ require roomLeft 27 ∷ [])
+  after-9 h f m = after-26 h f ∙ passed-on (isName (a .name)) 9 _ m
+
+  pub share-10 : (i : ℕ) → firstNumber t (a .operator) ≡ 0 → sharesFit t shares ≡ true → isName (a .name) ≡ true → lookup t a ≡ row i → 10 ≡ shareNumber t shares a
+  unfolding isFound
+  share-10 i h f m l = sym (after-9 h f m ∙ failed unheld 10 _ (ap (λ (x : Found). not (isFound x)) l) (omega arith))
+
+  after-10 : firstNumber t (a .operator) ≡ 0 → sharesFit t shares ≡ true → isName (a .name) ≡ true → lookup t a ≡ nothing
+      → shareNumber t shares a ≡ firstOf (require roomLeft 27 ∷ [])
+  unfolding isFound
+  after-10 h f m l = after-9 h f m ∙ passed-on unheld 10 _ (ap (λ (x : Found). not (isFound x)) l)
+
+  pub share-27 : firstNumber t (a .operator) ≡ 0 → sharesFit t shares ≡ true → isName (a .name) ≡ true → lookup t a ≡ nothing
+      → share (a .operator) shares ≤ length (ownRows (a .operator) t) → 27 ≡ shareNumber t shares a
+  share-27 h f m l r = sym (after-10 h f m l ∙ failed roomLeft 27 [] (le-ltb (length (ownRows (a .operator) t)) (share (a .operator) shares) r) (omega arith))
+
+  pub share-0 : firstNumber t (a .operator) ≡ 0 → sharesFit t shares ≡ true → isName (a .name) ≡ true → lookup t a ≡ nothing
+      → length (ownRows (a .operator) t) < share (a .operator) shares → 0 ≡ shareNumber t shares a
+  share-0 h f m l r =
+      sym (after-10 h f m l ∙ passed-on roomLeft 27 [] (lt-ltb (length (ownRows (a .operator) t)) (share (a .operator) shares) r) ∙ none-failed)
+
+  -- and 11
+  enter-refused : (n : ℕ) → enterNumber t shares a ≡ n → (n ≡ 0 → ⊥) → left n t ≡ enter t shares a
   unfolding enter
   enter-refused n e h =
-      ap (λ (i : ℕ). left i t) (sym e) ∙ refused (enterNumber t name) t (withRowAt (firstRow allZero (rows t)) t (rowBytes (named name))) (λ z. h (sym e ∙ z))
+      ap (λ (i : ℕ). left i t) (sym e)
+      ∙ refused (enterNumber t shares a) t (withRowAt (firstRow allZero (rows t)) t (rowBytes (named a))) (λ z. h (sym e ∙ z))
 
-  pub enter-1 : (n : ℕ) → n ≡ tableNumber t → (n ≡ 0 → ⊥) → left n t ≡ enter t name
-  unfolding enterNumber
-  enter-1 n e h = enter-refused n (fails-first (tableNumber t) _ (λ z. h (e ∙ z)) ∙ sym e) h
+  pub enter-early : (n : ℕ) → n ≡ shareNumber t shares a → (n ≡ 0 → ⊥) → left n t ≡ enter t shares a
+  unfolding shareNumber enterNumber
+  enter-early n e h =
+      enter-refused n (first-kept (firstNumber t (a .operator) ∷ require (sharesFit t shares) 26 ∷ require (isName (a .name)) 9 ∷ require unheld 10 ∷ require roomLeft 27 ∷ []) (require (isFound (firstRow allZero (rows t))) 11) n (sym e) h) h
 
-  -- behind number 1
-  after-1 : tableNumber t ≡ 0
-      → enterNumber t name ≡ firstOf (require (isName name) 9 ∷ require (not (isFound (lookup t name))) 10 ∷ require (isFound (firstRow allZero (rows t))) 11 ∷ [])
-  unfolding enterNumber
-  after-1 h = passes-first (tableNumber t) _ h
+  to-11 : shareNumber t shares a ≡ 0 → enterNumber t shares a ≡ firstOf (require (isFound (firstRow allZero (rows t))) 11 ∷ [])
+  unfolding shareNumber enterNumber
+  to-11 e =
+      first-left (firstNumber t (a .operator) ∷ require (sharesFit t shares) 26 ∷ require (isName (a .name)) 9 ∷ require unheld 10 ∷ require roomLeft 27 ∷ []) (require (isFound (firstRow allZero (rows t))) 11) e
 
-  after-9 : tableNumber t ≡ 0 → isName name ≡ true
-      → enterNumber t name ≡ firstOf (require (not (isFound (lookup t name))) 10 ∷ require (isFound (firstRow allZero (rows t))) 11 ∷ [])
-  after-9 h m = after-1 h ∙ passed-on (isName name) 9 _ m
-
-  after-10 : tableNumber t ≡ 0 → isName name ≡ true → lookup t name ≡ nothing → enterNumber t name ≡ firstOf (require (isFound (firstRow allZero (rows t))) 11 ∷ [])
+  pub enter-11 : shareNumber t shares a ≡ 0 → firstRow allZero (rows t) ≡ nothing → left 11 t ≡ enter t shares a
   unfolding isFound
-  after-10 h m l = after-9 h m ∙ passed-on (not (isFound (lookup t name))) 10 _ (ap (λ (f : Found). not (isFound f)) l)
+  enter-11 h z = enter-refused 11 (to-11 h ∙ failed (isFound (firstRow allZero (rows t))) 11 [] (ap isFound z) (omega arith)) (λ e. omega arith)
 
-  pub enter-9 : tableNumber t ≡ 0 → isName name ≡ false → left 9 t ≡ enter t name
-  enter-9 h m = enter-refused 9 (after-1 h ∙ failed (isName name) 9 _ m (omega arith)) (λ z. omega arith)
-
-  pub enter-10 : (i : ℕ) → tableNumber t ≡ 0 → isName name ≡ true → lookup t name ≡ row i → left 10 t ≡ enter t name
-  unfolding isFound
-  enter-10 i h m l =
-      enter-refused 10 (after-9 h m ∙ failed (not (isFound (lookup t name))) 10 _ (ap (λ (f : Found). not (isFound f)) l) (omega arith)) (λ z. omega arith)
-
-  pub enter-11 : tableNumber t ≡ 0 → isName name ≡ true → lookup t name ≡ nothing → firstRow allZero (rows t) ≡ nothing → left 11 t ≡ enter t name
-  unfolding isFound
-  enter-11 h m l z =
-      enter-refused 11 (after-10 h m l ∙ failed (isFound (firstRow allZero (rows t))) 11 [] (ap isFound z) (omega arith)) (λ e. omega arith)
-
-  pub enter-done : (i : ℕ) (after : List ℕ) → tableNumber t ≡ 0 → isName name ≡ true → lookup t name ≡ nothing → firstRow allZero (rows t) ≡ row i
-      → after ≡ withRow t i (rowBytes (named name)) → left 0 after ≡ enter t name
+  pub enter-done : (i : ℕ) (after : List ℕ) → shareNumber t shares a ≡ 0 → firstRow allZero (rows t) ≡ row i
+      → after ≡ withRow t i (rowBytes (named a)) → left 0 after ≡ enter t shares a
   unfolding isFound enter withRowAt
-  enter-done i after h m l z e =
-      let n : enterNumber t name ≡ 0 = after-10 h m l ∙ passed-on (isFound (firstRow allZero (rows t))) 11 [] (ap isFound z) ∙ none-failed in
+  enter-done i after h z e =
+      let n : enterNumber t shares a ≡ 0 = to-11 h ∙ passed-on (isFound (firstRow allZero (rows t))) 11 [] (ap isFound z) ∙ none-failed in
       ap (left 0) e
-      ∙ ap (λ (f : Found). left 0 (withRowAt f t (rowBytes (named name)))) (sym z)
-      ∙ done (enterNumber t name) t (withRowAt (firstRow allZero (rows t)) t (rowBytes (named name))) n
+      ∙ ap (λ (f : Found). left 0 (withRowAt f t (rowBytes (named a)))) (sym z)
+      ∙ done (enterNumber t shares a) t (withRowAt (firstRow allZero (rows t)) t (rowBytes (named a))) n
+
+-- where no test of entering fails before 11, all passed
+pub record MayEnterRow (t shares : List ℕ) (a : Account) : Type 0 where
+  pub first : firstNumber t (a .operator) ≡ 0
+  pub shares-fit : sharesFit t shares ≡ true
+  pub name-fits : isName (a .name) ≡ true
+  pub unheld-yet : isFound (lookup t a) ≡ false
+  pub room-left : length (ownRows (a .operator) t) < share (a .operator) shares
+
+pub share-passed : (t shares : List ℕ) (a : Account) → shareNumber t shares a ≡ 0 → MayEnterRow t shares a
+unfolding shareNumber
+share-passed t shares a h =
+    let h1 = others-pass (firstNumber t (a .operator)) _ h in
+    let h2 = others-pass (require (sharesFit t shares) 26) _ h1 in
+    let h3 = others-pass (require (isName (a .name)) 9) _ h2 in
+    let h4 = others-pass (require (not (isFound (lookup t a))) 10) _ h3 in
+    record {
+      first = first-passes _ _ h;
+      shares-fit = passed (sharesFit t shares) 26 (omega arith) (first-passes _ _ h1);
+      name-fits = passed (isName (a .name)) 9 (omega arith) (first-passes _ _ h2);
+      unheld-yet = not-true (isFound (lookup t a)) (passed (not (isFound (lookup t a))) 10 (omega arith) (first-passes _ _ h3));
+      room-left = ltb-true (length (ownRows (a .operator) t)) (share (a .operator) shares) (passed _ 27 (omega arith) (first-passes _ _ h4));
+    }
+
+-- the shares
+pub shares-few : (t shares : List ℕ) → (length shares ≡ 16 → ⊥) → false ≡ sharesFit t shares
+unfolding sharesFit
+shares-few t shares h = sym (rw (ne-eqb (length shares) 16 h))
+
+pub shares-sum-said : (t shares : List ℕ) (sum : ℕ) → length shares ≡ 16 → sum ≡ sumOf shares → leb sum (length t / rowLength) ≡ sharesFit t shares
+unfolding sharesFit rows
+shares-sum-said t shares sum h e = rw (e, eq-eqb (length shares) 16 h, length-pieces rowLength (length t / rowLength) t)
+
+pub shares-sixteen : (t shares : List ℕ) → sharesFit t shares ≡ true → length shares ≡ 16
+unfolding sharesFit
+shares-sixteen t shares h = eqb-true (length shares) 16 (and-left (eqb (length shares) 16) _ h)
+
+-- the sum, share by share
+pub sum-none : (s : List ℕ) → sumOf (take 0 s) ≡ 0
+unfolding sumOf
+sum-none s = refl
+
+pub sum-step : (s : List ℕ) (i : ℕ) → i < length s → sumOf (take (i + 1) s) ≡ sumOf (take i s) + getD s i 0
+unfolding sumOf
+sum-step [] i h = absurd (omega arith)
+sum-step (x ∷ s) zero h = omega arith
+sum-step (x ∷ s) (suc i) h =
+    let q : suc i + 1 ≡ suc (i + 1) = omega arith in
+    rw q (omega (arith, sum-step s i (omega arith)))
 
 -- WHAT AN ENTRY IS GIVEN
 
@@ -225,41 +323,32 @@ label-fits e g = within-high 1 100 (length (e .label)) (and-left (within 1 100 (
 
 -- ADDING A W-APN TO A TABLE
 
-one-or : (b : Bool) → (require b 1 ≡ 0 → ⊥) → require b 1 ≡ 1
-unfolding require
-one-or true h = absurd (h refl)
-one-or false h = refl
+module _ (t : List ℕ) (a : Account) (e : Entry) where
+  pub add-first : (n : ℕ) → n ≡ firstNumber t (a .operator) → (n ≡ 0 → ⊥) → left n t ≡ add t a e
+  unfolding add pick
+  add-first n q h =
+      ap (λ (i : ℕ). left i t) q
+      ∙ refused (firstNumber t (a .operator)) t t (λ z. h (q ∙ z))
+      ∙ sym (rw (ne-eqb (firstNumber t (a .operator)) 0 (λ z. h (q ∙ z))))
 
-number-one : (t : List ℕ) → (tableNumber t ≡ 0 → ⊥) → tableNumber t ≡ 1
-unfolding tableNumber require
-number-one t h = one-or (eqb (length t % rowLength) 0 && within 1 1024 (length t / rowLength)) h
-
-module _ (t name : List ℕ) (e : Entry) where
-  pub add-1 : (n : ℕ) → n ≡ tableNumber t → (n ≡ 0 → ⊥) → left n t ≡ add t name e
-  unfolding add leaving pick
-  add-1 n q h =
-      let w : tableNumber t ≡ 1 = number-one t (λ z. h (q ∙ z)) in
-      let v : n ≡ 1 = q ∙ w in
-      rw (v, w)
-
-  to-row : tableNumber t ≡ 0 → addAt (lookup t name) t e ≡ add t name e
+  to-row : firstNumber t (a .operator) ≡ 0 → addAt (lookup t a) t e ≡ add t a e
   unfolding add pick
   to-row h = rw h
 
-  pub add-12 : tableNumber t ≡ 0 → lookup t name ≡ nothing → left 12 t ≡ add t name e
+  pub add-12 : firstNumber t (a .operator) ≡ 0 → lookup t a ≡ nothing → left 12 t ≡ add t a e
   unfolding addAt
   add-12 h l = refused 12 t t (λ z. omega arith) ∙ ap (λ (f : Found). addAt f t e) (sym l) ∙ to-row h
 
-  pub add-refused : (i n : ℕ) → tableNumber t ≡ 0 → lookup t name ≡ row i → n ≡ entryNumber (rowAt t i) e → (n ≡ 0 → ⊥) → left n t ≡ add t name e
+  pub add-refused : (i n : ℕ) → firstNumber t (a .operator) ≡ 0 → lookup t a ≡ row i → n ≡ entryNumber (rowAt t i) e → (n ≡ 0 → ⊥) → left n t ≡ add t a e
   unfolding addAt
   add-refused i n h l q z =
       let said : left n t ≡ addAt (row i) t e =
       ap (λ (m : ℕ). left m t) q ∙ refused (entryNumber (rowAt t i) e) t _ (λ y. z (q ∙ y)) in
       said ∙ ap (λ (f : Found). addAt f t e) (sym l) ∙ to-row h
 
-  pub add-done : (i n : ℕ) (after : List ℕ) → tableNumber t ≡ 0 → lookup t name ≡ row i → n ≡ entryNumber (rowAt t i) e → n ≡ 0
-      → after ≡ withRow t i (rowBytes (withEntry e (readRow (rowAt t i)))) → left 0 after ≡ add t name e
+  pub add-done : (i n : ℕ) (after : List ℕ) → firstNumber t (a .operator) ≡ 0 → lookup t a ≡ row i → n ≡ entryNumber (rowAt t i) e → n ≡ 0
+      → after ≡ withRow t i (rowBytes (withEntry e (readRow (rowAt t i)))) → left 0 after ≡ add t a e
   unfolding addAt
-  add-done i n after h l q z a =
-      let said : left 0 after ≡ addAt (row i) t e = ap (left 0) a ∙ done (entryNumber (rowAt t i) e) t _ (sym q ∙ z) in
+  add-done i n after h l q z b =
+      let said : left 0 after ≡ addAt (row i) t e = ap (left 0) b ∙ done (entryNumber (rowAt t i) e) t _ (sym q ∙ z) in
       said ∙ ap (λ (f : Found). addAt f t e) (sym l) ∙ to-row h

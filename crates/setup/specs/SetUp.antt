@@ -1,14 +1,14 @@
 -- Set-up: a table is cleared, a subscriber enters it, a subscriber gets one more access point name (W-APN).
-use mathlib.Core.Bool.{_&&_, not}
+use mathlib.Core.Bool.{Bool, _&&_, not}
 use mathlib.Core.List.{List, [], _∷_}
 use Prim.Native.Nat.{ℕ, _+_}
 use lib.Dec.{eqb, leb, ltb}
-use lib.ListN.{length}
+use lib.ListN.{length, getD}
 use Rattle.octets.specs.Choice.{firstOf, pick, require, within}
 use Rattle.octets.specs.Lists.{every, sumOf}
 use Rattle.octets.specs.Texts.{allZero, zeros}
 use Rattle.table.specs.Soundness.{isName, labels, limits, sameLabel, sound}
-use Rattle.table.specs.TheTable.{Entry, Found, firstRow, isFound, lookup, nothing, readRow, row, rowAt, rowBytes, rows, tableNumber, withRow}
+use Rattle.table.specs.TheTable.{Account, Entry, Found, firstNumber, firstRow, isFound, lookup, nothing, ownRows, readRow, row, rowAt, rowBytes, rows, tableNumber, withRow}
 use Rattle.changes.specs.Changes.{named, withEntry}
 
 -- What a set-up operation leaves: its number, 0 on success, and the table. A refusal changes nothing.
@@ -26,14 +26,23 @@ clear t = leaving (tableNumber t) t (zeros (length t))
 
 -- ENTERING
 
--- In order: 1; 9, the name is not 1 to 15 digits; 10, the name is held, by a row that the lookup finds; 11, no row is
--- wholly zero.
-unfoldable pub enterNumber : (t name : List ℕ) → ℕ
-enterNumber t name =
+-- The shares of the operators: sixteen numbers, which come to no more than the table's rows.
+unfoldable pub sharesFit : (t shares : List ℕ) → Bool
+sharesFit t shares = eqb (length shares) 16 && leb (sumOf shares) (length (rows t))
+
+unfoldable pub share : (operator : ℕ) → (shares : List ℕ) → ℕ
+share o shares = getD shares o 0
+
+-- In order: 1; 33; 26, the shares are not sixteen or come to too much; 9, the name is not 1 to 15 digits; 10, the name is held with
+-- this operator, by a row that the lookup finds; 27, the operator's own rows fill its share; 11, no row is wholly zero.
+unfoldable pub enterNumber : (t shares : List ℕ) → Account → ℕ
+enterNumber t shares a =
     firstOf
-    (tableNumber t
-    ∷ require (isName name) 9
-    ∷ require (not (isFound (lookup t name))) 10
+    (firstNumber t (a .operator)
+    ∷ require (sharesFit t shares) 26
+    ∷ require (isName (a .name)) 9
+    ∷ require (not (isFound (lookup t a))) 10
+    ∷ require (ltb (length (ownRows (a .operator) t)) (share (a .operator) shares)) 27
     ∷ require (isFound (firstRow allZero (rows t))) 11
     ∷ [])
 
@@ -42,8 +51,8 @@ withRowAt (row i) t r = withRow t i r
 withRowAt nothing t r = t
 
 -- It takes the first wholly zero row.
-unfoldable pub enter : (t name : List ℕ) → SetUp
-enter t name = leaving (enterNumber t name) t (withRowAt (firstRow allZero (rows t)) t (rowBytes (named name)))
+unfoldable pub enter : (t shares : List ℕ) → Account → SetUp
+enter t shares a = leaving (enterNumber t shares a) t (withRowAt (firstRow allZero (rows t)) t (rowBytes (named a)))
 
 -- ADDING A W-APN
 
@@ -65,8 +74,9 @@ unfoldable pub addAt : Found → (t : List ℕ) → Entry → SetUp
 addAt nothing t e = leaving 12 t t
 addAt (row i) t e = leaving (entryNumber (rowAt t i) e) t (withRow t i (rowBytes (withEntry e (readRow (rowAt t i)))))
 
-unfoldable pub add : (t name : List ℕ) → Entry → SetUp
-add t name e = pick (eqb (tableNumber t) 0) (addAt (lookup t name) t e) (leaving 1 t t)
+-- 1 and 33 come first.
+unfoldable pub add : (t : List ℕ) → Account → Entry → SetUp
+add t a e = pick (eqb (firstNumber t (a .operator)) 0) (addAt (lookup t a) t e) (leaving (firstNumber t (a .operator)) t t)
 
 -- A number and a table, as an operation leaves them.
 abbrev pub left : ℕ → List ℕ → SetUp

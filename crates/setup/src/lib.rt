@@ -7,10 +7,11 @@ ghost use lib.Dec.{leb};
 ghost use Prim.Native.Nat.{_+_, _-_, _*_, _≤_, _<_};
 ghost use lib.ListN.{length};
 ghost use Rattle.octets.specs.Choice.{within};
-ghost use Rattle.octets.specs.Lists.{every};
+ghost use Rattle.octets.specs.Lists.{every, sumOf};
 ghost use Rattle.table.specs.TheTable.{readEntries, readRow, rowAt, rowBytes, rowLength, withRow};
 ghost use Rattle.table.specs.Soundness.{entriesForm, isName, labels, sameLabel, sound};
-ghost use Rattle.setup.specs.SetUp.{add, clear, enter, entryNumber, left};
+ghost use Rattle.setup.specs.SetUp.{add, clear, enter, entryNumber, left, sharesFit};
+ghost use Rattle.setup.specs.Parts.{shareNumber};
 ghost use Rattle.changes.specs.Changes.{named, withEntry};
 
 // Every byte zero.
@@ -39,33 +40,82 @@ fn is_name(name: &[u8]) -> bool
 }
 
 // Row i is that of a new subscriber.
-fn enter_row(table: &mut [u8], i: usize, name: &[u8])
+fn enter_row(table: &mut [u8], i: usize, op: u8, name: &[u8])
     requires { ⌜ (rowLength * i + rowLength ≤ length (now table)) × (length (now name) ≤ 15) ⌝ }
-    ensures { λ _. ⌜ now (table .exit) ≡ withRow (now (table .entry)) i (rowBytes (named (now (name .entry)))) ⌝ }
+    ensures { λ _. ⌜ now (table .exit) ≡ withRow (now (table .entry)) i (rowBytes (named (record { operator = op; name = now (name .entry) }))) ⌝ }
 {
     let a = table::ROW_LENGTH * i;
     let e = a + table::ROW_LENGTH;
-    changes::new_row(&mut table[a..e], name);
+    changes::new_row(&mut table[a..e], op, name);
 }
 
-// A new subscriber takes the first wholly zero row.
-pub fn enter(table: &mut [u8], name: &[u8]) -> u32
-    ensures { λ r. ⌜ left r (now (table .exit)) ≡ enter (now (table .entry)) (now (name .entry)) ⌝ }
+// A share in 64 bits.
+fn whole(x: u32) -> u64
+    ensures { λ r. ⌜ (r ≡ x) × (r < 4294967296) ⌝ }
 {
-    let n = table::table_number(table);
+    x as u64
+}
+
+// The sum of sixteen shares, which 64 bits hold.
+fn shares_sum(shares: &[u32]) -> u64
+    requires { ⌜ length (now shares) ≡ 16 ⌝ }
+    ensures { λ r. ⌜ r ≡ sumOf (now (shares .entry)) ⌝ }
+{
+    let mut sum: u64 = 0;
+    let mut i: usize = 0;
+    while i < 16 {
+        sum += whole(shares[i]);
+        i += 1;
+    }
+    sum
+}
+
+// Sixteen shares, which come to no more than the table's rows.
+fn shares_fit(table: &[u8], shares: &[u32]) -> bool
+    ensures { λ r. ⌜ r ≡ sharesFit (now (table .entry)) (now (shares .entry)) ⌝ }
+{
+    if shares.len() != 16 {
+        return false;
+    }
+    let count = table.len() / table::ROW_LENGTH;
+    shares_sum(shares) <= count as u64
+}
+
+// The first number that an entering is refused with, but for a table that is full; 0 where there is none.
+fn enter_number(table: &[u8], op: u32, shares: &[u32], name: &[u8]) -> u32
+    ensures { λ r. ⌜ r ≡ shareNumber (now (table .entry)) (now (shares .entry)) (record { operator = op; name = now (name .entry) }) ⌝ }
+{
+    let n = table::number_for(table, op);
     if n != 0 {
         return n;
+    }
+    if !shares_fit(table, shares) {
+        return 26;
     }
     if !is_name(name) {
         return 9;
     }
-    let RowFound::Nothing = table::lookup(table, name) else {
+    let RowFound::Nothing = table::lookup(table, op, name) else {
         return 10;
     };
+    if shares[op as usize] <= table::own_rows(table, op) {
+        return 27;
+    }
+    0
+}
+
+// A new subscriber of an operator takes the first wholly zero row.
+pub fn enter(table: &mut [u8], op: u32, shares: &[u32], name: &[u8]) -> u32
+    ensures { λ r. ⌜ left r (now (table .exit)) ≡ enter (now (table .entry)) (now (shares .entry)) (record { operator = op; name = now (name .entry) }) ⌝ }
+{
+    let n = enter_number(table, op, shares, name);
+    if n != 0 {
+        return n;
+    }
     let RowFound::At(i) = table::first_zero_row(table) else {
         return 11;
     };
-    enter_row(table, i, name);
+    enter_row(table, i, op as u8, name);
     0
 }
 
@@ -149,15 +199,15 @@ fn entry_number(row: &[u8], label: &[u8], limit: u8, flags: u8) -> u32
 }
 
 // A W-APN for a subscriber.
-pub fn add(table: &mut [u8], name: &[u8], label: &[u8], limit: u8, flags: u8) -> u32
+pub fn add(table: &mut [u8], op: u32, name: &[u8], label: &[u8], limit: u8, flags: u8) -> u32
     ensures { λ r. ⌜ left r (now (table .exit))
-        ≡ add (now (table .entry)) (now (name .entry)) (record { label = now (label .entry); flags = flags; limit = limit }) ⌝ }
+        ≡ add (now (table .entry)) (record { operator = op; name = now (name .entry) }) (record { label = now (label .entry); flags = flags; limit = limit }) ⌝ }
 {
-    let n = table::table_number(table);
+    let n = table::number_for(table, op);
     if n != 0 {
         return n;
     }
-    let RowFound::At(i) = table::lookup(table, name) else {
+    let RowFound::At(i) = table::lookup(table, op, name) else {
         return 12;
     };
     let a = table::ROW_LENGTH * i;

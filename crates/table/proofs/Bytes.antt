@@ -202,13 +202,13 @@ row-places s (k ∷ ks) h =
 front : Subscriber → List ℕ → List ℕ
 front s t =
     1 ∷ length (s .name) ∷ filled (s .name) 15
-    ++ (usedBits (line (s .accesses)) ∷ length (s .entries) ∷ 0 ∷ filled (line (s .accesses)) 8
+    ++ (usedBits (line (s .accesses)) ∷ length (s .entries) ∷ s .operator ∷ filled (line (s .accesses)) 8
     ++ (zeros 4 ++ (filled (entriesBytes (s .entries)) 416 ++ t)))
 
 rest : Subscriber → List ℕ
 rest s =
     zeros 62 ++ sumsFrom 0 0 (1 ∷ length (s .name) ∷ filled (s .name) 15
-    ++ (usedBits (line (s .accesses)) ∷ length (s .entries) ∷ 0 ∷ filled (line (s .accesses)) 8
+    ++ (usedBits (line (s .accesses)) ∷ length (s .entries) ∷ s .operator ∷ filled (line (s .accesses)) 8
     ++ (zeros 4 ++ (filled (entriesBytes (s .entries)) 416 ++ zeros 62))))
 
 row-front : (s : Subscriber) → block (rowBytes s) 0 ≡ front s (rest s)
@@ -222,6 +222,10 @@ front-name s t h = text-in (s .name) 15 _ h
 front-count : (s : Subscriber) (t : List ℕ) → getD (front s t) 18 0 ≡ length (s .entries)
 unfolding front
 front-count s t = getD-past 15 1 (filled (s .name) 15) _ (length-filled _ 15)
+
+front-operator : (s : Subscriber) (t : List ℕ) → getD (front s t) 19 0 ≡ s .operator
+unfolding front
+front-operator s t = getD-past 15 2 (filled (s .name) 15) _ (length-filled _ 15)
 
 front-line : (s : Subscriber) (t : List ℕ) → part (front s t) 20 8 ≡ filled (line (s .accesses)) 8
 unfolding front
@@ -257,6 +261,7 @@ read-row s g =
     let on : every (within 1 8) (line (s .accesses)) ≡ true = each-place _ (s .accesses) (f .each) in
     let e4 : length (entriesBytes (s .entries)) ≤ 416 = omega (arith, length-entries (s .entries), leb-true (length (s .entries)) 4 (e .four)) in
     let name : part (block (rowBytes s) 0) 2 (getD (block (rowBytes s) 0) 1 0) ≡ s .name = rw (row-front s) (front-name s (rest s) (name-length _ (g .name-good))) in
+    let operator : getD (block (rowBytes s) 0) 19 0 ≡ s .operator = rw (row-front s) (front-operator s (rest s)) in
     let count : getD (block (rowBytes s) 0) 18 0 ≡ length (s .entries) = rw (row-front s) (front-count s (rest s)) in
     let room : part (block (rowBytes s) 0) 32 416 ≡ entriesBytes (s .entries) ++ take (416 - length (entriesBytes (s .entries))) (zeros 416) =
     rw (row-front s, front-entries s (rest s), fill (entriesBytes (s .entries)) 416 e4) in
@@ -265,7 +270,7 @@ read-row s g =
     rw (row-front s, front-line s (rest s), fill (line (s .accesses)) 8 a8) (up-to (line (s .accesses)) (8 - length (line (s .accesses))) 8 on) in
     let accesses : map (λ (k : ℕ). readAccess k (block (rowBytes s) k)) (upTo0 (part (block (rowBytes s) 0) 20 8)) ≡ s .accesses =
     rw order (row-places s (line (s .accesses)) on ∙ read-places _ (s .accesses) (f .each) (f .places-once)) in
-    λ i. record { name = name i; entries = entries i; accesses = accesses i }
+    λ i. record { operator = operator i; name = name i; entries = entries i; accesses = accesses i }
 
 -- the row of a good subscriber is sound in the form that the theorems use, `saidSound`
 pub said-row : (s : Subscriber) → Good s → saidSound (rowBytes s) ≡ true

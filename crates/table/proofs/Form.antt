@@ -287,8 +287,8 @@ entry-forms (suc n) (suc m) t h le g =
 unfoldable pub headTests : List ℕ → Bool
 headTests b =
     let l : List ℕ = part b 20 8 in
-    eqb (getD b 0 0) 1 && (zeroBehind (getD b 1 0) (part b 2 15) && (eqb (getD b 17 0) (usedBits (upTo0 l)) && (eqb (getD b 19 0) 0
-    && (zeroBehind (length (upTo0 l)) l && (allZero (part b 28 4) && (entriesTests (getD b 18 0) (part b 32 416) && (allZero (part b 448 62) && sumOk b)))))))
+    eqb (getD b 0 0) 1 && (zeroBehind (getD b 1 0) (part b 2 15) && (eqb (getD b 17 0) (usedBits (upTo0 l))
+    && (zeroBehind (length (upTo0 l)) l && (allZero (part b 28 4) && (entriesTests (getD b 18 0) (part b 32 416) && (allZero (part b 448 62) && sumOk b))))))
 
 pub up-to-part : (l : List ℕ) → upTo0 l ≡ take (length (upTo0 l)) l
 unfolding upTo0 pick
@@ -300,20 +300,20 @@ unfolding upTo0 pick
 up-to-length [] = omega arith
 up-to-length (x ∷ l) = by-test (eqb x 0) (λ e. rw e (omega arith)) (λ e. rw e (omega (arith, up-to-length l)))
 
-same-head : (b : List ℕ) (n bits c : ℕ) (nm l es : List ℕ) → length b ≡ 512
-    → same (take 510 b) (1 ∷ n ∷ filled nm 15 ++ (bits ∷ c ∷ 0 ∷ filled l 8 ++ (zeros 4 ++ (filled es 416 ++ zeros 62))))
-    ≡ eqb (getD b 0 0) 1 && (eqb (getD b 1 0) n && (same (part b 2 15) (filled nm 15) && (eqb (getD b 17 0) bits && (eqb (getD b 18 0) c && (eqb (getD b 19 0) 0
+same-head : (b : List ℕ) (n bits c o : ℕ) (nm l es : List ℕ) → length b ≡ 512
+    → same (take 510 b) (1 ∷ n ∷ filled nm 15 ++ (bits ∷ c ∷ o ∷ filled l 8 ++ (zeros 4 ++ (filled es 416 ++ zeros 62))))
+    ≡ eqb (getD b 0 0) 1 && (eqb (getD b 1 0) n && (same (part b 2 15) (filled nm 15) && (eqb (getD b 17 0) bits && (eqb (getD b 18 0) c && (eqb (getD b 19 0) o
     && (same (part b 20 8) (filled l 8) && (same (part b 28 4) (zeros 4) && (same (part b 32 416) (filled es 416) && same (part b 448 62) (zeros 62)))))))))
-same-head b n bits c nm l es lb =
+same-head b n bits c o nm l es lb =
     let t : List ℕ = take 510 b in
     rw (
-      same-at b 0 1 (n ∷ filled nm 15 ++ (bits ∷ c ∷ 0 ∷ filled l 8 ++ (zeros 4 ++ (filled es 416 ++ zeros 62)))) lb (omega arith),
-      same-at b 1 n (filled nm 15 ++ (bits ∷ c ∷ 0 ∷ filled l 8 ++ (zeros 4 ++ (filled es 416 ++ zeros 62)))) lb (omega arith),
-      same-past 15 (filled nm 15) (bits ∷ c ∷ 0 ∷ filled l 8 ++ (zeros 4 ++ (filled es 416 ++ zeros 62))) (drop 2 (take 510 b)) (length-filled nm 15),
+      same-at b 0 1 (n ∷ filled nm 15 ++ (bits ∷ c ∷ o ∷ filled l 8 ++ (zeros 4 ++ (filled es 416 ++ zeros 62)))) lb (omega arith),
+      same-at b 1 n (filled nm 15 ++ (bits ∷ c ∷ o ∷ filled l 8 ++ (zeros 4 ++ (filled es 416 ++ zeros 62)))) lb (omega arith),
+      same-past 15 (filled nm 15) (bits ∷ c ∷ o ∷ filled l 8 ++ (zeros 4 ++ (filled es 416 ++ zeros 62))) (drop 2 (take 510 b)) (length-filled nm 15),
       drop-drop 15 2 (take 510 b),
-      same-at b 17 bits (c ∷ 0 ∷ filled l 8 ++ (zeros 4 ++ (filled es 416 ++ zeros 62))) lb (omega arith),
-      same-at b 18 c (0 ∷ filled l 8 ++ (zeros 4 ++ (filled es 416 ++ zeros 62))) lb (omega arith),
-      same-at b 19 0 (filled l 8 ++ (zeros 4 ++ (filled es 416 ++ zeros 62))) lb (omega arith),
+      same-at b 17 bits (c ∷ o ∷ filled l 8 ++ (zeros 4 ++ (filled es 416 ++ zeros 62))) lb (omega arith),
+      same-at b 18 c (o ∷ filled l 8 ++ (zeros 4 ++ (filled es 416 ++ zeros 62))) lb (omega arith),
+      same-at b 19 o (filled l 8 ++ (zeros 4 ++ (filled es 416 ++ zeros 62))) lb (omega arith),
       same-past 8 (filled l 8) (zeros 4 ++ (filled es 416 ++ zeros 62)) (drop 20 (take 510 b)) (length-filled l 8),
       drop-drop 8 20 (take 510 b),
       same-past 4 (zeros 4) (filled es 416 ++ zeros 62) (drop 28 (take 510 b)) (length-zeros 4),
@@ -342,7 +342,7 @@ room-line t h =
     ap (λ (l : List ℕ). same t (filled l 8)) (up-to-part t) ∙ same-room t 8 (length (upTo0 t)) h (omega (arith, up-to-length t))
 
 head-form-of : (b : List ℕ) (a : List Access) → line a ≡ upTo0 (part b 20 8) → length b ≡ 512 → getD b 1 0 ≤ 15 → getD b 18 0 ≤ 4 → every goodEntry (readEntries (getD b 18 0) (part b 32 416)) ≡ true
-    → same b (headBytes (record { name = part b 2 (getD b 1 0); entries = readEntries (getD b 18 0) (part b 32 416); accesses = a }))
+    → same b (headBytes (record { operator = getD b 19 0; name = part b 2 (getD b 1 0); entries = readEntries (getD b 18 0) (part b 32 416); accesses = a }))
     ≡ headTests b
 unfolding headBytes headTests
 head-form-of b a la lb n15 n4 g =
@@ -356,7 +356,7 @@ head-form-of b a la lb n15 n4 g =
     same-sealed _ b (simp (length-append, length-filled, length-zeros))
     ∙ rw (
       la,
-      same-head b (length (part b 2 (getD b 1 0))) (usedBits (upTo0 (part b 20 8))) (length (readEntries (getD b 18 0) (part b 32 416))) (part b 2 (getD b 1 0)) (upTo0 (part b 20 8)) (entriesBytes (readEntries (getD b 18 0) (part b 32 416))) lb,
+      same-head b (length (part b 2 (getD b 1 0))) (usedBits (upTo0 (part b 20 8))) (length (readEntries (getD b 18 0) (part b 32 416))) (getD b 19 0) (part b 2 (getD b 1 0)) (upTo0 (part b 20 8)) (entriesBytes (readEntries (getD b 18 0) (part b 32 416))) lb,
       rn,
       rl,
       z4,

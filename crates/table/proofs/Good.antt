@@ -33,7 +33,7 @@ goodAccesses es a =
     every (goodAccess (length es)) a && (distinct eqb (line a) && (distinct same (sessions a) && underLimits 1 (limits es) a))
 
 unfoldable pub good : Subscriber → Bool
-good s = isName (s .name) && (goodEntries (s .entries) && goodAccesses (s .entries) (s .accesses))
+good s = isName (s .name) && (leb (s .operator) 15 && (goodEntries (s .entries) && goodAccesses (s .entries) (s .accesses)))
 
 -- A row is the bytes of the subscriber that it says, and that is a good one. This is the same test as the paper's clauses, `sound`: `sound-is` of Sound.
 unfoldable pub saidSound : List ℕ → Bool
@@ -178,6 +178,7 @@ at-most-eight es a e g = omega (arith, fewer es a (each-entry es a (g .each)) (g
 -- a good subscriber's clauses
 pub record Good (s : Subscriber) : Type 0 where
   pub name-good : isName (s .name) ≡ true
+  pub operator-good : leb (s .operator) 15 ≡ true
   pub entries-good : Entered (s .entries)
   pub accesses-good : Fits (s .entries) (s .accesses)
 
@@ -185,12 +186,14 @@ pub is-good : (s : Subscriber) → good s ≡ true → Good s
 unfolding good
 is-good s g =
     let g1 = and-right (isName (s .name)) _ g in
+    let g2 = and-right (leb (s .operator) 15) _ g1 in
     record {
       name-good = and-left (isName (s .name)) _ g;
-      entries-good = entered (s .entries) (and-left (goodEntries (s .entries)) _ g1);
-      accesses-good = fits (s .entries) (s .accesses) (and-right (goodEntries (s .entries)) _ g1);
+      operator-good = and-left (leb (s .operator) 15) _ g1;
+      entries-good = entered (s .entries) (and-left (goodEntries (s .entries)) _ g2);
+      accesses-good = fits (s .entries) (s .accesses) (and-right (goodEntries (s .entries)) _ g2);
     }
 
 pub good-is : (s : Subscriber) → Good s → good s ≡ true
 unfolding good
-good-is s g = rw (g .name-good, enter (s .entries) (g .entries-good), fit (s .entries) (s .accesses) (g .accesses-good))
+good-is s g = rw (g .name-good, g .operator-good, enter (s .entries) (g .entries-good), fit (s .entries) (s .accesses) (g .accesses-good))

@@ -1,23 +1,24 @@
 -- The rows of a table: row by row along the cut, and what a table of number 0 is.
 use mathlib.Core.Path.{_≡_, refl, sym, ap, _∙_}
-use mathlib.Core.Bool.{Bool, true, false, _&&_}
+use mathlib.Core.Bool.{Bool, true, false, _&&_, and-false}
 use mathlib.Core.List.{List, [], _∷_}
 use Prim.Native.Nat.{ℕ, zero, suc, _+_, _-_, _*_, _/_, _%_, _≤_, _<_}
 use native.Mathlib.Nat.{mul-zero}
 use native.Mathlib.Omega.{arith}
-use borrow.Author.Tests.{eqb-true, eq-eqb, leb-false, leb-true, ne-eqb}
+use borrow.Author.Tests.{eqb-true, eqb-false, eq-eqb, leb-false, leb-true, ne-eqb}
 use lib.Dec.{eqb, leb}
 use lib.ListN.{length, getD, set, take, drop}
 use lib.Seq.{drop-drop, getD-drop, getD-take}
 use Rattle.octets.specs.Choice.{pick, require, within}
 use Rattle.octets.specs.Texts.{part, pieces, put, same, allZero}
-use Rattle.octets.proofs.Choice.{passed}
+use Rattle.octets.specs.Lists.{keep}
+use Rattle.octets.proofs.Choice.{first-passes, others-pass, passed}
 use Rattle.octets.specs.Numbers.{low64}
 use Rattle.octets.proofs.Pieces.{joined, join-pieces, length-piece, length-with, next-begins, part-take, piece-other, piece-with, pieces-at, pieces-with, with-same}
 use Rattle.octets.proofs.Texts.{zero-step}
 use Rattle.octets.proofs.Words.{low-eq}
 use Rattle.octets.proofs.Lists.{and-left, and-right, by-test, in-within, same-eq, within-high, within-low}
-use Rattle.table.specs.TheTable.{Found, row, nothing, later, firstRow, foundBy, rows, rowAt, rowLength, tableNumber, isRowOf, withRow}
+use Rattle.table.specs.TheTable.{Found, row, nothing, later, firstRow, foundBy, rows, rowAt, rowLength, tableNumber, isRowOf, withRow, Account, firstNumber, hasName}
 
 -- A TABLE OF NUMBER 0
 
@@ -55,6 +56,15 @@ number-few t m =
     (λ e. absurd (m (within-low 1 1024 _ e) (within-high 1 1024 _ e)))
     (λ e. rw e (refused (eqb (length t % rowLength) 0)))
 
+-- the first number of a call that brings an operator
+pub first-table : (t : List ℕ) (o : ℕ) → firstNumber t o ≡ 0 → tableNumber t ≡ 0
+unfolding firstNumber
+first-table t o h = first-passes (tableNumber t) _ h
+
+pub first-operator : (t : List ℕ) (o : ℕ) → firstNumber t o ≡ 0 → leb o 15 ≡ true
+unfolding firstNumber
+first-operator t o h = passed (leb o 15) 33 (omega arith) (first-passes _ _ (others-pass (tableNumber t) _ h))
+
 -- THE SEARCH
 
 -- what is found from row i on, counted from the table's first row
@@ -82,7 +92,7 @@ module _ (f : List ℕ → Bool) (w n : ℕ) (t : List ℕ) where
   unfolding searched
   search-all = let q : n - 0 ≡ n = omega arith in rw (q, mul-zero) (past-none (firstRow f (pieces w n t)))
 
-  cut-row : (i : ℕ) → i < n → pieces w (n - i) (drop (w * i) t) ≡ part t (w * i) w ∷ pieces w (n - (i + 1)) (drop (w * (i + 1)) t)
+  pub cut-row : (i : ℕ) → i < n → pieces w (n - i) (drop (w * i) t) ≡ part t (w * i) w ∷ pieces w (n - (i + 1)) (drop (w * (i + 1)) t)
   unfolding pieces
   cut-row i h =
       let q : n - i ≡ suc (n - (i + 1)) = omega arith in
@@ -102,11 +112,38 @@ module _ (f : List ℕ → Bool) (w n : ℕ) (t : List ℕ) where
   search-end i h = let q : n - i ≡ 0 = omega arith in rw q
 
   -- rows that do not pass may be skipped
-  pub search-skip : (i : ℕ) → i ≤ n → ((j : ℕ) → j < i → f (part t (w * j) w) ≡ false) → searched i ≡ searched 0
-  search-skip zero h e = refl
-  search-skip (suc i) h e =
-      let q : suc i ≡ i + 1 = omega arith in
-      rw q (search-on i (omega arith) (e i (omega arith))) ∙ search-skip i (omega arith) (λ j l. e j (omega arith))
+  pub search-skip : (i k : ℕ) → i ≤ k → k ≤ n → ((j : ℕ) → i ≤ j → j < k → f (part t (w * j) w) ≡ false) → searched k ≡ searched i
+  search-skip i zero l h e = let q : i ≡ 0 = omega arith in rw q
+  search-skip i (suc k) l h e =
+      by-test (eqb i (suc k))
+      (λ q. rw (eqb-true i (suc k) q))
+      (λ q. let p : suc k ≡ k + 1 = omega arith in
+      let le : i ≤ k = omega (arith, eqb-false i (suc k) q) in
+      rw p (search-on k (omega arith) (e k le (omega arith))) ∙ search-skip i k le (omega arith) (λ j a b. e j a (omega arith)))
+
+-- HOW MANY PASS
+
+module _ (f : List ℕ → Bool) (w n : ℕ) (t : List ℕ) where
+  -- of the first n rows of w bytes, those from row i on
+  unfoldable pub keptFrom : ℕ → ℕ
+  keptFrom i = length (keep f (pieces w (n - i) (drop (w * i) t)))
+
+  pub kept-all : keptFrom 0 ≡ length (keep f (pieces w n t))
+  unfolding keptFrom
+  kept-all = let q : n - 0 ≡ n = omega arith in rw (q, mul-zero)
+
+  -- row i passes; it does not; no row is left
+  pub kept-here : (i : ℕ) → i < n → f (part t (w * i) w) ≡ true → keptFrom i ≡ suc (keptFrom (i + 1))
+  unfolding keptFrom keep pick
+  kept-here i h e = rw (cut-row f w n t i h, e)
+
+  pub kept-on : (i : ℕ) → i < n → f (part t (w * i) w) ≡ false → keptFrom i ≡ keptFrom (i + 1)
+  unfolding keptFrom keep pick
+  kept-on i h e = rw (cut-row f w n t i h, e)
+
+  pub kept-end : (i : ℕ) → n ≤ i → keptFrom i ≡ 0
+  unfolding keptFrom keep pieces
+  kept-end i h = let q : n - i ≡ 0 = omega arith in rw q
 
 -- ROW i
 
@@ -163,10 +200,10 @@ module _ (n : ℕ) (t : List ℕ) (size : length t ≡ rowLength * n) where
 
 -- THE LOOKUP'S TEST
 
-pub not-row : (name r : List ℕ) → (getD r 0 0 ≡ 1 → 1 ≤ getD r 1 0 → getD r 1 0 ≤ 15 → getD r 1 0 ≡ length name → ⊥) → false ≡ isRowOf name r
-unfolding isRowOf
+pub not-row : (name r : List ℕ) → (getD r 0 0 ≡ 1 → 1 ≤ getD r 1 0 → getD r 1 0 ≤ 15 → getD r 1 0 ≡ length name → ⊥) → false ≡ hasName name r
+unfolding hasName
 not-row name r h =
-    by-test (isRowOf name r)
+    by-test (hasName name r)
     (λ e. let e1 = and-right (eqb (getD r 0 0) 1) _ e in
     let e2 = and-right (within 1 15 (getD r 1 0)) _ e1 in
     let w : within 1 15 (getD r 1 0) ≡ true = and-left (within 1 15 (getD r 1 0)) _ e1 in
@@ -174,24 +211,37 @@ not-row name r h =
     (λ e. sym e)
 
 pub row-by-name : (name r : List ℕ) (n : ℕ) → getD r 0 0 ≡ 1 → n ≡ getD r 1 0 → 1 ≤ n → n ≤ 15 → n ≡ length name
-    → same (take (2 + n - 2) (drop 2 r)) name ≡ isRowOf name r
-unfolding isRowOf
+    → same (take (2 + n - 2) (drop 2 r)) name ≡ hasName name r
+unfolding hasName
 row-by-name name r n one e lo hi k =
     let q : 2 + n - 2 ≡ length name = omega arith in
     rw (q, eq-eqb (getD r 0 0) 1 one, in-within 1 15 (getD r 1 0) (omega arith) (omega arith), eq-eqb (getD r 1 0) (length name) (sym e ∙ k))
 
 -- a name of over 15 bytes finds no row
-long-name : (name r : List ℕ) → leb (length name) 15 ≡ false → isRowOf name r ≡ false
+long-name : (name r : List ℕ) → leb (length name) 15 ≡ false → hasName name r ≡ false
 long-name name r h = sym (not-row name r (λ one lo hi e. omega (arith, leb-false (length name) 15 h)))
 
--- the lookup reads nothing else of a row
-pub found-by : (name r : List ℕ) → isRowOf name (foundBy r) ≡ isRowOf name r
-unfolding isRowOf foundBy
-found-by name r =
+-- a name is told by the first 17 bytes
+name-by : (name r : List ℕ) → hasName name (take 17 r) ≡ hasName name r
+unfolding hasName
+name-by name r =
     by-test (leb (length name) 15)
     (λ h. let le : length name ≤ 15 = leb-true (length name) 15 h in
     rw (getD-take 17 r 0 0 (omega arith), getD-take 17 r 1 0 (omega arith), part-take 17 2 (length name) r (omega arith)))
-    (λ h. long-name name (foundBy r) h ∙ sym (long-name name r h))
+    (λ h. long-name name (take 17 r) h ∙ sym (long-name name r h))
+
+-- the lookup reads nothing else of a row
+pub found-by : (a : Account) (r f : List ℕ) → foundBy r ≡ f → isRowOf a r ≡ eqb (getD f 0 0) (a .operator) && hasName (a .name) (drop 1 f)
+unfolding isRowOf foundBy
+found-by a r f e = rw (← e, name-by (a .name) r)
+
+-- a row without the name is no account's of that name
+pub no-name : (a : Account) (r : List ℕ) → hasName (a .name) r ≡ false → isRowOf a r ≡ false
+unfolding isRowOf
+no-name a r h = rw h (and-false (eqb (getD r 19 0) (a .operator)))
+
+pub found-alike : (a : Account) (q r : List ℕ) → foundBy q ≡ foundBy r → isRowOf a q ≡ isRowOf a r
+found-alike a q r e = found-by a q (foundBy r) e ∙ sym (found-by a r (foundBy r) refl)
 
 -- THE LAST EIGHT BYTES OF A NAME, looked at first
 
@@ -204,10 +254,10 @@ name-byte t i n a k h m =
     ∙ ap (λ (j : ℕ). getD t j 0) (omega arith)
 
 pub other-end : (t name : List ℕ) (i at : ℕ) → 8 ≤ length name → length name ≤ 15 → at ≡ rowLength * i + (length name - 6)
-    → (low64 t at ≡ low64 name (length name - 8) → ⊥) → isRowOf name (rowAt t i) ≡ false
-unfolding isRowOf
+    → (low64 t at ≡ low64 name (length name - 8) → ⊥) → hasName name (rowAt t i) ≡ false
+unfolding hasName
 other-end t name i at lo hi p h =
-    by-test (isRowOf name (rowAt t i))
+    by-test (hasName name (rowAt t i))
     (λ e. let e1 = and-right (eqb (getD (rowAt t i) 0 0) 1) _ e in
     let e2 = and-right (within 1 15 (getD (rowAt t i) 1 0)) _ e1 in
     let e3 = and-right (eqb (getD (rowAt t i) 1 0) (length name)) _ e2 in
@@ -218,6 +268,14 @@ other-end t name i at lo hi p h =
     low-eq (part (rowAt t i) 2 (length name)) t a (rowLength * i + (2 + a)) (λ k l. name-byte t i (length name) a k (omega arith) hi) in
     absurd (h (ap (low64 t) here ∙ sym word ∙ ap (λ (s : List ℕ). low64 s a) is)))
     (λ e. e)
+
+-- a row with another operator
+pub other-operator : (t : List ℕ) (a : Account) (i at : ℕ) → at ≡ rowLength * i + 19 → (getD t at 0 ≡ a .operator → ⊥) → isRowOf a (rowAt t i) ≡ false
+unfolding isRowOf rowAt
+other-operator t a i at p h =
+    let byte : getD (part t (rowLength * i) rowLength) 19 0 ≡ getD t at 0 =
+    getD-take rowLength (drop (rowLength * i) t) 19 0 (omega arith) ∙ getD-drop (rowLength * i) t 19 0 ∙ ap (λ (j : ℕ). getD t j 0) (sym p) in
+    rw (byte, ne-eqb (getD t at 0) (a .operator) h)
 
 -- a row whose first byte is not zero
 pub not-zero : (s : List ℕ) → 0 < length s → (getD s 0 0 ≡ 0 → ⊥) → false ≡ allZero s

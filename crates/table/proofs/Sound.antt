@@ -319,7 +319,7 @@ clauses-sound r c =
 pub record Headed (b : List ℕ) : Type 0 where
   pub one : eqb (getD b 0 0) 1 ≡ true
   pub name-end : zeroBehind (getD b 1 0) (part b 2 15) ≡ true
-  pub nineteen : eqb (getD b 19 0) 0 ≡ true
+  pub nineteen : leb (getD b 19 0) 15 ≡ true
   pub line-end : zeroBehind (length (upTo0 (part b 20 8))) (part b 20 8) ≡ true
   pub gap : allZero (part b 28 4) ≡ true
   pub end : allZero (part b 448 62) ≡ true
@@ -331,12 +331,12 @@ head-of b f =
     let f2 = and-right (isName (part b 2 (getD b 1 0))) _ f1 in
     let f3 = and-right (zeroBehind (getD b 1 0) (part b 2 15)) _ f2 in
     let f4 = and-right (leb (getD b 18 0) 4) _ f3 in
-    let f5 = and-right (eqb (getD b 19 0) 0) _ f4 in
+    let f5 = and-right (leb (getD b 19 0) 15) _ f4 in
     let f6 = and-right (zeroBehind (length (upTo0 (part b 20 8))) (part b 20 8)) _ f5 in
     let h : Headed b = record {
       one = and-left (eqb (getD b 0 0) 1) _ f;
       name-end = and-left (zeroBehind (getD b 1 0) (part b 2 15)) _ f2;
-      nineteen = and-left (eqb (getD b 19 0) 0) _ f4;
+      nineteen = and-left (leb (getD b 19 0) 15) _ f4;
       line-end = and-left (zeroBehind (length (upTo0 (part b 20 8))) (part b 20 8)) _ f5;
       gap = and-left (allZero (part b 28 4)) _ f6;
       end = and-right (allZero (part b 28 4)) _ f6;
@@ -352,31 +352,30 @@ head-tests : (b : List ℕ) → Headed b → getD b 17 0 ≡ usedBits (upTo0 (pa
     → headTests b ≡ true
 unfolding headTests
 head-tests b h u e s =
-    rw (h .one, h .name-end, eq-eqb (getD b 17 0) (usedBits (upTo0 (part b 20 8))) u, h .nineteen, h .line-end, h .gap, e, h .end, s)
+    rw (h .one, h .name-end, eq-eqb (getD b 17 0) (usedBits (upTo0 (part b 20 8))) u, h .line-end, h .gap, e, h .end, s)
 
-tests-head : (b : List ℕ) → headTests b ≡ true
+tests-head : (b : List ℕ) → leb (getD b 19 0) 15 ≡ true → headTests b ≡ true
     → Headed b × (getD b 17 0 ≡ usedBits (upTo0 (part b 20 8))) × (entriesTests (getD b 18 0) (part b 32 416) ≡ true) × (sumOk b ≡ true)
 unfolding headTests
-tests-head b f =
+tests-head b o f =
     let f1 = and-right (eqb (getD b 0 0) 1) _ f in
     let f2 = and-right (zeroBehind (getD b 1 0) (part b 2 15)) _ f1 in
     let f3 = and-right (eqb (getD b 17 0) (usedBits (upTo0 (part b 20 8)))) _ f2 in
-    let f4 = and-right (eqb (getD b 19 0) 0) _ f3 in
-    let f5 = and-right (zeroBehind (length (upTo0 (part b 20 8))) (part b 20 8)) _ f4 in
-    let f6 = and-right (allZero (part b 28 4)) _ f5 in
-    let f7 = and-right (entriesTests (getD b 18 0) (part b 32 416)) _ f6 in
+    let f4 = and-right (zeroBehind (length (upTo0 (part b 20 8))) (part b 20 8)) _ f3 in
+    let f5 = and-right (allZero (part b 28 4)) _ f4 in
+    let f6 = and-right (entriesTests (getD b 18 0) (part b 32 416)) _ f5 in
     let h : Headed b = record {
       one = and-left (eqb (getD b 0 0) 1) _ f;
       name-end = and-left (zeroBehind (getD b 1 0) (part b 2 15)) _ f1;
-      nineteen = and-left (eqb (getD b 19 0) 0) _ f3;
-      line-end = and-left (zeroBehind (length (upTo0 (part b 20 8))) (part b 20 8)) _ f4;
-      gap = and-left (allZero (part b 28 4)) _ f5;
-      end = and-left (allZero (part b 448 62)) _ f7;
+      nineteen = o;
+      line-end = and-left (zeroBehind (length (upTo0 (part b 20 8))) (part b 20 8)) _ f3;
+      gap = and-left (allZero (part b 28 4)) _ f4;
+      end = and-left (allZero (part b 448 62)) _ f6;
     } in (
       h,
       eqb-true (getD b 17 0) _ (and-left (eqb (getD b 17 0) (usedBits (upTo0 (part b 20 8)))) _ f2),
-      and-left (entriesTests (getD b 18 0) (part b 32 416)) _ f6,
-      and-right (allZero (part b 448 62)) _ f7,
+      and-left (entriesTests (getD b 18 0) (part b 32 416)) _ f5,
+      and-right (allZero (part b 448 62)) _ f6,
     )
 
 -- THE TWO ARE ONE
@@ -427,7 +426,7 @@ module _ (r : List ℕ) (c : Clauses r) where
         labels-once = c .labels-once;
         eight = c .eight;
       } in
-      record { name-good = head-of (block r 0) (c .head) .1; entries-good = e; accesses-good = a }
+      record { name-good = head-of (block r 0) (c .head) .1; operator-good = head-of (block r 0) (c .head) .0 .nineteen; entries-good = e; accesses-good = a }
 
   place-tests : (k : ℕ) → within 1 8 k ≡ true → placeTests r k ≡ true
   unfolding placeTests placeForm policyMarked sumsAgree pick
@@ -475,8 +474,8 @@ module _ (r : List ℕ) (size : length r ≡ rowLength) (g : Good (readRow r)) (
       (every-on (λ j. goodAccess (length ((readRow r) .entries)) (readAccess j (block r j))) (orderLine r) k good-at o) (rw o at t)
 
   the-bits : getD (block r 0) 17 0 ≡ usedBits (orderLine r)
-  unfolding orderLine
-  the-bits = tests-head (block r 0) h .1
+  unfolding orderLine readRow
+  the-bits = tests-head (block r 0) (g .operator-good) h .1
 
   zero-at : (k : ℕ) → within 1 8 k ≡ true → isOn (orderLine r) k ≡ false → allZero (block r k) ≡ true
   unfolding placeTests pick
@@ -510,13 +509,13 @@ module _ (r : List ℕ) (size : length r ≡ rowLength) (g : Good (readRow r)) (
   holds =
       let b : List ℕ = block r 0 in
       let z : length b ≡ 512 = long 0 (omega arith) in
-      let e : entriesTests (getD b 18 0) (part b 32 416) ≡ true = tests-head b h .2 in
+      let e : entriesTests (getD b 18 0) (part b 32 416) ≡ true = tests-head b (g .operator-good) h .2 in
       record {
         size = size;
-        head = of-head b (tests-head b h .0) (g .name-good) few;
+        head = of-head b (tests-head b (g .operator-good) h .0) (g .name-good) few;
         entries-form = entries-form (getD b 18 0) 4 (part b 32 416) (length-part b 32 416 (omega arith)) few ∙ both (g .entries-good .each) e;
         places-form = each-place-of (placeForm r) form-at;
-        sum-zero = sums-tail b z ∙ tests-head b h .3;
+        sum-zero = sums-tail b z ∙ tests-head b (g .operator-good) h .3;
         sum-each = each-place-of (sumsAgree r) sum-at;
         line-in = all-in;
         line-once = rw (line-read r (orderLine r)) at (g .accesses-good .places-once);

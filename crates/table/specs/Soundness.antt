@@ -22,12 +22,12 @@ isDigit d = within 48 57 d
 unfoldable pub isName : List ℕ → Bool
 isName n = within 1 15 (length n) && every isDigit n
 
--- Block 0: byte 0 is 1; the name's length 1 to 15, digits, zeros behind them; at most 4 entries; byte 19 zero;
+-- Block 0: byte 0 is 1; the name's length 1 to 15, digits, zeros behind them; at most 4 entries; an operator of at most 15;
 -- zeros behind the places on the order line; bytes 28 to 31 and 448 to 509 zero.
 unfoldable pub headForm : List ℕ → Bool
 headForm b =
     eqb (getD b 0 0) 1 && (isName (part b 2 (getD b 1 0)) && (zeroBehind (getD b 1 0) (part b 2 15)
-    && (leb (getD b 18 0) 4 && (eqb (getD b 19 0) 0 && (zeroBehind (length (upTo0 (part b 20 8))) (part b 20 8)
+    && (leb (getD b 18 0) 4 && (leb (getD b 19 0) 15 && (zeroBehind (length (upTo0 (part b 20 8))) (part b 20 8)
     && (allZero (part b 28 4) && allZero (part b 448 62)))))))
 
 -- An entry of 104 bytes: length 1 to 100, zeros behind the label, flags 0 to 3, limit 1 to 8, zero.

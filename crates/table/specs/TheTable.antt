@@ -2,10 +2,10 @@
 use mathlib.Core.Bool.{Bool, true, false, _&&_}
 use mathlib.Core.List.{List, [], _∷_, _++_, map}
 use Prim.Native.Nat.{ℕ, zero, suc, _+_, _*_, _/_, _%_}
-use lib.Dec.{eqb}
+use lib.Dec.{eqb, leb}
 use lib.ListN.{length, getD, take, drop}
-use Rattle.octets.specs.Choice.{pick, require, within}
-use Rattle.octets.specs.Lists.{counted, isOn, upTo0}
+use Rattle.octets.specs.Choice.{firstOf, pick, require, within}
+use Rattle.octets.specs.Lists.{counted, isOn, keep, upTo0}
 use Rattle.octets.specs.Texts.{part, pieces, zeros, filled, same, put}
 
 -- THE SUMS
@@ -46,8 +46,14 @@ pub record Access : Type 0 where
   pub host : List ℕ
   pub policy : List ℕ
 
+-- Whose a row is: the operator that the account is of, 0 to 15, and the name.
+pub record Account : Type 0 where
+  pub operator : ℕ
+  pub name : List ℕ
+
 -- A subscriber. The accesses stand in the order in which they were opened, first opened first.
 pub record Subscriber : Type 0 where
+  pub operator : ℕ
   pub name : List ℕ
   pub entries : List Entry
   pub accesses : List Access
@@ -78,12 +84,12 @@ fromBits (b ∷ bs) = pick b 1 0 + 2 * fromBits bs
 unfoldable pub usedBits : List ℕ → ℕ
 usedBits l = fromBits (map (isOn l) places)
 
--- Block 0: 1; the name's length and 15 bytes for the name; the places in use; the number of entries; zero;
+-- Block 0: 1; the name's length and 15 bytes for the name; the places in use; the number of entries; the operator;
 -- the order line in 8 bytes; 4 zeros; four entries of 104 bytes; zeros; the sums.
 unfoldable pub headBytes : Subscriber → List ℕ
 headBytes s =
     sealed (1 ∷ length (s .name) ∷ filled (s .name) 15
-    ++ (usedBits (line (s .accesses)) ∷ length (s .entries) ∷ 0 ∷ filled (line (s .accesses)) 8
+    ++ (usedBits (line (s .accesses)) ∷ length (s .entries) ∷ s .operator ∷ filled (line (s .accesses)) 8
     ++ (zeros 4 ++ (filled (entriesBytes (s .entries)) 416 ++ zeros 62))))
 
 -- Byte 4 of a place: 1 if a policy is held, else 0.
@@ -152,6 +158,7 @@ orderLine r = upTo0 (lineRoom r)
 unfoldable pub readRow : List ℕ → Subscriber
 readRow r =
     record {
+      operator = getD (block r 0) 19 0;
       name = part (block r 0) 2 (getD (block r 0) 1 0);
       entries = readEntries (getD (block r 0) 18 0) (entriesRoom r);
       accesses = map (λ (k : ℕ). readAccess k (block r k)) (orderLine r);
@@ -162,6 +169,10 @@ readRow r =
 -- Number 1: a table has 1 to 1,024 rows and nothing behind them.
 unfoldable pub tableNumber : List ℕ → ℕ
 tableNumber t = require (eqb (length t % rowLength) 0 && within 1 1024 (length t / rowLength)) 1
+
+-- The first numbers of every call that brings an operator: 1, then 33, an operator over 15.
+unfoldable pub firstNumber : List ℕ → (operator : ℕ) → ℕ
+firstNumber t o = firstOf (tableNumber t ∷ require (leb o 15) 33 ∷ [])
 
 -- The rows, one behind another.
 unfoldable pub rows : List ℕ → List (List ℕ)
@@ -176,14 +187,25 @@ withRow t i r = put t (rowLength * i) r
 
 -- THE LOOKUP
 
--- What the lookup reads of a row: byte 0, the name's length and the room of the name.
+-- What the lookup reads of a row: the operator, byte 19; byte 0, the name's length and the room of the name.
 unfoldable pub foundBy : List ℕ → List ℕ
-foundBy r = take 17 r
+foundBy r = getD r 19 0 ∷ take 17 r
 
 -- When a row is found by a name: byte 0 is 1, byte 1 is 1 to 15 and the name's length, and the name's bytes follow.
-unfoldable pub isRowOf : List ℕ → List ℕ → Bool
-isRowOf name r =
+unfoldable pub hasName : (name r : List ℕ) → Bool
+hasName name r =
     eqb (getD r 0 0) 1 && (within 1 15 (getD r 1 0) && (eqb (getD r 1 0) (length name) && same (part r 2 (length name)) name))
+
+-- A row is that of an account only if both match, the operator and the name.
+unfoldable pub isRowOf : Account → List ℕ → Bool
+isRowOf a r = eqb (getD r 19 0) (a .operator) && hasName (a .name) r
+
+-- An operator's rows: byte 0 is 1 and byte 19 the operator's number, sound or not.
+unfoldable pub isOwn : (operator : ℕ) → List ℕ → Bool
+isOwn o r = eqb (getD r 0 0) 1 && eqb (getD r 19 0) o
+
+unfoldable pub ownRows : (operator : ℕ) → List ℕ → List (List ℕ)
+ownRows o t = keep (isOwn o) (rows t)
 
 -- The first row that passes a test.
 pub data Found : Type 0 where
@@ -198,9 +220,9 @@ unfoldable pub firstRow : (List ℕ → Bool) → List (List ℕ) → Found
 firstRow f [] = nothing
 firstRow f (r ∷ rs) = let others : Found = later (firstRow f rs) in pick (f r) (row 0) others
 
--- A subscriber's row is the first that is found by the name, sound or not.
-unfoldable pub lookup : List ℕ → List ℕ → Found
-lookup t name = firstRow (isRowOf name) (rows t)
+-- A subscriber's row is the first that is found by operator and name, sound or not.
+unfoldable pub lookup : List ℕ → Account → Found
+lookup t a = firstRow (isRowOf a) (rows t)
 
 unfoldable pub isFound : Found → Bool
 isFound (row i) = true

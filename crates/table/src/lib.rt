@@ -2,10 +2,11 @@
 ghost use mathlib.Core.Path.{_≡_};
 ghost use mathlib.Core.Bool.{false};
 ghost use mathlib.Core.List.{[], _∷_};
-ghost use Prim.Native.Nat.{ℕ, _+_, _*_, _/_, _<_, _≤_};
+ghost use Prim.Native.Nat.{ℕ, _+_, _*_, _/_, _%_, _<_, _≤_};
 ghost use lib.ListN.{length, take};
+ghost use Rattle.octets.specs.Numbers.{low64};
 ghost use Rattle.octets.specs.Texts.{allZero};
-ghost use Rattle.table.specs.TheTable.{firstRow, isRowOf, lookup, rowAt, rowLength, rows, sums, tableNumber};
+ghost use Rattle.table.specs.TheTable.{firstNumber, firstRow, hasName, isOwn, isRowOf, lookup, ownRows, rowAt, rowLength, rows, sums, tableNumber};
 ghost use Rattle.table.specs.Columns.{columnFirst, columnBefore};
 ghost use Rattle.table.specs.Answers.{found, rowEnd};
 
@@ -106,6 +107,20 @@ pub fn table_number(t: &[u8]) -> u32
     0
 }
 
+// The first number of a call that brings an operator: that of the table, or 33; 0 where there is none.
+pub fn number_for(t: &[u8], op: u32) -> u32
+    ensures { λ r. ⌜ r ≡ firstNumber (now (t .entry)) op ⌝ }
+{
+    let n = table_number(t);
+    if n != 0 {
+        return n;
+    }
+    if 15 < op {
+        return 33;
+    }
+    0
+}
+
 // The first row that passes a test, counted from 0.
 pub enum RowFound {
     At(usize),
@@ -113,9 +128,9 @@ pub enum RowFound {
 }
 
 // Whether a row is found by the name. Nothing behind the name's bytes is read.
-fn is_row_of(r: &[u8], name: &[u8]) -> bool
+fn has_name(r: &[u8], name: &[u8]) -> bool
     requires { ⌜ length (now r) ≡ rowLength ⌝ }
-    ensures { λ x. ⌜ x ≡ isRowOf (now (name .entry)) (now (r .entry)) ⌝ }
+    ensures { λ x. ⌜ x ≡ hasName (now (name .entry)) (now (r .entry)) ⌝ }
 {
     if r[0] != 1 {
         return false;
@@ -134,46 +149,103 @@ fn is_row_of(r: &[u8], name: &[u8]) -> bool
     octets::same_bytes(&r[2..end], name)
 }
 
-// Rows before the result are not the name's. Of a name of 8 bytes or more the last eight are looked at first, at once: names of one
-// operator differ there.
-fn rows_passed(t: &[u8], name: &[u8]) -> usize
-    requires { ⌜ tableNumber (now t) ≡ 0 ⌝ }
-    ensures { λ r. ⌜ (r ≤ length (now (t .entry)) / rowLength) × ((j : ℕ) → j < r → isRowOf (now (name .entry)) (rowAt (now (t .entry)) j) ≡ false) ⌝ }
+// Whether a row is that of an account.
+fn is_row_of(r: &[u8], op: u32, name: &[u8]) -> bool
+    requires { ⌜ length (now r) ≡ rowLength ⌝ }
+    ensures { λ x. ⌜ x ≡ isRowOf (record { operator = op; name = now (name .entry) }) (now (r .entry)) ⌝ }
 {
-    let n = name.len();
-    if n < 8 {
-        return 0;
+    if octets::wide(r[19]) != op {
+        return false;
     }
-    if 15 < n {
-        return 0;
-    }
-    let end = octets::eight(name, n - 8);
-    let mut at: usize = n - 6;
+    has_name(r, name)
+}
+
+// The first place from `from` on, in steps of a row, that has these eight bytes; past the table's end where none has.
+fn next_like(t: &[u8], end: u64, from: usize) -> usize
+    requires { ⌜ (tableNumber (now t) ≡ 0) × (from % rowLength + 8 ≤ rowLength) × (from / rowLength ≤ length (now t) / rowLength) ⌝ }
+    ensures { λ r. ⌜ (r % rowLength ≡ from % rowLength) × (from / rowLength ≤ r / rowLength) × (r / rowLength ≤ length (now (t .entry)) / rowLength)
+        × ((j : ℕ) → from / rowLength ≤ j → j < r / rowLength → low64 (now (t .entry)) (rowLength * j + from % rowLength) ≡ end → ⊥) ⌝ }
+{
+    let mut at: usize = from;
     while at < t.len() {
         if octets::eight(t, at) == end {
             break;
         }
         at += ROW_LENGTH;
     }
+    at
+}
+
+// Rows from the i-th on and before the result are not the account's. Of a name of 8 bytes or more the last eight are looked at first, at once:
+// names of one operator differ there. Where they are the same, the operator is looked at: other operators may have the same names.
+fn rows_passed(t: &[u8], op: u32, name: &[u8], i: usize) -> usize
+    requires { ⌜ (tableNumber (now t) ≡ 0) × (i ≤ length (now t) / rowLength) ⌝ }
+    ensures { λ r. ⌜ (i ≤ r) × (r ≤ length (now (t .entry)) / rowLength)
+        × ((j : ℕ) → i ≤ j → j < r → isRowOf (record { operator = op; name = now (name .entry) }) (rowAt (now (t .entry)) j) ≡ false) ⌝ }
+{
+    let n = name.len();
+    if n < 8 {
+        return i;
+    }
+    if 15 < n {
+        return i;
+    }
+    let end = octets::eight(name, n - 8);
+    let behind = 25 - n;
+    let mut at: usize = next_like(t, end, ROW_LENGTH * i + (n - 6));
+    while at < t.len() {
+        if octets::wide(t[at + behind]) == op {
+            break;
+        }
+        at = next_like(t, end, at + ROW_LENGTH);
+    }
     at / ROW_LENGTH
 }
 
 // A subscriber's row, sound or not.
-pub fn lookup(t: &[u8], name: &[u8]) -> RowFound
+pub fn lookup(t: &[u8], op: u32, name: &[u8]) -> RowFound
     requires { ⌜ tableNumber (now t) ≡ 0 ⌝ }
-    ensures { λ r. ⌜ (found r ≡ lookup (now (t .entry)) (now (name .entry))) × (rowEnd r ≤ length (now (t .entry))) ⌝ }
+    ensures { λ r. ⌜ (found r ≡ lookup (now (t .entry)) (record { operator = op; name = now (name .entry) })) × (rowEnd r ≤ length (now (t .entry))) ⌝ }
 {
-    let mut n: usize = rows_passed(t, name);
+    let mut n: usize = rows_passed(t, op, name, 0);
     let mut at: usize = ROW_LENGTH * n;
     while at < t.len() {
         let end = at + ROW_LENGTH;
-        if is_row_of(&t[at..end], name) {
+        if is_row_of(&t[at..end], op, name) {
             return RowFound::At(n);
         }
-        n += 1;
-        at = end;
+        n = rows_passed(t, op, name, n + 1);
+        at = ROW_LENGTH * n;
     }
     RowFound::Nothing
+}
+
+// Whether a row is one of an operator's.
+fn is_own(r: &[u8], op: u32) -> bool
+    requires { ⌜ length (now r) ≡ rowLength ⌝ }
+    ensures { λ x. ⌜ x ≡ isOwn op (now (r .entry)) ⌝ }
+{
+    if r[0] != 1 {
+        return false;
+    }
+    octets::wide(r[19]) == op
+}
+
+// How many rows are an operator's.
+pub fn own_rows(t: &[u8], op: u32) -> u32
+    requires { ⌜ tableNumber (now t) ≡ 0 ⌝ }
+    ensures { λ r. ⌜ r ≡ length (ownRows op (now (t .entry))) ⌝ }
+{
+    let mut count: u32 = 0;
+    let mut at: usize = 0;
+    while at < t.len() {
+        let end = at + ROW_LENGTH;
+        if is_own(&t[at..end], op) {
+            count += 1;
+        }
+        at = end;
+    }
+    count
 }
 
 // Whether a row is wholly zero. A row in use differs in byte 0 already.

@@ -114,6 +114,7 @@ fn serve(
     }
     let o = decision::handle(
         table,
+        0,
         b"wm.example",
         b"example",
         m,

@@ -63,27 +63,28 @@ fn line(out: &mut [u8; 4096], at: usize, what: u8, row: &[u8]) -> usize {
     say(out, b, b"\n")
 }
 
-// A fresh table with the subscriber of the cases.
+// A fresh table with the subscriber of the cases, who is of operator 0, as its only row is.
 fn fresh(table: &mut [u8; 4608], out: &mut [u8; 4096]) -> usize {
     let user = b"001010123456789";
+    let shares: [u32; 16] = [1, 0, 0, 0, 0, 0, 0, 0, 0, 0, 0, 0, 0, 0, 0, 0];
     let a = set(out, 0, b"  clear: ", setup::clear(table));
     let b = set(
         out,
         a,
         b"  enter 001010123456789: ",
-        setup::enter(table, user),
+        setup::enter(table, 0, &shares, user),
     );
     let c = set(
         out,
         b,
         b"  add board, limit 2: ",
-        setup::add(table, user, b"board", 2, 0),
+        setup::add(table, 0, user, b"board", 2, 0),
     );
     set(
         out,
         c,
         b"  add yard, limit 1, barred: ",
-        setup::add(table, user, b"yard", 1, 1),
+        setup::add(table, 0, user, b"yard", 1, 1),
     )
 }
 

@@ -296,7 +296,7 @@ pub fn reason(out: &mut [u8; 4096], at: usize, row: &[u8], broken: Clause) -> us
 
 // HIDDEN ROWS
 
-// The row that a lookup of the name in `row` finds.
+// The row that a lookup of the operator and the name in `row` finds.
 fn found_by(table: &[u8], row: &[u8]) -> RowFound {
     if row.len() != table::ROW_LENGTH {
         return RowFound::Nothing;
@@ -309,11 +309,26 @@ fn found_by(table: &[u8], row: &[u8]) -> RowFound {
         return RowFound::Nothing;
     }
     let end = 2 + n;
-    table::lookup(table, &row[2..end])
+    table::lookup(table, octets::wide(row[19]), &row[2..end])
 }
 
-// The line below row i that says which row before it has its name, so that no lookup comes to it; nothing where there is none.
+// Whether no operator has that row's number.
+fn is_of_nobody(row: &[u8]) -> bool {
+    if row.len() != table::ROW_LENGTH {
+        return false;
+    }
+    15 < row[19]
+}
+
+// The line below row i, which no lookup comes to: it is no operator's, or a row before it has its operator and name. Nothing where it is found.
 pub fn hidden(out: &mut [u8; 4096], table: &[u8], i: usize, row: &[u8]) -> usize {
+    if is_of_nobody(row) {
+        return say(
+            out,
+            0,
+            b"  NO LOOKUP FINDS THIS ROW: its operator is over 15\n",
+        );
+    }
     let found = found_by(table, row);
     let RowFound::At(j) = found else {
         return 0;
@@ -329,6 +344,6 @@ pub fn hidden(out: &mut [u8; 4096], table: &[u8], i: usize, row: &[u8]) -> usize
         0,
         b"  NO LOOKUP FINDS THIS ROW: row ",
         j + 1,
-        b" has its name\n",
+        b" has its operator and name\n",
     )
 }

@@ -127,6 +127,15 @@ pub fn say_word(word: &[u8], what: &[u8]) -> bool {
 
 // WORDS
 
+// Whether a word begins so.
+pub fn is_begun(word: &[u8], start: &[u8]) -> bool {
+    let n = start.len();
+    if word.len() < n {
+        return false;
+    }
+    octets::same_bytes(&word[0..n], start)
+}
+
 pub enum Said {
     Number(usize),
     Nothing,

@@ -3,6 +3,7 @@
 // and said, and only if all codes are those that were expected.
 use tool_hold::Held;
 use tool_inputs::Inputs;
+use tool_operator::Number;
 use tool_serve::Desk;
 use tool_sheets::Sheets;
 use tool_totals::Totals;
@@ -55,7 +56,7 @@ fn serve(
 }
 
 // What lies ready once every file is open.
-fn desk(i: Inputs, s: Sheets) -> Desk {
+fn desk(i: Inputs, s: Sheets, op: u32) -> Desk {
     let gateway = tool_options::find(tool_options::WAG);
     Desk {
         requests: i.requests,
@@ -66,6 +67,7 @@ fn desk(i: Inputs, s: Sheets) -> Desk {
         hex: tool_inputs::is_hex(),
         quiet: tool_options::find(tool_options::QUIET) != 0,
         wag: tool_options::is_wag(gateway),
+        op: op,
         host: tool_options::find(tool_options::HOST),
         realm: tool_options::find(tool_options::REALM),
         only: tool_options::find(tool_options::ONLY),
@@ -74,6 +76,7 @@ fn desk(i: Inputs, s: Sheets) -> Desk {
 
 // The files that are read are open, and can be followed: those that are written are opened.
 fn begin(
+    op: u32,
     i: Inputs,
     h: Held,
     path: &[u8],
@@ -91,12 +94,20 @@ fn begin(
     if !both.well {
         return;
     }
-    let d = desk(i, both);
+    let d = desk(i, both, op);
     serve(d, h, path, requests, answers, notices, table, all);
 }
 
 // The requests followed to their end, and the files that have a line for each of them.
-fn follow(h: Held, path: &[u8], requests: &[u8], answers: &[u8], notices: &[u8], table: &mut [u8]) {
+fn follow(
+    op: u32,
+    h: Held,
+    path: &[u8],
+    requests: &[u8],
+    answers: &[u8],
+    notices: &[u8],
+    table: &mut [u8],
+) {
     let fd = tool_files::open_plain(requests);
     if fd < 0 {
         return;
@@ -107,13 +118,14 @@ fn follow(h: Held, path: &[u8], requests: &[u8], answers: &[u8], notices: &[u8],
     }
     let i = tool_inputs::open(fd, all);
     if tool_inputs::are_there(i) {
-        begin(i, h, path, requests, answers, notices, table, all);
+        begin(op, i, h, path, requests, answers, notices, table, all);
     }
 }
 
 // THE COMMAND
 
 fn handle_held(
+    op: u32,
     h: Held,
     path: &[u8],
     requests: &[u8],
@@ -125,16 +137,20 @@ fn handle_held(
     if room.len() < n {
         return;
     }
-    follow(h, path, requests, answers, notices, &mut room[0..n]);
+    follow(op, h, path, requests, answers, notices, &mut room[0..n]);
 }
 
 fn run(path: &[u8], requests: &[u8], answers: &[u8], notices: &[u8], room: &mut [u8]) {
     if !tool_options::check_words() {
         return;
     }
+    let said = tool_operator::operator(tool_options::find(tool_options::OPERATOR));
+    let Number::Is(op) = said else {
+        return;
+    };
     let h = tool_hold::hold(path, room);
     if tool_hold::is_held(h) {
-        handle_held(h, path, requests, answers, notices, room);
+        handle_held(op, h, path, requests, answers, notices, room);
         tool_hold::leave(path, h);
     }
 }

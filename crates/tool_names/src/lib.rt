@@ -47,6 +47,7 @@ pub fn no_answer(out: &mut [u8; 4096], at: usize, number: u32) -> usize {
             b"the header length is no multiple of 4, or not that of the message",
         ),
         8 => say(out, at, b"the R bit is clear: no request"),
+        33 => say(out, at, b"the operator is over 15"),
         _ => say(out, at, b"a number without a meaning here"),
     }
 }
@@ -56,14 +57,21 @@ pub fn set_up(out: &mut [u8; 4096], at: usize, number: u32) -> usize {
     match number {
         1 => say(out, at, b"the table is not 1 to 1,024 rows of 4,608 bytes"),
         9 => say(out, at, b"a name is 1 to 15 decimal digits"),
-        10 => say(out, at, b"the table has that name already"),
+        10 => say(out, at, b"the operator has that name already"),
         11 => say(out, at, b"the table has no free row"),
-        12 => say(out, at, b"the table has no such subscriber"),
+        12 => say(out, at, b"the operator has no such subscriber"),
         13 => say(out, at, b"the subscriber's row is not sound"),
         14 => say(out, at, b"a label is 1 to 100 bytes and a limit 1 to 8"),
         15 => say(out, at, b"the subscriber has that label already"),
         16 => say(out, at, b"the subscriber has four labels already"),
         17 => say(out, at, b"the subscriber's limits would sum to over 8"),
+        26 => say(
+            out,
+            at,
+            b"the shares are not sixteen, or come to more than the table's rows",
+        ),
+        27 => say(out, at, b"the operator's rows fill its share"),
+        33 => say(out, at, b"the operator is over 15"),
         _ => say(out, at, b"a number without a meaning here"),
     }
 }

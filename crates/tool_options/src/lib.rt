@@ -17,18 +17,12 @@ pub const ONLY: usize = 6;
 
 pub const CODES: usize = 7;
 
+pub const OPERATOR: usize = 8;
+
 // The first of these words.
 const FIRST: usize = 6;
 // As many as there are kinds.
-const BEHIND: usize = 13;
-
-fn is_begun(word: &[u8], start: &[u8]) -> bool {
-    let n = start.len();
-    if word.len() < n {
-        return false;
-    }
-    octets::same_bytes(&word[0..n], start)
-}
+const BEHIND: usize = 14;
 
 // What the gateway says, for all messages or for each one in a file: one of the three.
 fn is_of_gateway(word: &[u8]) -> bool {
@@ -38,7 +32,7 @@ fn is_of_gateway(word: &[u8]) -> bool {
     if octets::same_bytes(word, b"wag=no") {
         return true;
     }
-    is_begun(word, b"wags=")
+    tool_files::is_begun(word, b"wags=")
 }
 
 // The kind of a word, 0 where it has none.
@@ -52,17 +46,20 @@ fn kind_of(word: &[u8]) -> usize {
     if is_of_gateway(word) {
         return WAG;
     }
-    if is_begun(word, b"host=") {
+    if tool_files::is_begun(word, b"host=") {
         return HOST;
     }
-    if is_begun(word, b"realm=") {
+    if tool_files::is_begun(word, b"realm=") {
         return REALM;
     }
-    if is_begun(word, b"only=") {
+    if tool_files::is_begun(word, b"only=") {
         return ONLY;
     }
-    if is_begun(word, b"codes=") {
+    if tool_files::is_begun(word, b"codes=") {
         return CODES;
+    }
+    if tool_files::is_begun(word, b"operator=") {
+        return OPERATOR;
     }
     0
 }
@@ -181,7 +178,7 @@ pub fn is_file_of_wags(i: usize) -> bool {
     }
     let mut word = io::buffer();
     let n = os::arg(i, &mut word);
-    is_begun(&word[..n], b"wags=")
+    tool_files::is_begun(&word[..n], b"wags=")
 }
 
 // Whether the gateway takes every policy: it does unless word i says no.

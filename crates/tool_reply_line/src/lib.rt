@@ -7,7 +7,7 @@ use tool_words::number;
 use tool_words::say;
 use tool_words::text;
 
-// A request to the server. Its own host and realm have fixed names.
+// A request to the server, for operator 0. Its own host and realm have fixed names.
 pub fn call_server(
     table: &mut [u8],
     m: &[u8],
@@ -15,12 +15,12 @@ pub fn call_server(
     answer: &mut [u8; 5120],
     notice: &mut [u8; 256],
 ) -> Outcome {
-    decision::handle(table, b"wm.example", b"example", m, wag, answer, notice)
+    decision::handle(table, 0, b"wm.example", b"example", m, wag, answer, notice)
 }
 
 // Why `call_server` answers a request as it does, asked before it.
 pub fn why(table: &[u8], m: &[u8], wag: bool, answer: &[u8; 5120], notice: &[u8; 256]) -> Why {
-    reasons::first_failed(table, b"wm.example", b"example", m, wag, answer, notice)
+    reasons::first_failed(table, 0, b"wm.example", b"example", m, wag, answer, notice)
 }
 
 // A code by its number and its name.

@@ -3,6 +3,7 @@ use decision::Outcome;
 use effects::Cut;
 use message::Kind;
 use tool_files::Said;
+use tool_operator::Number;
 use tool_streams::Source;
 use tool_streams::Way;
 
@@ -202,6 +203,7 @@ fn next_hour(fd: i32) -> Said {
 // One message served on the table in memory and counted; whether it could be.
 fn count_message(
     table: &mut [u8],
+    op: u32,
     m: &[u8],
     hour: u32,
     report: &mut [u64; 96],
@@ -211,6 +213,7 @@ fn count_message(
     let mut notice = [0u8; 256];
     let o = decision::handle(
         table,
+        op,
         b"wm.example",
         b"example",
         m,
@@ -222,10 +225,11 @@ fn count_message(
     check_number(report::count(report, &list), path)
 }
 
-// The files that are open while messages are counted.
+// The files that are open while messages are counted, and the operator.
 pub struct Desk {
     pub requests: i32,
     pub hours: i32,
+    pub op: u32,
 }
 
 // The message of n bytes in the room, counted at the next hour of the file; whether it could be.
@@ -248,7 +252,7 @@ fn take_message(
     if hour > 9999 {
         return false;
     }
-    count_message(table, &all[0..n], hour as u32, report, hours)
+    count_message(table, d.op, &all[0..n], hour as u32, report, hours)
 }
 
 // The messages stand back to back in their file.
@@ -301,6 +305,7 @@ fn follow(
 
 // Messages and hours opened, followed, closed.
 fn open_and_follow(
+    op: u32,
     requests: &[u8],
     hours: &[u8],
     table: &mut [u8],
@@ -318,6 +323,7 @@ fn open_and_follow(
     let d = Desk {
         requests: m,
         hours: h,
+        op: op,
     };
     let done = follow(d, requests, hours, table, report);
     libc::close(m);
@@ -325,7 +331,7 @@ fn open_and_follow(
     done
 }
 
-fn count_at(path: &[u8], from: &[u8], requests: &[u8], hours: &[u8], table: &mut [u8]) {
+fn count_at(op: u32, path: &[u8], from: &[u8], requests: &[u8], hours: &[u8], table: &mut [u8]) {
     let mut report = [0u64; 96];
     if !read_report(path, &mut report) {
         return;
@@ -337,7 +343,7 @@ fn count_at(path: &[u8], from: &[u8], requests: &[u8], hours: &[u8], table: &mut
     if table.len() < n {
         return;
     }
-    if open_and_follow(requests, hours, &mut table[0..n], &mut report) {
+    if open_and_follow(op, requests, hours, &mut table[0..n], &mut report) {
         replace(path, &report, b": the messages are counted");
     }
 }
@@ -354,8 +360,12 @@ fn new() {
     }
 }
 
-// REPORT TABLE REQUESTS HOURS. The table is read, and stays as it is.
+// REPORT TABLE REQUESTS HOURS [operator=N]. The table is read, and stays as it is.
 fn count(table: &mut [u8]) {
+    let said = tool_operator::only(7);
+    let Number::Is(op) = said else {
+        return;
+    };
     let mut path = io::buffer();
     let mut from = io::buffer();
     let mut requests = io::buffer();
@@ -364,7 +374,14 @@ fn count(table: &mut [u8]) {
     let t = os::arg(4, &mut from);
     let m = os::arg(5, &mut requests);
     let h = os::arg(6, &mut hours);
-    count_at(&path[..n], &from[..t], &requests[..m], &hours[..h], table);
+    count_at(
+        op,
+        &path[..n],
+        &from[..t],
+        &requests[..m],
+        &hours[..h],
+        table,
+    );
 }
 
 fn add() {
@@ -400,31 +417,34 @@ fn look(drawn: bool) {
     tool_bars::show(&report);
 }
 
-fn is_called(word: &[u8], name: &[u8], words: usize) -> bool {
+fn is_called(word: &[u8], name: &[u8], least: usize, most: usize) -> bool {
     if !octets::same_bytes(word, name) {
         return false;
     }
-    os::arg_count() == words
+    if os::arg_count() < least {
+        return false;
+    }
+    os::arg_count() <= most
 }
 
 fn run_word(word: &[u8], table: &mut [u8]) {
-    if is_called(word, b"new", 4) {
+    if is_called(word, b"new", 4, 4) {
         new();
         return;
     }
-    if is_called(word, b"count", 7) {
+    if is_called(word, b"count", 7, 8) {
         count(table);
         return;
     }
-    if is_called(word, b"add", 5) {
+    if is_called(word, b"add", 5, 5) {
         add();
         return;
     }
-    if is_called(word, b"show", 4) {
+    if is_called(word, b"show", 4, 4) {
         look(false);
         return;
     }
-    if is_called(word, b"draw", 4) {
+    if is_called(word, b"draw", 4, 4) {
         look(true);
         return;
     }

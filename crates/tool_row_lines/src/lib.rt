@@ -30,6 +30,16 @@ fn ones(x: u8) -> u32 {
     u8::count_ones(x)
 }
 
+// Whose a row is: the name and the operator.
+fn whose(out: &mut [u8; 4096], at: usize, row: &[u8]) -> usize {
+    if row.len() != table::ROW_LENGTH {
+        return at;
+    }
+    let a = name(out, at, row);
+    let b = say(out, a, b", operator ");
+    number(out, b, octets::wide(row[19]) as u64)
+}
+
 // The first line of row i: whose it is, and how many accesses stand.
 pub fn head(out: &mut [u8; 4096], i: usize, row: &[u8]) -> usize {
     if row.len() != table::ROW_LENGTH {
@@ -37,7 +47,7 @@ pub fn head(out: &mut [u8; 4096], i: usize, row: &[u8]) -> usize {
     }
     let a = which(out, i);
     let b = say(out, a, b": ");
-    let c = name(out, b, row);
+    let c = whose(out, b, row);
     let d = say(out, c, b", ");
     let e = number(out, d, ones(row::used_bits(row)) as u64);
     say(out, e, b" standing\n")
@@ -47,7 +57,7 @@ pub fn head(out: &mut [u8; 4096], i: usize, row: &[u8]) -> usize {
 pub fn unsound(out: &mut [u8; 4096], i: usize, row: &[u8]) -> usize {
     let a = which(out, i);
     let b = say(out, a, b": ");
-    let c = name(out, b, row);
+    let c = whose(out, b, row);
     say(out, c, b", NOT SOUND: ")
 }
 

@@ -5,8 +5,8 @@ use tool_outcomes::Sheets;
 use tool_streams::Source;
 use tool_totals::Totals;
 
-// The files that are open, -1 for one that was not asked for; the words that were said, by their numbers; and what the gateway says where no
-// file has it.
+// The files that are open, -1 for one that was not asked for; the words that were said, by their numbers; what the gateway says where no
+// file has it; and the operator.
 pub struct Desk {
     pub requests: i32,
     pub answers: i32,
@@ -16,6 +16,7 @@ pub struct Desk {
     pub hex: bool,
     pub quiet: bool,
     pub wag: bool,
+    pub op: u32,
     pub host: usize,
     pub realm: usize,
     pub only: usize,
@@ -74,8 +75,8 @@ fn serve_one(
     let mut answer = [0u8; 5120];
     let mut notice = [0u8; 256];
     let wag = b.wag == tool_expected::YES;
-    let why = reasons::first_failed(table, host, realm, m, wag, &answer, &notice);
-    let o = decision::handle(table, host, realm, m, wag, &mut answer, &mut notice);
+    let why = reasons::first_failed(table, d.op, host, realm, m, wag, &answer, &notice);
+    let o = decision::handle(table, d.op, host, realm, m, wag, &mut answer, &mut notice);
     report(d, answers, notices, m, b, o, why, &answer, &notice, t)
 }
 

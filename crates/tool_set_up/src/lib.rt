@@ -1,6 +1,7 @@
 // The commands that set a table up. A file is changed only by an operation that succeeds.
 use tool_files::Said;
 use tool_hold::Held;
+use tool_operator::Number;
 
 // The number of a set-up operation that changed nothing, in words.
 fn refused(number: u32) {
@@ -63,38 +64,97 @@ pub fn new(table: &mut [u8]) {
     new_at(&path[..n], &rows[..k], table);
 }
 
-fn enter_held(path: &[u8], h: Held, name: &[u8], table: &mut [u8]) {
-    let n = h.length;
-    if table.len() < n {
+// ENTERING
+
+// The first k numbers of the room are the shares.
+fn enter_shared(
+    path: &[u8],
+    h: Held,
+    op: u32,
+    room: &[u32; 17],
+    k: usize,
+    name: &[u8],
+    table: &mut [u8],
+) {
+    let shares: &[u32] = room;
+    if shares.len() < k {
         return;
     }
-    let number = setup::enter(&mut table[0..n], name);
+    let number = setup::enter(table, op, &shares[0..k], name);
     if number != 0 {
         refused(number);
         return;
     }
-    keep(path, h, &table[0..n], b": the subscriber is entered");
+    keep(path, h, table, b": the subscriber is entered");
 }
 
-fn enter_at(path: &[u8], name: &[u8], table: &mut [u8]) {
+// What the words say of shares is read here, where the rows are known.
+fn enter_held(path: &[u8], h: Held, op: u32, name: &[u8], table: &mut [u8]) {
+    let n = h.length;
+    if table.len() < n {
+        return;
+    }
+    let mut room = [0u32; 17];
+    let word = tool_operator::find(4, b"shares=");
+    let k = tool_operator::shares(word, op, n / 4608, &mut room);
+    if k != 0 {
+        enter_shared(path, h, op, &room, k, name, &mut table[0..n]);
+    }
+}
+
+fn enter_at(path: &[u8], op: u32, name: &[u8], table: &mut [u8]) {
     let h = tool_hold::hold(path, table);
     if tool_hold::is_held(h) {
-        enter_held(path, h, name, table);
+        enter_held(path, h, op, name, table);
         tool_hold::leave(path, h);
     }
 }
 
+// Whether word i, if it is there, is the first of its kind.
+fn is_of_enter(i: usize) -> bool {
+    if os::arg_count() <= i {
+        return true;
+    }
+    if tool_operator::find(4, b"operator=") == i {
+        return true;
+    }
+    tool_operator::find(4, b"shares=") == i
+}
+
+// Whether the words behind the name have a meaning; why not is said.
+fn check_enter() -> bool {
+    if is_of_enter(4) {
+        if is_of_enter(5) {
+            return true;
+        }
+    }
+    tool_files::refuse(
+        b"behind the name there may stand operator=N and shares=A,B,.., each once, and nothing else",
+    );
+    false
+}
+
 pub fn enter(table: &mut [u8]) {
+    if !check_enter() {
+        return;
+    }
+    let said = tool_operator::operator(tool_operator::find(4, b"operator="));
+    let Number::Is(op) = said else {
+        return;
+    };
     let mut path = io::buffer();
     let mut name = io::buffer();
     let n = os::arg(2, &mut path);
     let k = os::arg(3, &mut name);
-    enter_at(&path[..n], &name[..k], table);
+    enter_at(&path[..n], op, &name[..k], table);
 }
+
+// ADDING
 
 fn add_held(
     path: &[u8],
     h: Held,
+    op: u32,
     name: &[u8],
     label: &[u8],
     limit: u8,
@@ -105,7 +165,7 @@ fn add_held(
     if table.len() < n {
         return;
     }
-    let number = setup::add(&mut table[0..n], name, label, limit, flags);
+    let number = setup::add(&mut table[0..n], op, name, label, limit, flags);
     if number != 0 {
         refused(number);
         return;
@@ -113,15 +173,15 @@ fn add_held(
     keep(path, h, &table[0..n], b": the label is added");
 }
 
-fn add_at(path: &[u8], name: &[u8], label: &[u8], limit: u8, flags: u8, table: &mut [u8]) {
+fn add_at(path: &[u8], op: u32, name: &[u8], label: &[u8], limit: u8, flags: u8, table: &mut [u8]) {
     let h = tool_hold::hold(path, table);
     if tool_hold::is_held(h) {
-        add_held(path, h, name, label, limit, flags, table);
+        add_held(path, h, op, name, label, limit, flags, table);
         tool_hold::leave(path, h);
     }
 }
 
-// What the words behind the limit say: 1 barred, 2 may roam, 4 something else.
+// What a word behind the limit says of the label: 1 barred, 2 may roam, 0 nothing, but whose the subscriber is, 4 something else.
 fn flag(i: usize) -> u8 {
     if os::arg_count() <= i {
         return 0;
@@ -134,21 +194,27 @@ fn flag(i: usize) -> u8 {
     if octets::same_bytes(&word[..n], b"roam") {
         return 2;
     }
+    if tool_operator::find(6, b"operator=") == i {
+        return 0;
+    }
     4
 }
 
-// Both words together: the same word twice says no more than once.
+// The words together: barred or roam twice says no more than once.
 fn flags() -> u8 {
-    flag(6) | flag(7)
+    flag(6) | flag(7) | flag(8)
 }
 
 // The limit is a byte for the server, which tests it; what is no byte is refused here.
-fn limited(path: &[u8], name: &[u8], label: &[u8], limit: &[u8], table: &mut [u8]) {
-    let f = flags();
-    if 3 < f {
-        tool_files::refuse(b"behind the limit there may stand barred and roam, and nothing else");
-        return;
-    }
+fn add_limited(
+    path: &[u8],
+    op: u32,
+    name: &[u8],
+    label: &[u8],
+    limit: &[u8],
+    flags: u8,
+    table: &mut [u8],
+) {
     let said = tool_files::number(limit);
     let Said::Number(n) = said else {
         tool_files::refuse_word(limit, b": no limit, 1 to 8");
@@ -158,10 +224,11 @@ fn limited(path: &[u8], name: &[u8], label: &[u8], limit: &[u8], table: &mut [u8
         tool_files::refuse_word(limit, b": no limit, 1 to 8");
         return;
     }
-    add_at(path, name, label, n as u8, f, table);
+    add_at(path, op, name, label, n as u8, flags, table);
 }
 
-pub fn add(table: &mut [u8]) {
+// The words behind the limit have a meaning.
+fn add_of(op: u32, flags: u8, table: &mut [u8]) {
     let mut path = io::buffer();
     let mut name = io::buffer();
     let mut label = io::buffer();
@@ -170,5 +237,28 @@ pub fn add(table: &mut [u8]) {
     let k = os::arg(3, &mut name);
     let l = os::arg(4, &mut label);
     let m = os::arg(5, &mut limit);
-    limited(&path[..n], &name[..k], &label[..l], &limit[..m], table);
+    add_limited(
+        &path[..n],
+        op,
+        &name[..k],
+        &label[..l],
+        &limit[..m],
+        flags,
+        table,
+    );
+}
+
+pub fn add(table: &mut [u8]) {
+    let f = flags();
+    if 3 < f {
+        tool_files::refuse(
+            b"behind the limit there may stand barred, roam and, once, operator=N, and nothing else",
+        );
+        return;
+    }
+    let said = tool_operator::operator(tool_operator::find(6, b"operator="));
+    let Number::Is(op) = said else {
+        return;
+    };
+    add_of(op, f, table);
 }

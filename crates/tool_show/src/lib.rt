@@ -1,5 +1,6 @@
 // The command that shows a table.
 use table::RowFound;
+use tool_operator::Number;
 use tool_words::say;
 
 // The labels of a sound row.
@@ -95,13 +96,17 @@ fn show_all(table: &[u8], out: &mut [u8; 4096]) {
     tool_files::print(out, d);
 }
 
-fn show_one(table: &[u8], name: &[u8], out: &mut [u8; 4096]) {
+fn show_one(table: &[u8], op: u32, name: &[u8], out: &mut [u8; 4096]) {
     if table::table_number(table) != 0 {
         return;
     }
-    let found = table::lookup(table, name);
+    if table::number_for(table, op) != 0 {
+        tool_files::refuse(b"number 33: the operator is over 15");
+        return;
+    }
+    let found = table::lookup(table, op, name);
     let RowFound::At(i) = found else {
-        tool_files::refuse_word(name, b": the table has no such subscriber");
+        tool_files::refuse_word(name, b": the operator has no such subscriber");
         return;
     };
     show_or_skip(table, i, out);
@@ -120,9 +125,13 @@ fn shown(path: &[u8], table: &mut [u8]) {
         show_all(&table[0..n], &mut out);
         return;
     }
+    let said = tool_operator::only(4);
+    let Number::Is(op) = said else {
+        return;
+    };
     let mut name = io::buffer();
     let k = os::arg(3, &mut name);
-    show_one(&table[0..n], &name[..k], &mut out);
+    show_one(&table[0..n], op, &name[..k], &mut out);
 }
 
 pub fn show(table: &mut [u8]) {

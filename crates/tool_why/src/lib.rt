@@ -65,7 +65,7 @@ fn reading(out: &mut [u8; 4096], at: usize, reason: Reason) -> usize {
 // The row, and deciding on it.
 fn deciding(out: &mut [u8; 4096], at: usize, reason: Reason) -> usize {
     match reason {
-        Reason::NoRow => say(out, at, b": no subscriber has that name"),
+        Reason::NoRow => say(out, at, b": the operator has no subscriber of that name"),
         Reason::UnsoundRow => say(out, at, b": the subscriber's row is not sound"),
         Reason::NotEntered => say(out, at, b": the subscriber does not have that label"),
         Reason::EntryBarred => say(out, at, b": the label is barred"),

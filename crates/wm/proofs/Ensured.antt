@@ -45,25 +45,25 @@ use Rattle.wm.proofs.wm_screens_connected.Kinds as ScreensConnected
 use Rattle.wm.proofs.wm_screens_connected.Reads as WmScreensConnected
 use Rattle.wm.proofs.NoSecondAnswer.{one-answer-in-c}
 
--- table, host, realm, message, wag, answer, notice
+-- table, operator, host, realm, message, wag, answer, notice
 module _ (κs : Lfts 6) (a : Dens κs Handle.ps) where
   abbrev After : Type 0
   After = AtExit (endedOf 6 Handle.ps Handle.r) κs
 
   abbrev given : WmOutcome → After → GivenInC
-  given o x = record { outcome = o; table = now (x .0); answer = now (x .1 .1 .1 .1 .1 .0); notice = now (x .1 .1 .1 .1 .1 .1 .0) }
+  given o x = record { outcome = o; table = now (x .0); answer = now (x .1 .1 .1 .1 .1 .1 .0); notice = now (x .1 .1 .1 .1 .1 .1 .1 .0) }
 
   pub handle-gives-one : (o p : WmOutcome) (x y : After) → Handling.Learnt κs a o x → Handling.Learnt κs a p y → given o x ≡ given p y
   handle-gives-one o p x y =
-      one-answer-in-c (now (a .0)) (now (a .1 .0)) (now (a .1 .1 .0)) (now (a .1 .1 .1 .0)) (a .1 .1 .1 .1 .0) (now (a .1 .1 .1 .1 .1 .0))
-      (now (a .1 .1 .1 .1 .1 .1 .0)) (given o x) (given p y)
+      one-answer-in-c (now (a .0)) (a .1 .0) (now (a .1 .1 .0)) (now (a .1 .1 .1 .0)) (now (a .1 .1 .1 .1 .0)) (a .1 .1 .1 .1 .1 .0) (now (a .1 .1 .1 .1 .1 .1 .0))
+      (now (a .1 .1 .1 .1 .1 .1 .1 .0)) (given o x) (given p y)
 
 -- SET-UP: each ensures what the operation of `setup` does, word for word.
 
 pub clear-as-set-up : (κs : Lfts 1) (a : Dens κs Clear.ps) (n : ℕ) (x : AtExit (endedOf 1 Clear.ps Clear.r) κs) → WmClear.Learnt κs a n x → Clearing.Learnt κs a n x
 clear-as-set-up κs a n x e = e
 
-pub enter-as-set-up : (κs : Lfts 2) (a : Dens κs Enter.ps) (n : ℕ) (x : AtExit (endedOf 2 Enter.ps Enter.r) κs) → WmEnter.Learnt κs a n x → Entering.Learnt κs a n x
+pub enter-as-set-up : (κs : Lfts 3) (a : Dens κs Enter.ps) (n : ℕ) (x : AtExit (endedOf 3 Enter.ps Enter.r) κs) → WmEnter.Learnt κs a n x → Entering.Learnt κs a n x
 enter-as-set-up κs a n x e = e
 
 pub add-as-set-up : (κs : Lfts 3) (a : Dens κs Add.ps) (n : ℕ) (x : AtExit (endedOf 3 Add.ps Add.r) κs) → WmAdd.Learnt κs a n x → Adding.Learnt κs a n x

@@ -30,4 +30,4 @@ one-given : (g h : GivenInC) → leavesInC (g .outcome) (g .table) (g .answer) (
 one-given g h e = sym (given-back g) ∙ ap givenBack e ∙ given-back h
 
 pub one-answer-in-c : OneAnswerInC
-one-answer-in-c table host realm message wag answer notice g h p q = one-given g h (p ∙ sym q)
+one-answer-in-c table operator host realm message wag answer notice g h p q = one-given g h (p ∙ sym q)

@@ -23,7 +23,7 @@ use Rattle.table.proofs.Good.{Good, goodAccess, places-eight, standing}
 use Rattle.table.proofs.Sound.{says-good}
 use Rattle.changes.specs.Changes.{lowestFree, vacant}
 use Rattle.rules.specs.Deciding.{Verdict, admit, atLimit, atPlace, decide, entryNamed, grant, heldAlready, openOn, refuse, terminate, type0, type1}
-use Rattle.rules.specs.Calls.{Call, Left, callNumber, handle, onReading, onRow, refusal, reply, resultOf, settled, silent}
+use Rattle.rules.specs.Calls.{account, Call, Left, callNumber, handle, onReading, onRow, refusal, reply, resultOf, settled, silent}
 use Rattle.decision.specs.Outcomes.{callOf}
 use Rattle.wm.specs.InC.{In32}
 use Rattle.decision.proofs.Numbers.{Ready, handled, is-ready, unanswered}
@@ -118,14 +118,14 @@ module _ (t : List ℕ) (c : Call) (ready : Ready (c .message) (c .host) (c .rea
   reading-small : (g : Reading) → read (c .message) ≡ g → In32 ((onReading t c g) .reply .result)
   unfolding onReading numberOf
   reading-small (refused n) e = refusal-small (plain n) (λ h. never-2001 (c .message) n e h)
-  reading-small (request q) e = row-small q e (lookup t (q .user))
+  reading-small (request q) e = row-small q e (lookup t (account c q))
 
-pub small : (t m host realm room notice : List ℕ) (wag : Bool) → In32 ((handle t (callOf m host realm room notice wag)) .reply .result)
+pub small : (t : List ℕ) (o : ℕ) (m host realm room notice : List ℕ) (wag : Bool) → In32 ((handle t (callOf o m host realm room notice wag)) .reply .result)
 unfolding silent callOf
-small t m host realm room notice wag =
-    let c : Call = callOf m host realm room notice wag in
+small t o m host realm room notice wag =
+    let c : Call = callOf o m host realm room notice wag in
     by-test (eqb (callNumber t c) 0)
     (λ e. let z : callNumber t c ≡ 0 = eqb-true (callNumber t c) 0 e in
-    rw (handled t c z) (reading-small t c (is-ready t m host realm room notice wag z) (read m) refl))
+    rw (handled t c z) (reading-small t c (is-ready t o m host realm room notice wag z) (read m) refl))
     (λ e. rw (sym (unanswered t c (callNumber t c) refl (eqb-false (callNumber t c) 0 e)))
     (record { length-fits = omega arith; place-fits = omega arith; session-fits = omega arith; host-fits = omega arith }))

@@ -18,13 +18,13 @@ pub record GivenInC : Type 0 where
   pub notice : List ℕ
 
 -- What `wm_handle` ensures of that.
-abbrev pub PromisedInC : (table host realm message : List ℕ) → (wag : Bool) → (answer notice : List ℕ) → GivenInC → Type 0
-PromisedInC table host realm message wag answer notice g =
-    leavesInC (g .outcome) (g .table) (g .answer) (g .notice) ≡ handle table (callOf message host realm answer notice wag)
+abbrev pub PromisedInC : (table : List ℕ) → (operator : ℕ) → (host realm message : List ℕ) → (wag : Bool) → (answer notice : List ℕ) → GivenInC → Type 0
+PromisedInC table operator host realm message wag answer notice g =
+    leavesInC (g .outcome) (g .table) (g .answer) (g .notice) ≡ handle table (callOf operator message host realm answer notice wag)
 
 abbrev pub OneAnswerInC : Type 0
 OneAnswerInC =
-    (table host realm message : List ℕ) (wag : Bool) (answer notice : List ℕ) (g h : GivenInC)
-    → PromisedInC table host realm message wag answer notice g
-    → PromisedInC table host realm message wag answer notice h
+    (table : List ℕ) (operator : ℕ) (host realm message : List ℕ) (wag : Bool) (answer notice : List ℕ) (g h : GivenInC)
+    → PromisedInC table operator host realm message wag answer notice g
+    → PromisedInC table operator host realm message wag answer notice h
     → g ≡ h

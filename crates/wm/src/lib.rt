@@ -28,21 +28,28 @@ pub extern "C" fn wm_clear(table: &mut [u8]) -> u32
     setup::clear(table)
 }
 
-// A subscriber of that name, in the first row that is wholly zero.
+// A subscriber of that operator and name, in the first row that is wholly zero, if the operator's share has room.
 #[no_mangle]
-pub extern "C" fn wm_enter(table: &mut [u8], name: &[u8]) -> u32
-    ensures { λ r. ⌜ left r (now (table .exit)) ≡ enter (now (table .entry)) (now (name .entry)) ⌝ }
+pub extern "C" fn wm_enter(table: &mut [u8], op: u32, shares: &[u32], name: &[u8]) -> u32
+    ensures { λ r. ⌜ left r (now (table .exit)) ≡ enter (now (table .entry)) (now (shares .entry)) (record { operator = op; name = now (name .entry) }) ⌝ }
 {
-    setup::enter(table, name)
+    setup::enter(table, op, shares, name)
 }
 
-// An access point name for the subscriber of that name.
+// An access point name for the subscriber of that operator and name.
 #[no_mangle]
-pub extern "C" fn wm_add(table: &mut [u8], name: &[u8], label: &[u8], limit: u8, flags: u8) -> u32
+pub extern "C" fn wm_add(
+    table: &mut [u8],
+    op: u32,
+    name: &[u8],
+    label: &[u8],
+    limit: u8,
+    flags: u8,
+) -> u32
     ensures { λ r. ⌜ left r (now (table .exit))
-        ≡ add (now (table .entry)) (now (name .entry)) (record { label = now (label .entry); flags = flags; limit = limit }) ⌝ }
+        ≡ add (now (table .entry)) (record { operator = op; name = now (name .entry) }) (record { label = now (label .entry); flags = flags; limit = limit }) ⌝ }
 {
-    setup::add(table, name, label, limit, flags)
+    setup::add(table, op, name, label, limit, flags)
 }
 
 // A REQUEST
@@ -126,6 +133,7 @@ fn outcome_in_c(o: Outcome) -> WmOutcome
 #[no_mangle]
 pub extern "C" fn wm_handle(
     table: &mut [u8],
+    op: u32,
     host: &[u8],
     realm: &[u8],
     message: &[u8],
@@ -134,9 +142,9 @@ pub extern "C" fn wm_handle(
     notice: &mut [u8],
 ) -> WmOutcome
     ensures { λ r. ⌜ leavesInC r (now (table .exit)) (now (answer .exit)) (now (notice .exit))
-        ≡ handle (now (table .entry)) (callOf (now (message .entry)) (now (host .entry)) (now (realm .entry)) (now (answer .entry)) (now (notice .entry)) wag) ⌝ }
+        ≡ handle (now (table .entry)) (callOf op (now (message .entry)) (now (host .entry)) (now (realm .entry)) (now (answer .entry)) (now (notice .entry)) wag) ⌝ }
 {
-    outcome_in_c(decision::handle(table, host, realm, message, wag, answer, notice))
+    outcome_in_c(decision::handle(table, op, host, realm, message, wag, answer, notice))
 }
 
 // THE YEAR BY HOUR: 0, or 29 and 30, with which the report is as it was

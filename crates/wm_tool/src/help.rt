@@ -10,13 +10,20 @@ fn tables() {
         b"play                              the worked cases on a fresh table: watch a cut happen\n",
     );
     line(b"play new TABLE ROWS               a new table of 1 to 1024 free rows\n");
-    line(b"play enter TABLE NAME             a subscriber, 1 to 15 digits\n");
-    line(b"play add TABLE NAME LABEL LIMIT [barred] [roam]\n");
+    line(b"play enter TABLE NAME [operator=N] [shares=A,B,..]\n");
+    line(
+        b"                                  a subscriber, 1 to 15 digits, of that operator, 0 to 15. The shares are how\n",
+    );
+    line(
+        b"                                  many rows each of the sixteen may have; without them this one may have all\n",
+    );
+    line(b"play add TABLE NAME LABEL LIMIT [barred] [roam] [operator=N]\n");
     line(
         b"                                  an access point name for a subscriber, 1 to 8 accesses at a time\n",
     );
+    line(b"play show TABLE [NAME [operator=N]]\n");
     line(
-        b"play show TABLE [NAME]            the subscribers, or one: labels, and accesses from the oldest on\n",
+        b"                                  the subscribers, or one: labels, and accesses from the oldest on\n",
     );
 }
 
@@ -40,6 +47,7 @@ fn serving() {
         b"    wag=yes wag=no wags=FILE      the gateway takes every policy, as without a word; or none; or\n",
     );
     line(b"                                  as FILE says, yes or no, a line for each message\n");
+    line(b"    operator=N                    whose subscribers the messages are about\n");
     line(
         b"    only=NAME                     only the messages of that User-Name; the others are passed over\n",
     );
@@ -65,7 +73,7 @@ fn expecting() {
 // The commands on reports, and the board.
 fn reports() {
     line(b"play report new REPORT            a report by hour, nothing counted\n");
-    line(b"play report count REPORT TABLE REQUESTS HOURS\n");
+    line(b"play report count REPORT TABLE REQUESTS HOURS [operator=N]\n");
     line(
         b"                                  what the messages come to on TABLE, which stays as it is, counted at the\n",
     );
@@ -96,7 +104,7 @@ fn rest() {
     line(
         b"Messages stand back to back in their files, if it is not said that they are lines of hex; notices\n",
     );
-    line(b"too, of 256 bytes each.\n");
+    line(b"too, of 256 bytes each. The operator is 0 where it is not said.\n");
 }
 
 pub fn say() {
@@ -123,25 +131,29 @@ fn is_set_up(word: &[u8]) -> bool {
     if is_used(word, b"new", b"usage: play new TABLE ROWS") {
         return true;
     }
-    if is_used(word, b"enter", b"usage: play enter TABLE NAME") {
+    if is_used(
+        word,
+        b"enter",
+        b"usage: play enter TABLE NAME [operator=N] [shares=A,B,..]",
+    ) {
         return true;
     }
     is_used(
         word,
         b"add",
-        b"usage: play add TABLE NAME LABEL LIMIT [barred] [roam]",
+        b"usage: play add TABLE NAME LABEL LIMIT [barred] [roam] [operator=N]",
     )
 }
 
 // Likewise, for those that set nothing up.
 fn is_other(word: &[u8]) -> bool {
-    if is_used(word, b"show", b"usage: play show TABLE [NAME]") {
+    if is_used(word, b"show", b"usage: play show TABLE [NAME [operator=N]]") {
         return true;
     }
     if is_used(
         word,
         b"handle",
-        b"usage: play handle TABLE REQUESTS ANSWERS NOTICES [hex] [quiet] [host=NAME] [realm=NAME] [wag=yes|wag=no|wags=FILE] [only=NAME] [codes=FILE]",
+        b"usage: play handle TABLE REQUESTS ANSWERS NOTICES [hex] [quiet] [host=NAME] [realm=NAME] [wag=yes|wag=no|wags=FILE] [operator=N] [only=NAME] [codes=FILE]",
     ) {
         return true;
     }
@@ -151,7 +163,7 @@ fn is_other(word: &[u8]) -> bool {
     if is_used(
         word,
         b"report",
-        b"usage: play report new|count|add|show|draw REPORT [TABLE REQUESTS HOURS|OTHER]",
+        b"usage: play report new|count|add|show|draw REPORT [TABLE REQUESTS HOURS [operator=N]|OTHER]",
     ) {
         return true;
     }

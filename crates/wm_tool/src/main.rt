@@ -33,19 +33,19 @@ fn run(word: &[u8], table: &mut [u8; 4718593]) {
         tool_set_up::new(table);
         return;
     }
-    if is_called(word, b"enter", 4, 4) {
+    if is_called(word, b"enter", 4, 6) {
         tool_set_up::enter(table);
         return;
     }
-    if is_called(word, b"add", 6, 8) {
+    if is_called(word, b"add", 6, 9) {
         tool_set_up::add(table);
         return;
     }
-    if is_called(word, b"show", 3, 4) {
+    if is_called(word, b"show", 3, 5) {
         tool_show::show(table);
         return;
     }
-    if is_called(word, b"handle", 6, 13) {
+    if is_called(word, b"handle", 6, 14) {
         tool_handle::handle(table);
         return;
     }
@@ -53,7 +53,7 @@ fn run(word: &[u8], table: &mut [u8; 4718593]) {
         tool_decode::decode();
         return;
     }
-    if is_called(word, b"report", 4, 7) {
+    if is_called(word, b"report", 4, 8) {
         tool_report::run(table);
         return;
     }

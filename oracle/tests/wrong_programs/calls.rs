@@ -3,7 +3,7 @@
 use oracle::handling::{Call, handle, no_answer};
 use oracle::reading_a_message::*;
 use oracle::rules::Rules;
-use oracle::set_up::{NewEntry, add, may_add};
+use oracle::set_up::{NewEntry, add, may_add, name_fits};
 use oracle::the_table::*;
 use oracle::writing_the_answer::*;
 use oracle::{Code, Outcome, SUCCESS, plain};
@@ -133,24 +133,24 @@ pub fn programs() -> Vec<Wrong> {
             0
         };
         "a row is free if its first byte is zero": row_is_free = |row| row[0] == 0;
-        "enters a name that an unsound row holds": enter = |r, table, name| {
-            let free = (r.find)(r, table, name).is_some_and(|i| sound(r, row_at(table, i)).is_none());
-            let other = Rules { find: |_, _, _| None, ..RIGHT };
-            if free { (RIGHT.enter)(&other, table, name) } else { (RIGHT.enter)(&RIGHT, table, name) }
+        "enters a name that an unsound row holds": enter = |r, table, new| {
+            let held = (r.find)(r, table, new.operator, new.name);
+            let free = held.is_some_and(|i| sound(r, row_at(table, i)).is_none());
+            let other = Rules { find: |_, _, _, _| None, ..RIGHT };
+            if free { (RIGHT.enter)(&other, table, new) } else { (RIGHT.enter)(&RIGHT, table, new) }
         };
-        "enters names of any characters": enter = |_, table, name| {
-            match (RIGHT.enter)(&RIGHT, table, name) {
-                9 if (1..=15).contains(&name.len()) => 11,
+        "enters names of any characters": enter = |_, table, new| {
+            match (RIGHT.enter)(&RIGHT, table, new) {
+                9 if (1..=15).contains(&new.name.len()) => 11,
                 number => number,
             }
         };
-        "tests the name on adding a W-APN": add = |r, table, name, new| {
-            let digits = (1..=15).contains(&name.len()) && name.iter().all(u8::is_ascii_digit);
-            match add(r, table, name, new) { 12 if !digits => 9, number => number }
+        "tests the name on adding a W-APN": add = |r, table, operator, name, new| {
+            match add(r, table, operator, name, new) { 12 if !name_fits(name) => 9, number => number }
         };
-        "tests the new entry before the row": add = |r, table, name, new| {
+        "tests the new entry before the row": add = |r, table, operator, name, new| {
             let bad = may_add(&Row::default(), new) == 14;
-            match add(r, table, name, new) { 12 | 13 if bad => 14, number => number }
+            match add(r, table, operator, name, new) { 12 | 13 if bad => 14, number => number }
         };
         "tests the sum before the count": may_add = |row, new| match may_add(row, new) {
             16 if limit_sum(row) + u32::from(new.limit) > 8 => 17,

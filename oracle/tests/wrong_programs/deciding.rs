@@ -183,6 +183,7 @@ pub fn programs() -> Vec<Wrong> {
 }
 
 fn row_asked_about(call: &Call) -> Option<Row> {
-    let index = find(call.table, &asked_about(call.message, USER_NAME))?;
+    let name = asked_about(call.message, USER_NAME);
+    let index = find(call.table, call.operator, &name)?;
     decode(row_at(call.table, index))
 }

@@ -12,6 +12,7 @@ mod calls;
 mod deciding;
 mod labels;
 mod lists;
+mod operators;
 mod reading;
 mod table;
 mod writing;
@@ -22,8 +23,8 @@ use oracle::program::Program;
 use oracle::reading_a_message::{Name, is, walk};
 use oracle::rules::{DOCUMENT_01, Rules};
 use oracle::script::{Record, judge};
-use oracle::set_up::NewEntry;
-use oracle::the_table::CONDITIONS;
+use oracle::set_up::{NewEntry, NewRow};
+use oracle::the_table::{CONDITIONS, Row, encode, sound};
 use oracle::{Outcome, SUCCESS};
 
 const RIGHT: Rules = DOCUMENT_01;
@@ -53,17 +54,19 @@ fn every_wrong_program_is_told_apart() {
         table::programs(),
         deciding::programs(),
         labels::programs(),
+        operators::programs(),
         writing::programs(),
     ]
     .concat();
-    assert!(programs.len() > 150);
+    assert!(programs.len() > 210);
     for (name, rules) in &mut programs {
         if told_apart(rules, &records).is_none() {
             unnoticed.push(name.to_string());
         }
     }
     for left_out in 0..CONDITIONS.len() {
-        if told_apart(&mut without_condition(left_out), &records).is_none() {
+        let mut rules = without_condition(left_out);
+        if told_apart(&mut rules, &records).is_none() && !takes_operator_16(&rules) {
             unnoticed.push(format!("does not test condition {left_out} of a sound row"));
         }
     }
@@ -86,12 +89,12 @@ impl Program for Echo {
         RIGHT.clone().clear(table)
     }
 
-    fn enter(&mut self, table: &mut [u8], name: &[u8]) -> u8 {
-        RIGHT.clone().enter(table, name)
+    fn enter(&mut self, table: &mut [u8], new: &NewRow) -> u8 {
+        RIGHT.clone().enter(table, new)
     }
 
-    fn add(&mut self, table: &mut [u8], name: &[u8], new: &NewEntry) -> u8 {
-        RIGHT.clone().add(table, name, new)
+    fn add(&mut self, table: &mut [u8], operator: u32, name: &[u8], new: &NewEntry) -> u8 {
+        RIGHT.clone().add(table, operator, name, new)
     }
 
     fn handle(&mut self, call: Call) -> Outcome {
@@ -107,6 +110,17 @@ impl Program for Echo {
         outcome.code = SUCCESS;
         outcome
     }
+}
+
+/// No call finds a row of an operator over 15, so that no script can tell whether it is
+/// sound; the row itself does.
+fn takes_operator_16(rules: &Rules) -> bool {
+    let row = Row {
+        operator: 16,
+        name: b"1".to_vec(),
+        ..Row::default()
+    };
+    sound(rules, &encode(rules, &row)).is_some()
 }
 
 /// A program for which one condition of a sound row does not count.

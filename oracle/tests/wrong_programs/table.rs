@@ -83,6 +83,10 @@ fn no_access_on_barred(row: &Row) -> bool {
     !row.places.iter().flatten().any(barred)
 }
 
+fn matches(row: &[u8], operator: u32, name: &[u8]) -> bool {
+    is_of(row, operator) && bears(row, name)
+}
+
 pub fn programs() -> Vec<Wrong> {
     wrong! {
         "sums modulo 256": sums = sums_modulo_256;
@@ -106,7 +110,6 @@ pub fn programs() -> Vec<Wrong> {
         "does not look at the ends of blocks": same_row = |held, written| {
             same_but(held, written, |i| i % BLOCK < 448)
         };
-        "does not look at byte 19": same_row = |held, written| same_but(held, written, |i| i != 19);
         "does not look at bytes 28 to 31": same_row = |held, written| {
             same_but(held, written, |i| !(28..32).contains(&i))
         };
@@ -144,24 +147,24 @@ pub fn programs() -> Vec<Wrong> {
             let used = |b: &[u8]| b[0] != 0;
             held.chunks(BLOCK).zip(written.chunks(BLOCK)).all(|(h, w)| h == w || !used(h))
         };
-        "skips an unsound row of the same name": find = |r, table, name| {
+        "skips an unsound row of the same name": find = |r, table, operator, name| {
             let rows = || table.chunks_exact(ROW);
-            rows().position(|row| bears(row, name) && sound(r, row).is_some())
-                .or_else(|| rows().position(|row| bears(row, name)))
+            rows().position(|row| matches(row, operator, name) && sound(r, row).is_some())
+                .or_else(|| rows().position(|row| matches(row, operator, name)))
         };
-        "finds sound rows only": find = |r, table, name| {
-            table.chunks_exact(ROW).position(|row| bears(row, name) && sound(r, row).is_some())
+        "finds sound rows only": find = |r, table, operator, name| {
+            table.chunks_exact(ROW).position(|row| matches(row, operator, name) && sound(r, row).is_some())
         };
-        "finds the last row of a name": find = |_, table, name| {
-            table.chunks_exact(ROW).rposition(|row| bears(row, name))
+        "finds the last row of a name": find = |_, table, operator, name| {
+            table.chunks_exact(ROW).rposition(|row| matches(row, operator, name))
         };
-        "does not look at a row's first byte": find = |_, table, name| {
+        "does not look at a row's first byte": find = |_, table, operator, name| {
             table.chunks_exact(ROW).position(|row| {
-                bears(&[&[1], &row[1..]].concat(), name)
+                matches(&[&[1], &row[1..]].concat(), operator, name)
             })
         };
-        "finds a row by the front of its name": find = |_, table, name| {
-            let fits = |row: &[u8]| row[0] == 1 && row[NAME..].starts_with(name);
+        "finds a row by the front of its name": find = |_, table, operator, name| {
+            let fits = |row: &[u8]| row[0] == 1 && is_of(row, operator) && row[NAME..].starts_with(name);
             table.chunks_exact(ROW).position(|row| (1..=15).contains(&name.len()) && fits(row))
         };
         "does not test soundness": same_row = |_, _| true, conditions = &[];

@@ -3,7 +3,7 @@ use mathlib.Core.Path.{_∙_}
 use native.Mathlib.Omega.{arith}
 use lib.ListN.{getD}
 use borrow.Author.Needs.{needs}
-use borrow.Author.Tests.{eq-eqb, eqb-true, le-leb}
+use borrow.Author.Tests.{eq-eqb, eqb-true, le-leb, leb-true}
 use Rattle.table.proofs.Tests.{clash, fails, head-last, not-head, passes-on}
 use Rattle.blocks.proofs.head_form.Statement.{statement}
 use Rattle.blocks.proofs.head_form.Tie as tie
@@ -42,7 +42,7 @@ returns-4 : tie.Need-returns-4
 returns-4 c =
     let given = c .before .before .before .before .before .before .before .before .before .args in
     let test4 = c .if4 in
-    not-head (given .b .now) (λ h n k. test4 .taken (eqb-true (getD (given .b .now) 19 0) 0 (h .nineteen)))
+    not-head (given .b .now) (λ h n k. omega (arith, leb-true (getD (given .b .now) 19 0) 15 (h .nineteen)))
 
 sub-line-form : tie.Need-sub-line-form
 sub-line-form c = search needs
@@ -107,7 +107,7 @@ returns-7 c =
     let test5 = c .before .before .before .before .before .if5 in
     let all-zero-was = c .before .before .before .all-zero in
     let test6 = c .before .before .if6 in
-    all-zero2-was .ensures ∙ head-last (given .b .now) (eq-eqb (getD (given .b .now) 0 0) 1 (test1 .left)) (passes-on (name-form-was .ensures) (test2 .left)) (le-leb (getD (given .b .now) 18 0) 4 (test3 .left)) (eq-eqb (getD (given .b .now) 19 0) 0 (test4 .left)) (passes-on (line-form-was .ensures) (test5 .left)) (passes-on (all-zero-was .ensures) (test6 .left))
+    all-zero2-was .ensures ∙ head-last (given .b .now) (eq-eqb (getD (given .b .now) 0 0) 1 (test1 .left)) (passes-on (name-form-was .ensures) (test2 .left)) (le-leb (getD (given .b .now) 18 0) 4 (test3 .left)) (le-leb (getD (given .b .now) 19 0) 15 (test4 .left)) (passes-on (line-form-was .ensures) (test5 .left)) (passes-on (all-zero-was .ensures) (test6 .left))
 
 pub head-form-spec : {M : Type 1} → statement M
 head-form-spec =

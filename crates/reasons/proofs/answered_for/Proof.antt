@@ -6,6 +6,7 @@ use Rattle.octets.proofs.Lists.{and-left, and-right}
 use Rattle.message.specs.ReadingAMessage.{read, refused, request}
 use Rattle.message.specs.Spans.{asks, bytesOf, isInside, says, spans, spansIn}
 use Rattle.decision.specs.Outcomes.{callOf}
+use Rattle.rules.specs.Calls.{account}
 use Rattle.reasons.proofs.OnRow.{not-read, was-read}
 use borrow.Author.Needs.{needs}
 use Rattle.reasons.proofs.answered_for.Statement.{statement}
@@ -27,7 +28,7 @@ returns c =
     let m = a .m .now in
     λ host realm answer notice.
     let is : read m ≡ refused _ = sym (c .before .before .before .read .ensures .reading) ∙ ap (says m) (c .before .enum-told .given .1) in
-    c .reading-failed .ensures ∙ not-read (a .table .now) (callOf m host realm answer notice (a .wag)) _ is
+    c .reading-failed .ensures ∙ not-read (a .table .now) (callOf (a .op) m host realm answer notice (a .wag)) _ is
 
 enum-known-told : tie.Need-enum-known-told
 enum-known-told c = search needs
@@ -43,7 +44,7 @@ request-failed-requires c κs =
     (start .pre .0, and-right (isInside m user) _ all, and-left (isInside m user) _ all)
 
 returns-2 : tie.Need-returns-2
-unfolding says callOf
+unfolding says callOf account
 returns-2 c =
     let a = c .before .before .before .before .before .before .before .args in
     let m = a .m .now in
@@ -51,7 +52,7 @@ returns-2 c =
     let asked = c .before .before .told .given .0 .1 .0 in
     λ host realm answer notice.
     let is : read m ≡ request (record { user = bytesOf m user; ask = asks m asked }) = sym (c .before .before .before .before .read .ensures .reading) ∙ ap (says m) (c .before .before .told .given .1) in
-    c .request-failed .ensures ∙ was-read (a .table .now) (callOf m host realm answer notice (a .wag)) _ is
+    c .request-failed .ensures ∙ was-read (a .table .now) (callOf (a .op) m host realm answer notice (a .wag)) _ is
 
 pub answered-for-spec : {M : Type 1} → statement M
 answered-for-spec =

@@ -1,7 +1,8 @@
 -- No row, an unsound row, or deciding on the row.
+use mathlib.Core.List.{List}
 use mathlib.Core.Path.{_≡_, refl, sym, ap, _∙_}
 use mathlib.Core.Bool.{true, false}
-use Prim.Native.Nat.{_+_, _*_, _≤_}
+use Prim.Native.Nat.{ℕ, _+_, _*_, _≤_}
 use native.Mathlib.Omega.{arith}
 use lib.ListN.{length}
 use borrow.Author.Tests.{not-true, not-false}
@@ -36,8 +37,8 @@ returns c =
     let t = a .table .now in
     let m = a .m .now in
     let name : c .before .before .before .text .result .now ≡ bytesOf m (a .user) = c .before .before .before .text .ensures in
-    let is : lookup t (bytesOf m (a .user)) ≡ nothing = ap (lookup t) (sym name) ∙ sym (c .before .before .lookup .ensures .0) ∙ ap found (c .enum-told .given .1) in
-    no-row t (asks m (a .asked)) (a .wag) (lookup t (bytesOf m (a .user))) is
+    let is : lookup t (record { operator = a .op; name = bytesOf m (a .user) }) ≡ nothing = ap (λ (n : List ℕ). lookup t (record { operator = a .op; name = n })) (sym name) ∙ sym (c .before .before .lookup .ensures .0) ∙ ap found (c .enum-told .given .1) in
+    no-row t (asks m (a .asked)) (a .wag) (lookup t (record { operator = a .op; name = bytesOf m (a .user) })) is
 
 mul-a : tie.Need-mul-a
 mul-a c =
@@ -77,9 +78,9 @@ returns-2 c =
     let m = a .m .now in
     let i = c .before .before .before .before .found .given .0 .0 in
     let name : c .before .before .before .before .before .before .before .text .result .now ≡ bytesOf m (a .user) = c .before .before .before .before .before .before .before .text .ensures in
-    let is : lookup t (bytesOf m (a .user)) ≡ row i = ap (lookup t) (sym name) ∙ sym (c .before .before .before .before .before .before .lookup .ensures .0) ∙ ap found (c .before .before .before .before .found .given .1) in
+    let is : lookup t (record { operator = a .op; name = bytesOf m (a .user) }) ≡ row i = ap (λ (n : List ℕ). lookup t (record { operator = a .op; name = n })) (sym name) ∙ sym (c .before .before .before .before .before .before .lookup .ensures .0) ∙ ap found (c .before .before .before .before .found .given .1) in
     let unsound : sound (rowAt t i) ≡ false = lent-test sound t (rowLength * i) i (c .before .row-sound .result) false refl (c .before .row-sound .ensures) (not-true _ (c .if1 .taken)) in
-    unsound-row t (asks m (a .asked)) (a .wag) (lookup t (bytesOf m (a .user))) i is unsound
+    unsound-row t (asks m (a .asked)) (a .wag) (lookup t (record { operator = a .op; name = bytesOf m (a .user) })) i is unsound
 
 sub-deciding-failed : tie.Need-sub-deciding-failed
 sub-deciding-failed c = search needs
@@ -106,11 +107,11 @@ returns-3 c =
     let m = a .m .now in
     let i = c .before .before .before .before .before .before .found .given .0 .0 in
     let name : c .before .before .before .before .before .before .before .before .before .text .result .now ≡ bytesOf m (a .user) = c .before .before .before .before .before .before .before .before .before .text .ensures in
-    let is : lookup t (bytesOf m (a .user)) ≡ row i = ap (lookup t) (sym name) ∙ sym (c .before .before .before .before .before .before .before .before .lookup .ensures .0) ∙ ap found (c .before .before .before .before .before .before .found .given .1) in
+    let is : lookup t (record { operator = a .op; name = bytesOf m (a .user) }) ≡ row i = ap (λ (n : List ℕ). lookup t (record { operator = a .op; name = n })) (sym name) ∙ sym (c .before .before .before .before .before .before .before .before .lookup .ensures .0) ∙ ap found (c .before .before .before .before .before .before .found .given .1) in
     let sounds : sound (rowAt t i) ≡ true = lent-test sound t (rowLength * i) i (c .before .before .before .row-sound .result) true refl (c .before .before .before .row-sound .ensures) (not-false _ (c .before .before .if1 .left)) in
     c .deciding-failed .ensures
     ∙ ap (λ r. firstFailed (decidingChecks (asks m (a .asked)) (a .wag) (readRow r))) (lent-row t (rowLength * i) i refl)
-    ∙ sound-row t (asks m (a .asked)) (a .wag) (lookup t (bytesOf m (a .user))) i is sounds
+    ∙ sound-row t (asks m (a .asked)) (a .wag) (lookup t (record { operator = a .op; name = bytesOf m (a .user) })) i is sounds
 
 pub request-failed-spec : {M : Type 1} → statement M
 request-failed-spec =

@@ -1,106 +1,97 @@
--- One law of SetUps for each number: `enter-1`, `enter-9`, `enter-10`, `enter-11`, and `enter-done`.
-use mathlib.Core.Path.{sym, ap, _∙_}
-use Prim.Native.Nat.{_-_}
+-- The numbers before 11, then 11, and the row: `enter-early`, `enter-11`, `enter-done` of SetUps.
+use mathlib.Core.Path.{_≡_, sym, ap, _∙_}
+use Prim.Native.Nat.{ℕ, _+_, _*_, _-_, _/_, _<_, _≤_}
 use native.Mathlib.Omega.{arith}
+use lib.ListN.{length, getD, take}
 use borrow.Author.Needs.{needs}
+use borrow.Author.Tests.{leb-true}
 use Rattle.table.specs.Answers.{found, rowEnd}
 use Rattle.table.proofs.Bytes.{name-length}
-use Rattle.table.proofs.Tests.{fails, passes-on}
-use Rattle.setup.proofs.SetUps.{enter-1, enter-10, enter-11, enter-9, enter-done}
+use Rattle.table.proofs.Rows.{first-operator, first-table}
+use Rattle.setup.proofs.SetUps.{enter-11, enter-done, enter-early, share-passed}
 use Rattle.setup.proofs.enter.Statement.{statement}
 use Rattle.setup.proofs.enter.Tie as tie
 
-table-number-requires : tie.Need-table-number-requires
-table-number-requires c κs = search needs
+enter-number-requires : tie.Need-enter-number-requires
+enter-number-requires c κs = search needs
 
 same-length : tie.Need-same-length
 same-length c = search needs
 
 returns : tie.Need-returns
-returns c = let number = c .before .table-number in
-    enter-1 (c .before .before .before .before .before .args .table .now) (c .before .before .before .before .before .args .name .now) (number .result) (number .ensures) (c .if1 .taken)
+returns c =
+    let given = c .before .before .before .before .before .before .args in
+    let enter-number-was = c .before .enter-number in
+    let test1 = c .if1 in
+    enter-early (given .table .now) (given .shares .now) (record { operator = given .op; name = given .name .now }) (enter-number-was .result) (enter-number-was .ensures) (test1 .taken)
 
-is-name-requires : tie.Need-is-name-requires
-is-name-requires c κs = search needs
+first-zero-row-requires : tie.Need-first-zero-row-requires
+first-zero-row-requires c κs =
+    let given = c .before .before .before .before .before .before .before .args in
+    let enter-number-was = c .before .before .enter-number in
+    let test1 = c .before .if1 in
+    first-table (given .table .now) (given .op) ((share-passed (given .table .now) (given .shares .now) (record { operator = given .op; name = given .name .now }) (sym (enter-number-was .ensures) ∙ test1 .left)) .first)
+
+enum-known-i : tie.Need-enum-known-i
+enum-known-i c = search needs
+
+enum-told : tie.Need-enum-told
+enum-told c = search needs
 
 same-length-2 : tie.Need-same-length-2
 same-length-2 c = search needs
 
 returns-2 : tie.Need-returns-2
-returns-2 c = let number = c .before .before .before .table-number in
-    enter-9 (c .before .before .before .before .before .before .before .args .table .now) (c .before .before .before .before .before .before .before .args .name .now) (sym (number .ensures) ∙ c .before .before .if1 .left) (fails (c .before .is-name .ensures) (c .if2 .taken))
+returns-2 c =
+    let given = c .before .before .before .before .before .before .before .before .before .before .args in
+    let enter-number-was = c .before .before .before .before .before .enter-number in
+    let test1 = c .before .before .before .before .if1 in
+    let first-zero-row-was = c .before .before .first-zero-row in
+    let enum-told-was = c .enum-told in
+    enter-11 (given .table .now) (given .shares .now) (record { operator = given .op; name = given .name .now }) (sym (enter-number-was .ensures) ∙ test1 .left) (sym (first-zero-row-was .ensures .0) ∙ ap found (enum-told-was .given .1))
 
-lookup-requires : tie.Need-lookup-requires
-lookup-requires c κs = search needs
+cast-enter-row : tie.Need-cast-enter-row
+cast-enter-row c =
+    let given = c .before .before .before .before .before .before .before .before .before .before .before .before .args in
+    let enter-number-was = c .before .before .before .before .before .before .before .enter-number in
+    let test1 = c .before .before .before .before .before .before .if1 in
+    omega (arith, leb-true (given .op) 15 (first-operator (given .table .now) (given .op) ((share-passed (given .table .now) (given .shares .now) (record { operator = given .op; name = given .name .now }) (sym (enter-number-was .ensures) ∙ test1 .left)) .first)))
 
-enum-told : tie.Need-enum-told
-enum-told c = search needs
-
-enum-told-2 : tie.Need-enum-told-2
-enum-told-2 c = search needs
+enter-row-requires : tie.Need-enter-row-requires
+enter-row-requires c κs =
+    let first-zero-row-was = c .before .before .before .before .first-zero-row in
+    let i-was = c .before .before .i in
+    let given = c .before .before .before .before .before .before .before .before .before .before .before .before .args in
+    let enter-number-was = c .before .before .before .before .before .before .before .enter-number in
+    let test1 = c .before .before .before .before .before .before .if1 in
+    (omega (arith, first-zero-row-was .ensures .1, ap rowEnd (i-was .given .1)), name-length (given .name .now) ((share-passed (given .table .now) (given .shares .now) (record { operator = given .op; name = given .name .now }) (sym (enter-number-was .ensures) ∙ test1 .left)) .name-fits))
 
 same-length-3 : tie.Need-same-length-3
 same-length-3 c = search needs
 
 returns-3 : tie.Need-returns-3
-returns-3 c = let start = c .before .before .before .before .before .before .before .before .before .before .before in
-    enter-10 (start .args .table .now) (start .args .name .now) (c .enum-told2 .given .0 .0) (sym (c .before .before .before .before .before .before .before .table-number .ensures) ∙ c .before .before .before .before .before .before .if1 .left)
-    (passes-on (c .before .before .before .before .before .is-name .ensures) (c .before .before .before .before .if2 .left))
-    (sym (c .before .before .lookup .ensures .0) ∙ ap found (c .enum-told2 .given .1))
-
-first-zero-row-requires : tie.Need-first-zero-row-requires
-first-zero-row-requires c κs = search needs
-
-enum-known-i : tie.Need-enum-known-i
-enum-known-i c = search needs
-
-enum-told-3 : tie.Need-enum-told-3
-enum-told-3 c = search needs
-
-same-length-4 : tie.Need-same-length-4
-same-length-4 c = search needs
-
-returns-4 : tie.Need-returns-4
-returns-4 c = let start = c .before .before .before .before .before .before .before .before .before .before .before .before .before .before .before in
-    enter-11 (start .args .table .now) (start .args .name .now) (sym (c .before .before .before .before .before .before .before .before .before .before .before .table-number .ensures) ∙ c .before .before .before .before .before .before .before .before .before .before .if1 .left)
-    (passes-on (c .before .before .before .before .before .before .before .before .before .is-name .ensures) (c .before .before .before .before .before .before .before .before .if2 .left))
-    (sym (c .before .before .before .before .before .before .lookup .ensures .0) ∙ ap found (c .before .before .before .before .enum-told .given .1))
-    (sym (c .before .before .first-zero-row .ensures .0) ∙ ap found (c .enum-told3 .given .1))
-
-enter-row-requires : tie.Need-enter-row-requires
-enter-row-requires c κs = (omega (arith, c .before .before .before .before .first-zero-row .ensures .1, ap rowEnd (c .before .before .i .given .1)), name-length (c .before .before .before .before .before .before .before .before .before .before .before .before .before .before .before .before .before .args .name .now) (passes-on (c .before .before .before .before .before .before .before .before .before .before .before .is-name .ensures) (c .before .before .before .before .before .before .before .before .before .before .if2 .left)))
-
-same-length-5 : tie.Need-same-length-5
-same-length-5 c = search needs
-
-returns-5 : tie.Need-returns-5
-returns-5 c = let start = c .before .before .before .before .before .before .before .before .before .before .before .before .before .before .before .before .before .before .before .before in
-    enter-done (start .args .table .now) (start .args .name .now) (c .before .before .before .before .before .i .given .0 .0) (c .before .before .enter-row .last .0) (sym (c .before .before .before .before .before .before .before .before .before .before .before .before .before .before .before .before .table-number .ensures) ∙ c .before .before .before .before .before .before .before .before .before .before .before .before .before .before .before .if1 .left)
-    (passes-on (c .before .before .before .before .before .before .before .before .before .before .before .before .before .before .is-name .ensures) (c .before .before .before .before .before .before .before .before .before .before .before .before .before .if2 .left))
-    (sym (c .before .before .before .before .before .before .before .before .before .before .before .lookup .ensures .0) ∙ ap found (c .before .before .before .before .before .before .before .before .before .enum-told .given .1))
-    (sym (c .before .before .before .before .before .before .before .first-zero-row .ensures .0) ∙ ap found (c .before .before .before .before .before .i .given .1))
-    (c .before .before .enter-row .ensures)
+returns-3 c =
+    let given = c .before .before .before .before .before .before .before .before .before .before .before .before .before .before .before .args in
+    let i-was = c .before .before .before .before .before .i in
+    let enter-row-was = c .before .before .enter-row in
+    let enter-number-was = c .before .before .before .before .before .before .before .before .before .before .enter-number in
+    let test1 = c .before .before .before .before .before .before .before .before .before .if1 in
+    let first-zero-row-was = c .before .before .before .before .before .before .before .first-zero-row in
+    enter-done (given .table .now) (given .shares .now) (record { operator = given .op; name = given .name .now }) (i-was .given .0 .0) (enter-row-was .last .0) (sym (enter-number-was .ensures) ∙ test1 .left) (sym (first-zero-row-was .ensures .0) ∙ ap found (i-was .given .1)) (enter-row-was .ensures)
 
 pub enter-spec : {M : Type 1} → statement M
 enter-spec =
     tie.close
     (tie.spec
-    table-number-requires
+    enter-number-requires
     same-length
     returns
-    is-name-requires
-    same-length-2
-    returns-2
-    lookup-requires
-    enum-told
-    enum-told-2
-    same-length-3
-    returns-3
     first-zero-row-requires
     enum-known-i
-    enum-told-3
-    same-length-4
-    returns-4
+    enum-told
+    same-length-2
+    returns-2
+    cast-enter-row
     enter-row-requires
-    same-length-5
-    returns-5)
+    same-length-3
+    returns-3)

@@ -28,8 +28,10 @@ same-length : tie.Need-same-length
 same-length c = search needs
 
 returns : tie.Need-returns
-returns c = let start = c .before .before .before .before .before .before in
-    back-row (start .args .table .now) (start .args .i) (c .before .before .new-row .last .0) (λ r. named (start .args .name .now)) (c .before .before .new-row .ensures)
+returns c =
+    let given = c .before .before .before .before .before .before .args in
+    let new-row-was = c .before .before .new-row in
+    back-row (given .table .now) (given .i) (new-row-was .last .0) (λ r. named (record { operator = given .op; name = given .name .now })) (new-row-was .ensures)
 
 pub enter-row-spec : {M : Type 1} → statement M
 enter-row-spec =

@@ -1,36 +1,48 @@
--- The search from row i on finds what the lookup finds: `search-here`, `search-on` and `search-end` of Rows.
+-- The search from row n on finds what the lookup finds: `search-here`, `search-skip` and `search-end` of Rows.
 use mathlib.Core.Path.{_∙_, _≡_, ap, refl, sym}
-use mathlib.Core.Bool.{false, true}
-use Prim.Native.Nat.{_*_, _-_, _/_, _<_, _≤_}
+use mathlib.Core.Bool.{Bool, false, true, _&&_, and-false}
+use mathlib.Core.List.{List}
+use Prim.Native.Nat.{ℕ, _+_, _*_, _-_, _/_, _<_, _≤_}
 use native.Mathlib.Omega.{arith}
-use lib.ListN.{length}
+use lib.Dec.{eqb}
+use lib.ListN.{length, getD}
 use borrow.Author.Needs.{needs}
-use Rattle.table.specs.TheTable.{isRowOf, lookup, rowAt, rowLength, rows}
+use borrow.Author.Tests.{eqb-true, eqb-false}
+use Rattle.octets.proofs.Lists.{by-test}
+use Rattle.table.specs.TheTable.{Account, isRowOf, lookup, rowAt, rowLength, rows}
 use Rattle.table.proofs.Tests.{lent-length}
 use Rattle.table.proofs.Rows.{lent-test, piece-row, rows-most, search-all, search-end, search-here, search-on, search-skip, searched, whole-rows}
 use Rattle.table.proofs.lookup.Statement.{statement}
 use Rattle.table.proofs.lookup.Tie as tie
 
 abbrev Inv-loop : tie.InvT-loop
-Inv-loop t name n₀ at₀ n at = (at ≡ rowLength * n) × (n ≤ length t / rowLength) × (searched (isRowOf name) rowLength (length t / rowLength) t n ≡ lookup t name)
+Inv-loop t op name n₀ at₀ n at = (at ≡ rowLength * n) × (n ≤ length t / rowLength) × (searched (isRowOf (record { operator = op; name = name })) rowLength (length t / rowLength) t n ≡ lookup t (record { operator = op; name = name }))
 
 abbrev μ-loop : tie.MeasureT-loop
-μ-loop t name n₀ at₀ n at = length t - at
+μ-loop t op name n₀ at₀ n at = length t - at
+
+rows-passed-requires : tie.Need-rows-passed-requires Inv-loop μ-loop
+rows-passed-requires c κs =
+    let pre-was = c .before .before .pre in
+    (pre-was, omega arith)
+
+mul-at : tie.Need-mul-at Inv-loop μ-loop
+mul-at c =
+    let given = c .before .before .before .args in
+    let pre-was = c .before .before .before .pre in
+    let rows-passed-was = c .rows-passed in
+    omega (arith, rows-most (given .t .now) pre-was, rows-passed-was .ensures .1)
 
 loop-holds : tie.Need-loop-holds Inv-loop μ-loop
 unfolding lookup rows
 loop-holds c =
-    let given = c .before .before .before .args in
-    let passed = c .rows-passed .ensures in
-    (refl, passed .0, search-skip (isRowOf (given .name .now)) rowLength (length (given .t .now) / rowLength) (given .t .now) (c .rows-passed .result) (passed .0) (λ j l. ap (isRowOf (given .name .now)) (piece-row (given .t .now) j) ∙ passed .1 j l) ∙ search-all (isRowOf (given .name .now)) rowLength (length (given .t .now) / rowLength) (given .t .now))
-
-rows-passed-requires : tie.Need-rows-passed-requires Inv-loop μ-loop
-rows-passed-requires c κs = search needs
-
-mul-at : tie.Need-mul-at Inv-loop μ-loop
-mul-at c =
-    let start = c .before .before .before in
-    omega (arith, rows-most (start .args .t .now) (start .pre), c .rows-passed .ensures .0)
+    let rows-passed-was = c .rows-passed in
+    let given = c .before .before .before .args in (
+      refl,
+      rows-passed-was .ensures .1,
+      search-skip (isRowOf (record { operator = given .op; name = given .name .now })) rowLength (length (given .t .now) / rowLength) (given .t .now) 0 (rows-passed-was .result) (rows-passed-was .ensures .0) (rows-passed-was .ensures .1) (λ j a l. ap (isRowOf (record { operator = given .op; name = given .name .now })) (piece-row (given .t .now) j) ∙ rows-passed-was .ensures .2 j a l)
+          ∙ search-all (isRowOf (record { operator = given .op; name = given .name .now })) rowLength (length (given .t .now) / rowLength) (given .t .now),
+    )
 
 add-end : tie.Need-add-end Inv-loop μ-loop
 add-end c =
@@ -67,38 +79,57 @@ returns c =
     let is-row-of-was = c .before .is-row-of in
     let test1 = c .if1 in
     let pre-was = c .before .before .before .before .before .before .before .before .pre in
-    let here : isRowOf (given .name .now) (rowAt (given .t .now) (loop-was .n)) ≡ true = lent-test (isRowOf (given .name .now)) (given .t .now) (loop-was .at) (loop-was .n) _ true (loop-was .inv .0) (is-row-of-was .ensures) (test1 .taken) in
-    (sym (search-here (isRowOf (given .name .now)) rowLength (length (given .t .now) / rowLength) (given .t .now) (loop-was .n) (omega (arith, whole-rows (given .t .now) pre-was)) (ap (isRowOf (given .name .now)) (piece-row (given .t .now) (loop-was .n)) ∙ here)) ∙ loop-was .inv .2, omega (arith, whole-rows (given .t .now) pre-was))
+    let here : isRowOf (record { operator = given .op; name = given .name .now }) (rowAt (given .t .now) (loop-was .n)) ≡ true = lent-test (isRowOf (record { operator = given .op; name = given .name .now })) (given .t .now) (loop-was .at) (loop-was .n) _ true (loop-was .inv .0) (is-row-of-was .ensures) (test1 .taken) in
+    (sym (search-here (isRowOf (record { operator = given .op; name = given .name .now })) rowLength (length (given .t .now) / rowLength) (given .t .now) (loop-was .n) (omega (arith, whole-rows (given .t .now) pre-was)) (ap (isRowOf (record { operator = given .op; name = given .name .now })) (piece-row (given .t .now) (loop-was .n)) ∙ here)) ∙ loop-was .inv .2, omega (arith, whole-rows (given .t .now) pre-was))
 
-add-n : tie.Need-add-n Inv-loop μ-loop
-add-n c =
+add-rows-passed : tie.Need-add-rows-passed Inv-loop μ-loop
+add-rows-passed c =
     let given = c .before .before .before .before .before .before .before .before .args in
     let pre-was = c .before .before .before .before .before .before .before .before .pre in
     omega (arith, rows-most (given .t .now) pre-was)
 
+rows-passed-requires-2 : tie.Need-rows-passed-requires-2 Inv-loop μ-loop
+rows-passed-requires-2 c κs =
+    let pre-was = c .before .before .before .before .before .before .before .before .pre in
+    let given = c .before .before .before .before .before .before .before .before .args in
+    (pre-was, omega (arith, whole-rows (given .t .now) pre-was))
+
+mul-at-2 : tie.Need-mul-at-2 Inv-loop μ-loop
+mul-at-2 c =
+    let given = c .before .before .before .before .before .before .before .before .before .args in
+    let pre-was = c .before .before .before .before .before .before .before .before .before .pre in
+    let rows-passed2-was = c .rows-passed2 in
+    omega (arith, rows-most (given .t .now) pre-was, rows-passed2-was .ensures .1)
+
 loop-less : tie.Need-loop-less Inv-loop μ-loop
 loop-less c =
-    let given = c .before .before .before .before .before .before .before .before .args in
-    let pre-was = c .before .before .before .before .before .before .before .before .pre in
-    omega (arith, whole-rows (given .t .now) pre-was)
+    let given = c .before .before .before .before .before .before .before .before .before .args in
+    let pre-was = c .before .before .before .before .before .before .before .before .before .pre in
+    let rows-passed2-was = c .rows-passed2 in
+    omega (arith, whole-rows (given .t .now) pre-was, rows-passed2-was .ensures .0)
 
 loop-again : tie.Need-loop-again Inv-loop μ-loop
 loop-again c =
-    let given = c .before .before .before .before .before .before .before .before .args in
-    let loop-was = c .before .before .before .before .loop in
-    let is-row-of-was = c .before .is-row-of in
-    let test1 = c .if1 in
-    let pre-was = c .before .before .before .before .before .before .before .before .pre in
-    let other : isRowOf (given .name .now) (rowAt (given .t .now) (loop-was .n)) ≡ false = lent-test (isRowOf (given .name .now)) (given .t .now) (loop-was .at) (loop-was .n) _ false (loop-was .inv .0) (is-row-of-was .ensures) (test1 .left) in
-    let inside : loop-was .n < length (given .t .now) / rowLength = omega (arith, whole-rows (given .t .now) pre-was) in
-    (omega arith, omega arith, search-on (isRowOf (given .name .now)) rowLength (length (given .t .now) / rowLength) (given .t .now) (loop-was .n) inside (ap (isRowOf (given .name .now)) (piece-row (given .t .now) (loop-was .n)) ∙ other) ∙ loop-was .inv .2)
+    let given = c .before .before .before .before .before .before .before .before .before .args in
+    let loop-was = c .before .before .before .before .before .loop in
+    let is-row-of-was = c .before .before .is-row-of in
+    let test1 = c .before .if1 in
+    let pre-was = c .before .before .before .before .before .before .before .before .before .pre in
+    let rows-passed2-was = c .rows-passed2 in
+    let other : isRowOf (record { operator = given .op; name = given .name .now }) (rowAt (given .t .now) (loop-was .n)) ≡ false = lent-test (isRowOf (record { operator = given .op; name = given .name .now })) (given .t .now) (loop-was .at) (loop-was .n) _ false (loop-was .inv .0) (is-row-of-was .ensures) (test1 .left) in
+    let inside : loop-was .n < length (given .t .now) / rowLength = omega (arith, whole-rows (given .t .now) pre-was) in (
+      refl,
+      rows-passed2-was .ensures .1,
+      search-skip (isRowOf (record { operator = given .op; name = given .name .now })) rowLength (length (given .t .now) / rowLength) (given .t .now) (loop-was .n + 1) (rows-passed2-was .result) (rows-passed2-was .ensures .0) (rows-passed2-was .ensures .1) (λ j a l. ap (isRowOf (record { operator = given .op; name = given .name .now })) (piece-row (given .t .now) j) ∙ rows-passed2-was .ensures .2 j a l)
+          ∙ search-on (isRowOf (record { operator = given .op; name = given .name .now })) rowLength (length (given .t .now) / rowLength) (given .t .now) (loop-was .n) inside (ap (isRowOf (record { operator = given .op; name = given .name .now })) (piece-row (given .t .now) (loop-was .n)) ∙ other) ∙ loop-was .inv .2,
+    )
 
 returns-2 : tie.Need-returns-2 Inv-loop μ-loop
 returns-2 c =
     let given = c .before .before .before .before .before .args in
     let loop-was = c .before .loop in
     let pre-was = c .before .before .before .before .before .pre in
-    (sym (search-end (isRowOf (given .name .now)) rowLength (length (given .t .now) / rowLength) (given .t .now) (loop-was .n) (omega (arith, whole-rows (given .t .now) pre-was))) ∙ loop-was .inv .2, omega arith)
+    (sym (search-end (isRowOf (record { operator = given .op; name = given .name .now })) rowLength (length (given .t .now) / rowLength) (given .t .now) (loop-was .n) (omega (arith, whole-rows (given .t .now) pre-was))) ∙ loop-was .inv .2, omega arith)
 
 pub lookup-spec : {M : Type 1} → statement M
 lookup-spec =
@@ -115,7 +146,9 @@ lookup-spec =
     part-is-row-of-end
     is-row-of-requires
     returns
-    add-n
+    add-rows-passed
+    rows-passed-requires-2
+    mul-at-2
     loop-less
     loop-again
     returns-2)

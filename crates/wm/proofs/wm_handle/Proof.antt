@@ -16,7 +16,7 @@ unfolding leaves
 outcome-in-c-requires c κs =
     let asked = c .before .before .before .before .before .before in
     let given = asked .before .before .before .before .before .before .before .before .before .before .args in
-    subst In32 (sym (ap (λ (l : Left). l .reply .result) (asked .handle .ensures))) (small (given .table .now) (given .message .now) (given .host .now) (given .realm .now) (given .answer .now) (given .notice .now) (given .wag))
+    subst In32 (sym (ap (λ (l : Left). l .reply .result) (asked .handle .ensures))) (small (given .table .now) (given .op) (given .message .now) (given .host .now) (given .realm .now) (given .answer .now) (given .notice .now) (given .wag))
 
 same-length : tie.Need-same-length
 same-length c = search needs

@@ -5,15 +5,15 @@ use mathlib.Core.Bool.{true}
 use Prim.Native.Nat.{_-_}
 use lib.ListN.{length}
 use Rattle.octets.specs.Choice.{within}
-use Rattle.table.specs.TheTable.{tableNumber}
+use Rattle.table.specs.TheTable.{firstNumber}
 use Rattle.decision.specs.Outcomes.{callOf}
-use Rattle.decision.proofs.Numbers.{number-table, number-host, number-realm, number-answer, number-notice, number-message}
+use Rattle.decision.proofs.Numbers.{number-first, number-host, number-realm, number-answer, number-notice, number-message}
 use borrow.Author.Needs.{needs}
 use Rattle.decision.proofs.handling.call_number.Statement.{statement}
 use Rattle.decision.proofs.handling.call_number.Tie as tie
 
-table-number-requires : tie.Need-table-number-requires
-table-number-requires c κs = search needs
+number-for-requires : tie.Need-number-for-requires
+number-for-requires c κs = search needs
 
 returns : tie.Need-returns
 unfolding callOf
@@ -21,8 +21,8 @@ returns c =
     let a = c .before .before .before .before .before .before .before .before .args in
     λ wag.
     let t = a .table .now in
-    let call = callOf (a .message .now) (a .host .now) (a .realm .now) (a .answer .now) (a .notice .now) wag in
-    c .before .table-number .ensures ∙ sym (number-table t call (λ e. c .if1 .taken (c .before .table-number .ensures ∙ e)))
+    let call = callOf (a .op) (a .message .now) (a .host .now) (a .realm .now) (a .answer .now) (a .notice .now) wag in
+    c .before .number-for .ensures ∙ sym (number-first t call (λ e. c .if1 .taken (c .before .number-for .ensures ∙ e)))
 
 name-fits-requires : tie.Need-name-fits-requires
 name-fits-requires c κs = search needs
@@ -33,8 +33,8 @@ returns-2 c =
     let a = c .before .before .before .before .before .before .before .before .before .before .args in
     λ wag.
     let t = a .table .now in
-    let call = callOf (a .message .now) (a .host .now) (a .realm .now) (a .answer .now) (a .notice .now) wag in
-    let z : tableNumber t ≡ 0 = sym (c .before .before .before .table-number .ensures) ∙ c .before .before .if1 .left in
+    let call = callOf (a .op) (a .message .now) (a .host .now) (a .realm .now) (a .answer .now) (a .notice .now) wag in
+    let z : firstNumber t (a .op) ≡ 0 = sym (c .before .before .before .number-for .ensures) ∙ c .before .before .if1 .left in
     sym (number-host t call z (sym (c .before .name-fits .ensures) ∙ not-true _ (c .if2 .taken)))
 
 name-fits-requires-2 : tie.Need-name-fits-requires-2
@@ -46,8 +46,8 @@ returns-3 c =
     let a = c .before .before .before .before .before .before .before .before .before .before .before .before .args in
     λ wag.
     let t = a .table .now in
-    let call = callOf (a .message .now) (a .host .now) (a .realm .now) (a .answer .now) (a .notice .now) wag in
-    let z : tableNumber t ≡ 0 = sym (c .before .before .before .before .before .table-number .ensures) ∙ c .before .before .before .before .if1 .left in
+    let call = callOf (a .op) (a .message .now) (a .host .now) (a .realm .now) (a .answer .now) (a .notice .now) wag in
+    let z : firstNumber t (a .op) ≡ 0 = sym (c .before .before .before .before .before .number-for .ensures) ∙ c .before .before .before .before .if1 .left in
     let host-fits : within 1 128 (length (a .host .now)) ≡ true = sym (c .before .before .before .name-fits .ensures) ∙ not-false _ (c .before .before .if2 .left) in
     sym (number-realm t call z host-fits (sym (c .before .name-fits2 .ensures) ∙ not-true _ (c .if3 .taken)))
 
@@ -57,8 +57,8 @@ returns-4 c =
     let a = c .before .before .before .before .before .before .before .before .before .before .before .before .before .args in
     λ wag.
     let t = a .table .now in
-    let call = callOf (a .message .now) (a .host .now) (a .realm .now) (a .answer .now) (a .notice .now) wag in
-    let z : tableNumber t ≡ 0 = sym (c .before .before .before .before .before .before .table-number .ensures) ∙ c .before .before .before .before .before .if1 .left in
+    let call = callOf (a .op) (a .message .now) (a .host .now) (a .realm .now) (a .answer .now) (a .notice .now) wag in
+    let z : firstNumber t (a .op) ≡ 0 = sym (c .before .before .before .before .before .before .number-for .ensures) ∙ c .before .before .before .before .before .if1 .left in
     let host-fits : within 1 128 (length (a .host .now)) ≡ true = sym (c .before .before .before .before .name-fits .ensures) ∙ not-false _ (c .before .before .before .if2 .left) in
     let realm-fits : within 1 128 (length (a .realm .now)) ≡ true = sym (c .before .before .name-fits2 .ensures) ∙ not-false _ (c .before .if3 .left) in
     sym (number-answer t call z host-fits realm-fits (c .if4 .taken))
@@ -69,8 +69,8 @@ returns-5 c =
     let a = c .before .before .before .before .before .before .before .before .before .before .before .before .before .before .args in
     λ wag.
     let t = a .table .now in
-    let call = callOf (a .message .now) (a .host .now) (a .realm .now) (a .answer .now) (a .notice .now) wag in
-    let z : tableNumber t ≡ 0 = sym (c .before .before .before .before .before .before .before .table-number .ensures) ∙ c .before .before .before .before .before .before .if1 .left in
+    let call = callOf (a .op) (a .message .now) (a .host .now) (a .realm .now) (a .answer .now) (a .notice .now) wag in
+    let z : firstNumber t (a .op) ≡ 0 = sym (c .before .before .before .before .before .before .before .number-for .ensures) ∙ c .before .before .before .before .before .before .if1 .left in
     let host-fits : within 1 128 (length (a .host .now)) ≡ true = sym (c .before .before .before .before .before .name-fits .ensures) ∙ not-false _ (c .before .before .before .before .if2 .left) in
     let realm-fits : within 1 128 (length (a .realm .now)) ≡ true = sym (c .before .before .before .name-fits2 .ensures) ∙ not-false _ (c .before .before .if3 .left) in
     sym (number-notice t call z host-fits realm-fits (c .before .if4 .left) (c .if5 .taken))
@@ -84,8 +84,8 @@ returns-6 c =
     let a = c .before .before .before .before .before .before .before .before .before .before .before .before .before .before .before .args in
     λ wag.
     let t = a .table .now in
-    let call = callOf (a .message .now) (a .host .now) (a .realm .now) (a .answer .now) (a .notice .now) wag in
-    let z : tableNumber t ≡ 0 = sym (c .before .before .before .before .before .before .before .before .table-number .ensures) ∙ c .before .before .before .before .before .before .before .if1 .left in
+    let call = callOf (a .op) (a .message .now) (a .host .now) (a .realm .now) (a .answer .now) (a .notice .now) wag in
+    let z : firstNumber t (a .op) ≡ 0 = sym (c .before .before .before .before .before .before .before .before .number-for .ensures) ∙ c .before .before .before .before .before .before .before .if1 .left in
     let host-fits : within 1 128 (length (a .host .now)) ≡ true = sym (c .before .before .before .before .before .before .name-fits .ensures) ∙ not-false _ (c .before .before .before .before .before .if2 .left) in
     let realm-fits : within 1 128 (length (a .realm .now)) ≡ true = sym (c .before .before .before .before .name-fits2 .ensures) ∙ not-false _ (c .before .before .before .if3 .left) in
     c .number .ensures ∙ sym (number-message t call z host-fits realm-fits (c .before .before .if4 .left) (c .before .if5 .left))
@@ -94,7 +94,7 @@ pub call-number-spec : {M : Type 1} → statement M
 call-number-spec =
     tie.close
     (tie.spec
-    table-number-requires
+    number-for-requires
     returns
     name-fits-requires
     returns-2

@@ -24,8 +24,8 @@ returns : tie.Need-returns
 returns c =
     let a = c .before .before .before .before .before .before .before .before .before .before .before .args in
     let t = a .table .now in
-    silent-is t (a .message .now) (a .host .now) (a .realm .now) (a .answer .now) (a .notice .now) (a .wag) (c .before .call-number .result)
-    ∙ unanswered t (callOf (a .message .now) (a .host .now) (a .realm .now) (a .answer .now) (a .notice .now) (a .wag)) (c .before .call-number .result) (c .before .call-number .ensures (a .wag)) (c .if1 .taken)
+    silent-is t (a .op) (a .message .now) (a .host .now) (a .realm .now) (a .answer .now) (a .notice .now) (a .wag) (c .before .call-number .result)
+    ∙ unanswered t (callOf (a .op) (a .message .now) (a .host .now) (a .realm .now) (a .answer .now) (a .notice .now) (a .wag)) (c .before .call-number .result) (c .before .call-number .ensures (a .wag)) (c .if1 .taken)
 
 read-requires : tie.Need-read-requires
 read-requires c κs =
@@ -33,8 +33,8 @@ read-requires c κs =
     let a = start .args in
     let t = a .table .now in
     let m = a .message .now in
-    let z : callNumber t (callOf m (a .host .now) (a .realm .now) (a .answer .now) (a .notice .now) (a .wag)) ≡ 0 = sym (c .before .call-number .ensures (a .wag)) ∙ c .if1 .left in
-    let ready = is-ready t m (a .host .now) (a .realm .now) (a .answer .now) (a .notice .now) (a .wag) z in
+    let z : callNumber t (callOf (a .op) m (a .host .now) (a .realm .now) (a .answer .now) (a .notice .now) (a .wag)) ≡ 0 = sym (c .before .call-number .ensures (a .wag)) ∙ c .if1 .left in
+    let ready = is-ready t (a .op) m (a .host .now) (a .realm .now) (a .answer .now) (a .notice .now) (a .wag) z in
     ready .least
 
 on-reading-requires : tie.Need-on-reading-requires
@@ -43,10 +43,10 @@ on-reading-requires c κs =
     let a = start .args in
     let t = a .table .now in
     let m = a .message .now in
-    let z : callNumber t (callOf m (a .host .now) (a .realm .now) (a .answer .now) (a .notice .now) (a .wag)) ≡ 0 = sym (c .before .before .before .before .call-number .ensures (a .wag)) ∙ c .before .before .before .if1 .left in
+    let z : callNumber t (callOf (a .op) m (a .host .now) (a .realm .now) (a .answer .now) (a .notice .now) (a .wag)) ≡ 0 = sym (c .before .before .before .before .call-number .ensures (a .wag)) ∙ c .before .before .before .if1 .left in
     let heard = c .before .before .read .ensures in (
-      notice-fits t m (a .host .now) (a .realm .now) (a .answer .now) (a .notice .now) (a .wag) z,
-      table-right t m (a .host .now) (a .realm .now) (a .answer .now) (a .notice .now) (a .wag) z,
+      notice-fits t (a .op) m (a .host .now) (a .realm .now) (a .answer .now) (a .notice .now) (a .wag) z,
+      table-right t (a .op) m (a .host .now) (a .realm .now) (a .answer .now) (a .notice .now) (a .wag) z,
       heard .reading,
       heard .inside,
     )
@@ -57,8 +57,8 @@ answer-requires c κs =
     let a = start .args in
     let t = a .table .now in
     let m = a .message .now in
-    let z : callNumber t (callOf m (a .host .now) (a .realm .now) (a .answer .now) (a .notice .now) (a .wag)) ≡ 0 = sym (c .before .before .before .before .before .before .before .before .before .before .before .call-number .ensures (a .wag)) ∙ c .before .before .before .before .before .before .before .before .before .before .if1 .left in
-    let ready = is-ready t m (a .host .now) (a .realm .now) (a .answer .now) (a .notice .now) (a .wag) z in
+    let z : callNumber t (callOf (a .op) m (a .host .now) (a .realm .now) (a .answer .now) (a .notice .now) (a .wag)) ≡ 0 = sym (c .before .before .before .before .before .before .before .before .before .before .before .call-number .ensures (a .wag)) ∙ c .before .before .before .before .before .before .before .before .before .before .if1 .left in
+    let ready = is-ready t (a .op) m (a .host .now) (a .realm .now) (a .answer .now) (a .notice .now) (a .wag) z in
     let named = c .before .before .before .before .before .before .on-reading .ensures .0 in
     record {
       least = ready .least;
@@ -88,12 +88,12 @@ returns-2 c =
     let a = start .args in
     let t = a .table .now in
     let m = a .message .now in
-    let z : callNumber t (callOf m (a .host .now) (a .realm .now) (a .answer .now) (a .notice .now) (a .wag)) ≡ 0 = sym (c .before .before .before .before .before .before .before .before .before .before .before .before .before .before .call-number .ensures (a .wag)) ∙ c .before .before .before .before .before .before .before .before .before .before .before .before .before .if1 .left in
+    let z : callNumber t (callOf (a .op) m (a .host .now) (a .realm .now) (a .answer .now) (a .notice .now) (a .wag)) ≡ 0 = sym (c .before .before .before .before .before .before .before .before .before .before .before .before .before .before .call-number .ensures (a .wag)) ∙ c .before .before .before .before .before .before .before .before .before .before .before .before .before .if1 .left in
     let d = c .before .before .before .before .before .before .before .before .before .on-reading .result in
     let done = c .before .before .answer .ensures in
     written-is d _ m (a .host .now) (a .realm .now) (a .answer .now) _ _ _ (done .length-is) (done .room-is)
     ∙ c .before .before .before .before .before .before .before .before .before .on-reading .ensures .1 (a .host .now) (a .realm .now) (a .answer .now)
-    ∙ sym (handled t (callOf m (a .host .now) (a .realm .now) (a .answer .now) (a .notice .now) (a .wag)) z)
+    ∙ sym (handled t (callOf (a .op) m (a .host .now) (a .realm .now) (a .answer .now) (a .notice .now) (a .wag)) z)
 
 pub handle-spec : {M : Type 1} → statement M
 handle-spec =

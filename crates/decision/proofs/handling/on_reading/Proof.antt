@@ -8,7 +8,7 @@ use Rattle.message.specs.Kinds.{codeFrom}
 use Rattle.message.specs.ReadingAMessage.{read, refused, request}
 use Rattle.message.specs.Spans.{asks, bytesOf, isInside, says, spans, spansIn}
 use Rattle.message.proofs.Callers.{never-2001, refused-small}
-use Rattle.rules.specs.Calls.{onReading}
+use Rattle.rules.specs.Calls.{account, onReading}
 use Rattle.decision.specs.Outcomes.{callOf}
 use Rattle.decision.proofs.Answered.{nobody-named}
 use borrow.Author.Needs.{needs}
@@ -31,7 +31,7 @@ returns c =
     let code = c .before .before .told .given .0 .0 in
     let is : read m ≡ refused code = sym (start .pre .2) ∙ rw (c .before .before .told .given .1) in (
       nobody-named m _ (λ e. never-2001 m code is (sym (c .refused .ensures .0) ∙ e)) (omega (arith, c .refused .ensures .0, refused-small m code is)),
-      λ host realm room. rw is (c .refused .ensures .1 m host realm room t (a .notice .now) (a .wag)),
+      λ host realm room. rw is (c .refused .ensures .1 (a .op) m host realm room t (a .notice .now) (a .wag)),
     )
 
 enum-known-told-2 : tie.Need-enum-known-told-2
@@ -57,7 +57,7 @@ same-length-2 : tie.Need-same-length-2
 same-length-2 c = search needs
 
 returns-2 : tie.Need-returns-2
-unfolding says onReading callOf
+unfolding says onReading callOf account
 returns-2 c =
     let start = c .before .before .before .before .before .before .before .before .before .before .before .before .before in
     let a = start .args in

@@ -1,7 +1,8 @@
 -- No row, an unsound row, or the request settled on the row.
 use mathlib.Core.Path.{_≡_, refl, sym, ap, _∙_}
 use mathlib.Core.Bool.{true, false}
-use Prim.Native.Nat.{_+_, _-_, _*_, _≤_}
+use mathlib.Core.List.{List}
+use Prim.Native.Nat.{ℕ, _+_, _-_, _*_, _≤_}
 use native.Mathlib.Omega.{arith}
 use lib.ListN.{length}
 use borrow.Author.Tests.{not-true, not-false}
@@ -45,9 +46,9 @@ returns c =
     let t = a .table .now in
     let m = a .m .now in
     let name : c .before .before .before .before .text .result .now ≡ bytesOf m (a .user) = c .before .before .before .before .text .ensures in
-    let is : lookup t (bytesOf m (a .user)) ≡ nothing = ap (lookup t) (sym name) ∙ sym (c .before .before .before .lookup .ensures .0) ∙ ap found (c .before .enum-told .given .1) in (
+    let is : lookup t (record { operator = a .op; name = bytesOf m (a .user) }) ≡ nothing = ap (λ (n : List ℕ). lookup t (record { operator = a .op; name = n })) (sym name) ∙ sym (c .before .before .before .lookup .ensures .0) ∙ ap found (c .before .enum-told .given .1) in (
       nobody-named m _ (λ e. omega (arith, c .refused .ensures .0, e)) (omega (arith, c .refused .ensures .0)),
-      λ host realm room. rw is (c .refused .ensures .1 m host realm room t (a .notice .now) (a .wag)),
+      λ host realm room. rw is (c .refused .ensures .1 (a .op) m host realm room t (a .notice .now) (a .wag)),
     )
 
 mul-a : tie.Need-mul-a
@@ -104,10 +105,10 @@ returns-2 c =
     let m = a .m .now in
     let i = c .before .before .before .before .before .before .found .given .0 .0 in
     let name : c .before .before .before .before .before .before .before .before .before .text .result .now ≡ bytesOf m (a .user) = c .before .before .before .before .before .before .before .before .before .text .ensures in
-    let is : lookup t (bytesOf m (a .user)) ≡ row i = ap (lookup t) (sym name) ∙ sym (c .before .before .before .before .before .before .before .before .lookup .ensures .0) ∙ ap found (c .before .before .before .before .before .before .found .given .1) in
+    let is : lookup t (record { operator = a .op; name = bytesOf m (a .user) }) ≡ row i = ap (λ (n : List ℕ). lookup t (record { operator = a .op; name = n })) (sym name) ∙ sym (c .before .before .before .before .before .before .before .before .lookup .ensures .0) ∙ ap found (c .before .before .before .before .before .before .found .given .1) in
     let unsound : sound (rowAt t i) ≡ false = lent-test sound t (rowLength * i) i (c .before .before .row-sound .result) false refl (c .before .before .row-sound .ensures) (not-true _ (c .before .if1 .taken)) in (
       nobody-named m _ (λ e. omega (arith, c .refused2 .ensures .0, e)) (omega (arith, c .refused2 .ensures .0)),
-      λ host realm room. rw (is, unsound) (c .refused2 .ensures .1 m host realm room t (a .notice .now) (a .wag)),
+      λ host realm room. rw (is, unsound) (c .refused2 .ensures .1 (a .op) m host realm room t (a .notice .now) (a .wag)),
     )
 
 settle-requires : tie.Need-settle-requires
@@ -136,9 +137,9 @@ returns-3 c =
     let m = a .m .now in
     let i = c .before .before .before .before .before .before .before .before .before .before .before .before .found .given .0 .0 in
     let name : c .before .before .before .before .before .before .before .before .before .before .before .before .before .before .before .text .result .now ≡ bytesOf m (a .user) = c .before .before .before .before .before .before .before .before .before .before .before .before .before .before .before .text .ensures in
-    let is : lookup t (bytesOf m (a .user)) ≡ row i = ap (lookup t) (sym name) ∙ sym (c .before .before .before .before .before .before .before .before .before .before .before .before .before .before .lookup .ensures .0) ∙ ap found (c .before .before .before .before .before .before .before .before .before .before .before .before .found .given .1) in
+    let is : lookup t (record { operator = a .op; name = bytesOf m (a .user) }) ≡ row i = ap (λ (n : List ℕ). lookup t (record { operator = a .op; name = n })) (sym name) ∙ sym (c .before .before .before .before .before .before .before .before .before .before .before .before .before .before .lookup .ensures .0) ∙ ap found (c .before .before .before .before .before .before .before .before .before .before .before .before .found .given .1) in
     let sounds : sound (rowAt t i) ≡ true = lent-test sound t (rowLength * i) i (c .before .before .before .before .before .before .before .before .row-sound .result) true refl (c .before .before .before .before .before .before .before .before .row-sound .ensures) (not-false _ (c .before .before .before .before .before .before .before .if1 .left)) in
-    (c .before .before .before .before .settle .ensures .0, λ host realm room. rw (is, sounds) (c .before .before .before .before .settle .ensures .1 host realm room))
+    (c .before .before .before .before .settle .ensures .0, λ host realm room. rw (is, sounds) (c .before .before .before .before .settle .ensures .1 (a .op) host realm room))
 
 pub on-request-spec : {M : Type 1} → statement M
 on-request-spec =

@@ -44,8 +44,8 @@ returns c =
         short = λ e. user-short m (a .user) (start .pre .4) (asks m (a .asked)) (start .pre .5);
         small = omega (arith, code, plan-small plan);
       },
-      λ host realm room.
-          settled-is (a .table .now) (a .i) m host realm room (a .notice .now) (a .wag) v (c .before .kind-of .result) (c .code-of .result) (a .user) (c .before .before .before .before .before .before .carry .result) _ _
+      λ o host realm room.
+          settled-is (a .table .now) (a .i) o m host realm room (a .notice .now) (a .wag) v (c .before .kind-of .result) (c .code-of .result) (a .user) (c .before .before .before .before .before .before .carry .result) _ _
           coded (carried .0 ∙ ap (tableAfter (a .table .now) (a .i)) is) (carried .1 ∙ ap (λ (x : Verdict). noticeRoom (x .cut) (a .notice .now)) is) (carried .2 ∙ ap doneFor is),
     )
 

@@ -1,0 +1,341 @@
+//! What one operator may learn of another (W8): searched for counterexamples on pairs of
+//! histories of one operator's calls among those of others.
+
+use oracle::deciding::USER_UNKNOWN;
+use oracle::drafts::Draft;
+use oracle::generator::{add, enter, generate, request};
+use oracle::operators::all_rows;
+use oracle::program::{Operation, Seen, perform};
+use oracle::random::Random;
+use oracle::rules::{DOCUMENT_01, Rules};
+use oracle::script::{Record, judge};
+use oracle::set_up::own_rows;
+use oracle::the_table::{CONDITIONS, OPERATOR, ROW, Row, bears, encode, is_of, sound};
+
+/// An operator's call; what it enters goes under the shares of the history.
+#[derive(Clone)]
+enum Step {
+    Enter(Vec<u8>),
+    Other(Operation),
+}
+
+/// Two histories: the same calls of one operator, each among other calls of others.
+struct Pair {
+    operator: u32,
+    rows: usize,
+    shares: [Vec<u32>; 2],
+    histories: [Vec<(u32, Step)>; 2],
+}
+
+const NAMES: [&[u8]; 4] = [b"1", b"12", b"001010123456789", b"12a"];
+
+/// A call of this operator by chance, on few names, labels and sessions.
+fn step(operator: u32, random: &mut Random) -> Step {
+    let name = *random.pick(&NAMES);
+    let label: &[u8] = if random.once_in(2) { b"board" } else { b"yard" };
+    let session = [*random.pick(b"abc")];
+    let draft = match random.below(9) {
+        0..3 => return Step::Enter(name.to_vec()),
+        3 | 4 => return Step::Other(add(operator, name, label, 1 + random.below(2) as u8, 2)),
+        5 => Draft::policy(name, &session, b"pdg", b"permit"),
+        6 => Draft::termination(name, &session, b"pdg", label),
+        _ => Draft::open(name, &session, b"pdg", label),
+    };
+    Step::Other(request(operator, &draft, random.once_in(2), random))
+}
+
+/// Shares that have this one for the operator and this sum.
+fn shares(operator: u32, own: u32, sum: u32, random: &mut Random) -> Vec<u32> {
+    let mut shares = vec![0; 16];
+    shares[operator as usize] = own;
+    for _ in own..sum {
+        let far = *random.pick(&[2, 15]);
+        let near = random.from_to(1, far);
+        shares[(operator as usize + near) % 16] += 1;
+    }
+    shares
+}
+
+/// The operator's calls, and those of others among them: three in a row at most.
+fn history(operator: u32, own: &[Step], random: &mut Random) -> Vec<(u32, Step)> {
+    let mut all = Vec::new();
+    let others = random.below(4);
+    for mine in own.iter().map(Some).chain([None]) {
+        for _ in 0..random.below(others + 1) {
+            let another = (operator + random.from_to(1, 2) as u32) % 16;
+            let another = if random.once_in(9) { 16 } else { another };
+            all.push((another, step(another, random)));
+        }
+        all.extend(mine.map(|step| (operator, step.clone())));
+    }
+    all
+}
+
+fn pair(random: &mut Random) -> Pair {
+    let operator = random.below(16) as u32;
+    let rows = random.from_to(1, 5);
+    let over = usize::from(random.once_in(8));
+    let sum = random.from_to(0, rows + over) as u32;
+    let half = sum as usize / 2 * random.below(3).min(1);
+    let own = random.from_to(half, sum as usize) as u32;
+    let mine: Vec<Step> = (0..random.from_to(1, 20))
+        .map(|_| step(operator, random))
+        .collect();
+    Pair {
+        operator,
+        rows,
+        shares: [(); 2].map(|()| shares(operator, own, sum, random)),
+        histories: [(); 2].map(|()| history(operator, &mine, random)),
+    }
+}
+
+/// What the operator is told, and its rows in order.
+type Known = (Vec<Seen>, Vec<Vec<u8>>);
+
+/// Plays one history of a pair on a cleared table. The error says what a table that is
+/// reached from a cleared one must not show.
+fn play(rules: &Rules, pair: &Pair, which: usize) -> Result<Known, &'static str> {
+    let shares = &pair.shares[which];
+    let mut table = vec![0; pair.rows * ROW];
+    let mut told = Vec::new();
+    for (operator, step) in &pair.histories[which] {
+        let operation = match step {
+            Step::Enter(name) => enter(*operator, shares, name),
+            Step::Other(operation) => operation.clone(),
+        };
+        let seen = perform(&mut rules.clone(), &operation, &mut table);
+        if matches!(step, Step::Enter(_)) && seen.numbers[0] == 11 {
+            return Err("number 11");
+        }
+        let over = |operator: u32| own_rows(&table, operator) > shares[operator as usize] as usize;
+        if (0..16).any(over) {
+            return Err("rows over a share");
+        }
+        if *operator == pair.operator {
+            told.push(seen);
+        }
+    }
+    let own = |row: &&[u8]| row[0] == 1 && is_of(row, pair.operator);
+    let rows = table.chunks_exact(ROW).filter(own).map(<[u8]>::to_vec);
+    Ok((told, rows.collect()))
+}
+
+/// The first of so many pairs that shows one operator something of another.
+fn leak(rules: &Rules, seed: u64, pairs: usize) -> Option<&'static str> {
+    let mut random = Random::new(seed);
+    (0..pairs).find_map(|_| {
+        let pair = pair(&mut random);
+        match (play(rules, &pair, 0), play(rules, &pair, 1)) {
+            (Err(what), _) | (_, Err(what)) => Some(what),
+            (Ok((told, _)), Ok((other, _))) if told != other => Some("told otherwise"),
+            (Ok((_, rows)), Ok((_, other))) if rows != other => Some("other rows"),
+            _ => None,
+        }
+    })
+}
+
+#[test]
+fn no_operator_learns_of_another() {
+    assert_eq!(leak(&DOCUMENT_01, 61, 6_000), None);
+}
+
+/// The search is of use: it finds what these programs tell.
+#[test]
+fn programs_that_tell_of_others_are_found() {
+    let by_name = Rules {
+        find: |_, table, _, name| table.chunks_exact(ROW).position(|row| bears(row, name)),
+        ..DOCUMENT_01
+    };
+    assert!(leak(&by_name, 62, 2_000).is_some());
+    let all_rows_count = Rules {
+        share_is_full: |_, table, new| {
+            let used = table.chunks_exact(ROW).filter(|row| row[0] == 1).count();
+            used >= new.shares[new.operator as usize] as usize
+        },
+        ..DOCUMENT_01
+    };
+    assert!(leak(&all_rows_count, 62, 2_000).is_some());
+    let any_sum = Rules {
+        shares_fit: |_, shares| shares.len() == 16,
+        ..DOCUMENT_01
+    };
+    assert_eq!(leak(&any_sum, 62, 2_000), Some("number 11"));
+    let one_over = Rules {
+        share_is_full: |_, table, new| {
+            own_rows(table, new.operator) > new.shares[new.operator as usize] as usize
+        },
+        ..DOCUMENT_01
+    };
+    assert!(leak(&one_over, 62, 2_000).is_some());
+    let no_share = Rules {
+        share_is_full: |_, _, _| false,
+        ..DOCUMENT_01
+    };
+    assert!(leak(&no_share, 62, 2_000).is_some());
+}
+
+/// The pairs are of use too: shares of others differ, the operator comes to several rows,
+/// and it is told each number that it can be told.
+#[test]
+fn pairs_tell_of_many_things() {
+    let mut random = Random::new(63);
+    let mut numbers = std::collections::BTreeSet::new();
+    let (mut differ, mut several) = (0, 0);
+    for _ in 0..600 {
+        let pair = pair(&mut random);
+        differ += usize::from(pair.shares[0] != pair.shares[1]);
+        let (told, rows) = play(&DOCUMENT_01, &pair, 0).unwrap();
+        several += usize::from(rows.len() > 1);
+        numbers.extend(told.iter().map(|seen| (seen.numbers[0], seen.numbers[1])));
+    }
+    assert!(differ > 100 && several > 60, "{differ} {several}");
+    for number in [0, 9, 10, 12, 15, 26, 27] {
+        assert!(numbers.contains(&(number, 0)), "{number}");
+    }
+    for code in [(2001, 1), (5012, 1), (5001, 2), (5042, 2), (5044, 2)] {
+        assert!(numbers.contains(&code), "{code:?}");
+    }
+}
+
+fn run(operation: &Operation, table: &mut [u8]) -> Seen {
+    perform(&mut DOCUMENT_01.clone(), operation, table)
+}
+
+/// With shares that change between enterings what one operator is told depends on the
+/// other: the row is taken under shares that gave it away, and 11 comes.
+#[test]
+fn shares_that_change_tell_of_others() {
+    let mut shares = [vec![0; 16], vec![0; 16]];
+    (shares[0][1], shares[1][0]) = (1, 1);
+    let mut table = vec![0; ROW];
+    assert_eq!(
+        run(&enter(0, &shares[1], b"1"), &mut table.clone()).numbers[0],
+        0
+    );
+    assert_eq!(run(&enter(1, &shares[0], b"1"), &mut table).numbers[0], 0);
+    assert_eq!(run(&enter(0, &shares[1], b"1"), &mut table).numbers[0], 11);
+}
+
+/// Shares that stay: 27 where the table has free rows, and none is kept from the other.
+#[test]
+fn a_full_share_leaves_the_others_theirs() {
+    let mut shares = vec![0; 16];
+    (shares[0], shares[3]) = (1, 2);
+    let mut table = vec![0; 3 * ROW];
+    let mut number =
+        |operator, name: &[u8]| run(&enter(operator, &shares, name), &mut table).numbers[0];
+    assert_eq!(number(0, b"1"), 0);
+    assert_eq!(number(0, b"2"), 27);
+    assert_eq!(number(0, b"1"), 10);
+    assert_eq!(number(3, b"1"), 0);
+    assert_eq!(number(3, b"2"), 0);
+    assert_eq!(number(3, b"3"), 27);
+    assert_eq!(number(5, b"1"), 27);
+    assert_eq!(number(16, b"1"), 33);
+    assert_eq!(
+        table
+            .chunks(ROW)
+            .map(|row| row[OPERATOR])
+            .collect::<Vec<u8>>(),
+        [0, 3, 3]
+    );
+}
+
+/// Byte 19 from 0 to 15 is an operator; over 15 the row is unsound, whatever its sums.
+#[test]
+fn rows_of_operators_over_15_are_unsound() {
+    for operator in 0..=255 {
+        let row = Row {
+            operator,
+            name: b"1".to_vec(),
+            ..Row::default()
+        };
+        let bytes = encode(&DOCUMENT_01, &row);
+        assert_eq!(sound(&DOCUMENT_01, &bytes).is_some(), operator <= 15);
+        assert!(CONDITIONS[1..].iter().all(|condition| condition(&row)));
+    }
+}
+
+/// A table without byte 19 set is operator 0's: it gets what document 01 says, for whom
+/// a row is found by its name alone; for all others each request that is read gets
+/// USER_UNKNOWN, and adding 12.
+#[test]
+fn tables_without_operators_are_operator_0s() {
+    let mut before = Rules {
+        find: |_, table, _, name| table.chunks_exact(ROW).position(|row| bears(row, name)),
+        ..DOCUMENT_01
+    };
+    let mut random = Random::new(64);
+    let mut table = Vec::new();
+    let mut met = [0; 3];
+    for record in generate(65, 4_000).records {
+        let Record::Call(operation, _) = &record else {
+            judge(&mut DOCUMENT_01.clone(), &record, &mut table).unwrap();
+            continue;
+        };
+        let old: Vec<u8> = table.chunks(ROW).flat_map(without_operator).collect();
+        let other = 1 + random.below(15) as u32;
+        let (mine, others) = (
+            called_by(operation, 0, &old),
+            called_by(operation, other, &old),
+        );
+        let [mut now, mut then, mut theirs] = [old.clone(), old.clone(), old.clone()];
+        let seen = run(&mine, &mut now);
+        assert!(seen == perform(&mut before, &mine, &mut then) && now == then);
+        let their = run(&others, &mut theirs);
+        let unknown = [u32::from(USER_UNKNOWN.number()), 2];
+        match operation {
+            Operation::Handle(_) if decided(&seen) => {
+                assert_eq!(their.numbers[..2], unknown);
+                met[0] += 1;
+            }
+            Operation::Add { .. } if seen.numbers[0] != 1 => {
+                assert_eq!(their.numbers[0], 12);
+                met[1] += 1;
+            }
+            _ => met[2] += 1,
+        }
+        assert!(
+            theirs == old || !matches!(operation, Operation::Handle(_) | Operation::Add { .. })
+        );
+        run(operation, &mut table);
+    }
+    assert!(met.into_iter().all(|times| times > 100), "{met:?}");
+}
+
+/// A row as it is without byte 19, its sums right again if they were right.
+fn without_operator(row: &[u8]) -> Vec<u8> {
+    let mut bytes = row.to_vec();
+    if let Some(row) = sound(&DOCUMENT_01, row) {
+        return encode(&DOCUMENT_01, &Row { operator: 0, ..row });
+    }
+    if let Some(byte) = bytes.get_mut(OPERATOR) {
+        *byte = 0;
+    }
+    bytes
+}
+
+/// The same call by another operator, who has all rows for its share.
+fn called_by(operation: &Operation, by: u32, table: &[u8]) -> Operation {
+    let mut operation = operation.clone();
+    match &mut operation {
+        Operation::Clear => (),
+        Operation::Enter {
+            operator, shares, ..
+        } => {
+            (*operator, *shares) = (by, all_rows(table, by));
+        }
+        Operation::Add { operator, .. } => *operator = by,
+        Operation::Handle(asked) => asked.operator = by,
+    }
+    operation
+}
+
+/// A code that only deciding gives: a success, an Experimental-Result, 5003 or 5012.
+fn decided(seen: &Seen) -> bool {
+    match seen.numbers[1] {
+        0 => false,
+        1 => [2001, 5003, 5012].contains(&seen.numbers[0]),
+        _ => true,
+    }
+}
