@@ -28,30 +28,37 @@ int tally_count(size_t line, const char *library, uint32_t calls);
 int tally_time(void);
 enum { CLOCK_MONOTONIC = 1 };
 
-enum { ROWS = 1024, MESSAGES = 12 };
+enum { ROWS = 1024, MESSAGES = 12, MOVED = 64 };
 
-typedef struct wm_outcome handle_function(uint8_t *, size_t, uint32_t, const uint8_t *, size_t, const uint8_t *, size_t,
+typedef struct wm_outcome handle_function(uint8_t *, size_t, uint32_t, uint32_t, const uint8_t *, size_t, const uint8_t *, size_t,
                                           const uint8_t *, size_t, bool, uint8_t *, size_t, uint8_t *, size_t);
+typedef uint32_t move_function(const uint8_t *, size_t, uint8_t *, size_t, uint32_t);
 
 /* What a call costs without a library: the loop around it. */
-static struct wm_outcome none_handle(uint8_t *t, size_t tl, uint32_t op, const uint8_t *h, size_t hl, const uint8_t *r, size_t rl,
+static struct wm_outcome none_handle(uint8_t *t, size_t tl, uint32_t f, uint32_t op, const uint8_t *h, size_t hl, const uint8_t *r, size_t rl,
                                      const uint8_t *m, size_t ml, bool w, uint8_t *a, size_t al, uint8_t *n, size_t nl) {
-    (void)t, (void)tl, (void)op, (void)h, (void)hl, (void)r, (void)rl, (void)m, (void)ml, (void)w, (void)a, (void)al, (void)n, (void)nl;
+    (void)t, (void)tl, (void)f, (void)op, (void)h, (void)hl, (void)r, (void)rl, (void)m, (void)ml, (void)w, (void)a, (void)al, (void)n, (void)nl;
     return (struct wm_outcome){0};
 }
 
+static uint32_t none_move(const uint8_t *t, size_t tl, uint8_t *to, size_t tol, uint32_t f) {
+    (void)t, (void)tl, (void)to, (void)tol, (void)f;
+    return 0;
+}
+
 /* volatile: the compiler must not see which function it is, or it takes the loop around the empty one away. */
-static const struct {
+static const struct library {
     const char *name;
     handle_function *volatile handle;
-} libraries[3] = {{"proved", wm_handle}, {"plain", plain_handle}, {"none", none_handle}};
+    move_function *volatile move;
+} libraries[3] = {{"proved", wm_handle, wm_move}, {"plain", plain_handle, plain_move}, {"none", none_handle, none_move}};
 
 /* Everything that a library is lent. */
 struct lent {
-    uint8_t table[ROWS * WM_ROW], answer[WM_ANSWER_LEAST], notice[WM_NOTICE_LEAST];
+    uint8_t table[ROWS * WM_ROW_2], target[MOVED * WM_ROW_2], answer[WM_ANSWER_LEAST], notice[WM_NOTICE_LEAST];
 };
 static struct lent lent[2];
-static uint8_t saved[WM_ROW]; /* the subscriber's row as it was set up */
+static uint8_t saved[WM_ROW_2]; /* the subscriber's row as it was set up */
 
 static struct request messages[MESSAGES];
 
@@ -119,40 +126,51 @@ static void put_termination(uint32_t i, uint32_t session, uint32_t row) {
 
 /* ---- lines ---- */
 
-/* restore: the subscriber's row is set back before each call. */
+/* restore: the subscriber's row is set back before each call. form: of the table. A line without messages moves the table to the other form. */
 struct line {
     const char *name;
     void (*set_up)(void);
     uint32_t rows, messages;
     bool restore;
     struct wm_outcome expected; /* length 0: not looked at */
+    uint32_t form;
 };
 
 static uint8_t *table;
-static uint32_t rows;
+static uint32_t rows, form;
+
+static size_t row_of(uint32_t of_form) {
+    return of_form == 1 ? WM_ROW : WM_ROW_2;
+}
 
 /* One row of the operator, as a table by itself, with this name. */
 static void enter(uint8_t *row, uint32_t op, const uint8_t *name) {
     uint32_t shares[16] = {0};
     shares[op] = 1;
-    plain_clear(row, WM_ROW);
-    plain_enter(row, WM_ROW, op, shares, 16, name, 15);
+    plain_clear(row, row_of(form), form);
+    plain_enter(row, row_of(form), form, op, shares, 16, name, 15);
+}
+
+/* The subscriber of a row gets two W-APNs, the first with `limit` places, of which `open` are in use. */
+static void fill_row(uint32_t i, uint8_t limit, uint32_t open) {
+    static uint8_t answer[WM_ANSWER_LEAST], notice[WM_NOTICE_LEAST];
+    size_t size = row_of(form);
+    uint8_t *row = table + i * size;
+    plain_add(row, size, form, 0, name_of(i), 15, (const uint8_t *)label, sizeof label - 1, limit, 2);
+    if (limit < 8)
+        plain_add(row, size, form, 0, name_of(i), 15, (const uint8_t *)"corporate.example", 17, 1, 0);
+    for (uint32_t k = 0; k < open; k++) {
+        put_opening(0, k, i);
+        plain_handle(row, size, form, 0, (const uint8_t *)host, sizeof host - 1, (const uint8_t *)realm, sizeof realm - 1,
+                     messages[0].bytes, messages[0].length, true, answer, sizeof answer, notice, sizeof notice);
+    }
 }
 
 /* Subscribers of operator 0 in every row; the last one has two W-APNs, the first with `limit` places, of which `open` are in use. */
 static void subscribers(uint8_t limit, uint32_t open) {
-    static uint8_t answer[WM_ANSWER_LEAST], notice[WM_NOTICE_LEAST];
     for (uint32_t i = 0; i < rows; i++)
-        enter(table + i * WM_ROW, 0, name_of(i));
-    uint8_t *row = table + (rows - 1) * WM_ROW;
-    plain_add(row, WM_ROW, 0, name_of(rows - 1), 15, (const uint8_t *)label, sizeof label - 1, limit, 2);
-    if (limit < 8)
-        plain_add(row, WM_ROW, 0, name_of(rows - 1), 15, (const uint8_t *)"corporate.example", 17, 1, 0);
-    for (uint32_t i = 0; i < open; i++) {
-        put_opening(0, i, rows - 1);
-        plain_handle(row, WM_ROW, 0, (const uint8_t *)host, sizeof host - 1, (const uint8_t *)realm, sizeof realm - 1,
-                     messages[0].bytes, messages[0].length, true, answer, sizeof answer, notice, sizeof notice);
-    }
+        enter(table + i * row_of(form), 0, name_of(i));
+    fill_row(rows - 1, limit, open);
 }
 
 /* Twelve sessions in turn: each opening cuts the oldest one, and the row is in the same state after twelve. */
@@ -170,7 +188,7 @@ static void cutting(void) {
 static void cutting_namesake(void) {
     cutting();
     for (uint32_t i = 0; i + 1 < rows; i++)
-        enter(table + i * WM_ROW, 1 + i % 15, name_of(rows - 1));
+        enter(table + i * row_of(form), 1 + i % 15, name_of(rows - 1));
 }
 
 static void cutting_full(void) {
@@ -196,6 +214,31 @@ static void policies(void) {
     subscribers(2, 2);
     put_policy(0, 1, rows - 1, "permit out 50 from 10.20.30.40 to 192.0.2.0/24");
     put_policy(1, 1, rows - 1, "permit in 50 from 192.0.2.0/24 to 10.20.30.40 4500");
+}
+
+/* Three policies at a time. */
+static void three_policies(void) {
+    policies();
+    for (struct request *r = messages; r < messages + 2; r++) {
+        put_avp(r, 312, true, "permit out 17 from 10.20.30.40 to 192.0.2.1 53", 46);
+        put_avp(r, 312, true, "deny out ip from 10.20.30.40 to any", 35);
+        finish(r);
+    }
+}
+
+/* Every row has two accesses, which say no more than form 1 can: a table of form 2 is one that was moved there. */
+static void full_table(void) {
+    static uint8_t moved[MOVED * WM_ROW_2];
+    uint32_t to = form;
+    form = 1;
+    subscribers(2, 2);
+    for (uint32_t i = 0; i + 1 < rows; i++)
+        fill_row(i, 2, 2);
+    form = to;
+    if (form == 2) {
+        plain_move(table, rows * WM_ROW, moved, rows * WM_ROW_2, 2);
+        memcpy(table, moved, rows * WM_ROW_2);
+    }
 }
 
 static void terminations(void) {
@@ -301,59 +344,76 @@ static void unknown(void) {
 /* A byte of the newest access's Session-Id is another. */
 static void unsound(void) {
     cutting();
-    table[(rows - 1) * WM_ROW + 2 * 512 + 8 + 70] ^= 1;
+    table[(rows - 1) * row_of(form) + (size_t)form * 512 + 512 + 8 + 70] ^= 1;
 }
 
 static const struct line lines[] = {
-    {"opening with a cut, 1 row", cutting, 1, MESSAGES, false, {2001, 1, 0, 0, 1, 72, 39}},
-    {"opening with a cut, 64 rows", cutting, 64, MESSAGES, false, {2001, 1, 0, 0, 1, 72, 39}},
-    {"opening with a cut, 1,024 rows", cutting, 1024, MESSAGES, false, {2001, 1, 0, 0, 1, 72, 39}},
-    {"opening with a cut, 1,024 rows of its name", cutting_namesake, 1024, MESSAGES, false, {2001, 1, 0, 0, 1, 72, 39}},
-    {"opening with a cut, 8 accesses", cutting_full, 1, MESSAGES, false, {2001, 1, 0, 0, 1, 72, 39}},
-    {"opening with a cut, W-APN in capitals", cutting_capitals, 1, MESSAGES, false, {2001, 1, 0, 0, 1, 72, 39}},
-    {"opening without a cut, 1 row", opening_first, 1, MESSAGES, true, {2001, 1, 0, 1, 0, 0, 0}},
-    {"opening without a cut, 1,024 rows", opening_first, 1024, MESSAGES, true, {2001, 1, 0, 1, 0, 0, 0}},
-    {"policy", policies, 1, 2, false, {2001, 1, 0, 0, 0, 0, 0}},
-    {"termination", terminations, 1, 1, true, {2001, 1, 0, 0, 0, 0, 0}},
-    {"refused: number 7", wrong_length, 1, 1, false, {7, 0, 0, 0, 0, 0, 0}},
-    {"refused: header flags", wrong_header, 1, 1, false, {5013, 1, 0, 0, 0, 0, 0}},
-    {"refused: bare header", bare, 1, 1, false, {5005, 1, 0, 0, 0, 0, 0}},
-    {"refused: no W-APN", no_label, 1, 1, false, {5005, 1, 0, 0, 0, 0, 0}},
-    {"refused: 509 AVPs of 8 bytes", tiny_refused, 1, 1, false, {5005, 1, 0, 0, 0, 0, 0}},
-    {"refused: the last of 509 AVPs", last_refused, 1, 1, false, {5001, 1, 0, 0, 0, 0, 0}},
-    {"opening with a cut, 463 more AVPs", tiny_opened, 1, MESSAGES, false, {2001, 1, 0, 0, 1, 72, 39}},
-    {"opening with a cut, 463 known AVPs with M", known_opened, 1, MESSAGES, false, {2001, 1, 0, 0, 1, 72, 39}},
-    {"opening with a cut, 64 Proxy-Infos", many_proxies, 1, MESSAGES, false, {2001, 1, 0, 0, 1, 72, 39}},
-    {"opening with a cut, 40 Proxy-Infos apart", proxies_apart, 1, MESSAGES, false, {2001, 1, 0, 0, 1, 72, 39}},
-    {"unknown user, 1,024 rows", unknown, 1024, 1, false, {5001, 2, 0, 0, 0, 0, 0}},
-    {"unsound row", unsound, 1, 1, false, {5012, 1, 0, 0, 0, 0, 0}},
+    {"opening with a cut, 1 row", cutting, 1, MESSAGES, false, {2001, 1, 0, 0, 1, 72, 39}, 1},
+    {"opening with a cut, 64 rows", cutting, 64, MESSAGES, false, {2001, 1, 0, 0, 1, 72, 39}, 1},
+    {"opening with a cut, 1,024 rows", cutting, 1024, MESSAGES, false, {2001, 1, 0, 0, 1, 72, 39}, 1},
+    {"opening with a cut, 1,024 rows of its name", cutting_namesake, 1024, MESSAGES, false, {2001, 1, 0, 0, 1, 72, 39}, 1},
+    {"opening with a cut, 8 accesses", cutting_full, 1, MESSAGES, false, {2001, 1, 0, 0, 1, 72, 39}, 1},
+    {"opening with a cut, W-APN in capitals", cutting_capitals, 1, MESSAGES, false, {2001, 1, 0, 0, 1, 72, 39}, 1},
+    {"opening without a cut, 1 row", opening_first, 1, MESSAGES, true, {2001, 1, 0, 1, 0, 0, 0}, 1},
+    {"opening without a cut, 1,024 rows", opening_first, 1024, MESSAGES, true, {2001, 1, 0, 1, 0, 0, 0}, 1},
+    {"policy", policies, 1, 2, false, {2001, 1, 0, 0, 0, 0, 0}, 1},
+    {"termination", terminations, 1, 1, true, {2001, 1, 0, 0, 0, 0, 0}, 1},
+    {"refused: number 7", wrong_length, 1, 1, false, {7, 0, 0, 0, 0, 0, 0}, 1},
+    {"refused: header flags", wrong_header, 1, 1, false, {5013, 1, 0, 0, 0, 0, 0}, 1},
+    {"refused: bare header", bare, 1, 1, false, {5005, 1, 0, 0, 0, 0, 0}, 1},
+    {"refused: no W-APN", no_label, 1, 1, false, {5005, 1, 0, 0, 0, 0, 0}, 1},
+    {"refused: 509 AVPs of 8 bytes", tiny_refused, 1, 1, false, {5005, 1, 0, 0, 0, 0, 0}, 1},
+    {"refused: the last of 509 AVPs", last_refused, 1, 1, false, {5001, 1, 0, 0, 0, 0, 0}, 1},
+    {"opening with a cut, 463 more AVPs", tiny_opened, 1, MESSAGES, false, {2001, 1, 0, 0, 1, 72, 39}, 1},
+    {"opening with a cut, 463 known AVPs with M", known_opened, 1, MESSAGES, false, {2001, 1, 0, 0, 1, 72, 39}, 1},
+    {"opening with a cut, 64 Proxy-Infos", many_proxies, 1, MESSAGES, false, {2001, 1, 0, 0, 1, 72, 39}, 1},
+    {"opening with a cut, 40 Proxy-Infos apart", proxies_apart, 1, MESSAGES, false, {2001, 1, 0, 0, 1, 72, 39}, 1},
+    {"unknown user, 1,024 rows", unknown, 1024, 1, false, {5001, 2, 0, 0, 0, 0, 0}, 1},
+    {"unsound row", unsound, 1, 1, false, {5012, 1, 0, 0, 0, 0, 0}, 1},
+    {"form 2: opening with a cut, 1 row", cutting, 1, MESSAGES, false, {2001, 1, 0, 0, 1, 72, 39}, 2},
+    {"form 2: opening with a cut, 1,024 rows", cutting, 1024, MESSAGES, false, {2001, 1, 0, 0, 1, 72, 39}, 2},
+    {"form 2: opening with a cut, 8 accesses", cutting_full, 1, MESSAGES, false, {2001, 1, 0, 0, 1, 72, 39}, 2},
+    {"form 2: opening without a cut", opening_first, 1, MESSAGES, true, {2001, 1, 0, 1, 0, 0, 0}, 2},
+    {"form 2: one policy", policies, 1, 2, false, {2001, 1, 0, 0, 0, 0, 0}, 2},
+    {"form 2: three policies", three_policies, 1, 2, false, {2001, 1, 0, 0, 0, 0, 0}, 2},
+    {"form 2: termination", terminations, 1, 1, true, {2001, 1, 0, 0, 0, 0, 0}, 2},
+    {"moving 64 rows to form 2", full_table, MOVED, 0, false, {0, 0, 0, 0, 0, 0, 0}, 1},
+    {"moving 64 rows back to form 1", full_table, MOVED, 0, false, {0, 0, 0, 0, 0, 0, 0}, 2},
 };
 enum { LINES = sizeof lines / sizeof *lines };
 
 static void set_up(const struct line *line) {
     table = lent[0].table;
     rows = line->rows;
+    form = line->form;
     line->set_up();
-    memcpy(saved, table + (rows - 1) * WM_ROW, WM_ROW);
-    memcpy(lent[1].table, table, rows * WM_ROW);
+    memcpy(saved, table + (rows - 1) * row_of(form), row_of(form));
+    memcpy(lent[1].table, table, rows * row_of(form));
     for (size_t i = 0; i < 2; i++) {
+        memset(lent[i].target, 0xC3, sizeof lent[i].target);
         memset(lent[i].answer, 0xA5, sizeof lent[i].answer);
         memset(lent[i].notice, 0x5A, sizeof lent[i].notice);
     }
 }
 
-static inline struct wm_outcome call(handle_function *handle, struct lent *l, const struct line *line, size_t i) {
+static inline struct wm_outcome call(const struct library *library, struct lent *l, const struct line *line, size_t i) {
+    size_t size = row_of(line->form);
+    if (line->messages == 0) {
+        uint32_t to = 3 - line->form;
+        return (struct wm_outcome){.code = library->move(l->table, line->rows * size, l->target, line->rows * row_of(to), to)};
+    }
     if (line->restore)
-        memcpy(l->table + (line->rows - 1) * WM_ROW, saved, WM_ROW);
-    return handle(l->table, line->rows * WM_ROW, 0, (const uint8_t *)host, sizeof host - 1, (const uint8_t *)realm,
-                  sizeof realm - 1, messages[i].bytes, messages[i].length, true, l->answer, sizeof l->answer, l->notice,
-                  sizeof l->notice);
+        memcpy(l->table + (line->rows - 1) * size, saved, size);
+    return library->handle(l->table, line->rows * size, line->form, 0, (const uint8_t *)host, sizeof host - 1, (const uint8_t *)realm,
+                           sizeof realm - 1, messages[i].bytes, messages[i].length, true, l->answer, sizeof l->answer, l->notice,
+                           sizeof l->notice);
 }
 
 /* ---- checking ---- */
 
-static bool same_lent(uint32_t of_rows) {
-    return memcmp(lent[0].table, lent[1].table, of_rows * WM_ROW) == 0 &&
+static bool same_lent(const struct line *line) {
+    return memcmp(lent[0].table, lent[1].table, line->rows * row_of(line->form)) == 0 &&
+           memcmp(lent[0].target, lent[1].target, sizeof lent[0].target) == 0 &&
            memcmp(lent[0].answer, lent[1].answer, sizeof lent[0].answer) == 0 &&
            memcmp(lent[0].notice, lent[1].notice, sizeof lent[0].notice) == 0;
 }
@@ -370,9 +430,9 @@ static void say(const char *who, const struct wm_outcome *o) {
 
 /* One call of each library: true if all is the same. */
 static bool agree(const struct line *line, size_t i, struct wm_outcome *o) {
-    struct wm_outcome other = call(libraries[1].handle, &lent[1], line, i);
-    *o = call(libraries[0].handle, &lent[0], line, i);
-    if (memcmp(o, &other, sizeof other) == 0 && same_lent(line->rows))
+    struct wm_outcome other = call(&libraries[1], &lent[1], line, i);
+    *o = call(&libraries[0], &lent[0], line, i);
+    if (memcmp(o, &other, sizeof other) == 0 && same_lent(line))
         return true;
     printf("the libraries differ:\n");
     say("proved", o);
@@ -386,7 +446,7 @@ static int check(void) {
         set_up(line);
         for (size_t i = 0; i < 3 * MESSAGES; i++, calls++) {
             struct wm_outcome o;
-            if (agree(line, i % line->messages, &o) && as_expected(&o, &line->expected))
+            if (agree(line, line->messages ? i % line->messages : 0, &o) && as_expected(&o, &line->expected))
                 continue;
             printf("%s, call %zu: not as expected\n", line->name, i);
             say("proved", &o);
@@ -415,20 +475,22 @@ static inline uint32_t wrong(const struct line *line, const struct wm_outcome *o
            (((head ^ __builtin_bswap32(0x01000000 + o->length)) | (uint32_t)identifiers | (uint32_t)(identifiers >> 32)) & answered);
 }
 
-static uint32_t run(const struct line *line, handle_function *handle, struct lent *l, uint32_t calls) {
+static uint32_t run(const struct line *line, const struct library *library, struct lent *l, uint32_t calls) {
     uint32_t bad = 0;
     for (uint32_t n = 0, i = 0; n < calls; n++, i = i + 1 < line->messages ? i + 1 : 0) {
-        struct wm_outcome o = call(handle, l, line, i);
+        struct wm_outcome o = call(library, l, line, i);
         bad |= wrong(line, &o, l->answer, &messages[i]);
     }
     return bad;
 }
 
 /* All that stands in what was lent, in one number. */
-static uint64_t digest(const struct lent *l, uint32_t of_rows) {
+static uint64_t digest(const struct lent *l, const struct line *line) {
     uint64_t h = 14695981039346656037u;
-    for (size_t i = 0; i < of_rows * WM_ROW; i++)
+    for (size_t i = 0; i < line->rows * row_of(line->form); i++)
         h = (h ^ l->table[i]) * 1099511628211u;
+    for (size_t i = 0; i < sizeof l->target; i++)
+        h = (h ^ l->target[i]) * 1099511628211u;
     for (size_t i = 0; i < sizeof l->answer; i++)
         h = (h ^ l->answer[i]) * 1099511628211u;
     for (size_t i = 0; i < sizeof l->notice; i++)
@@ -445,17 +507,18 @@ double seconds(void) {
 /* The shortest of many short runs for each, the libraries in turn; the loop around the call taken off. Both must leave the same. */
 static bool time_line(const struct line *line) {
     double best[3] = {1e9, 1e9, 1e9};
+    uint32_t calls = line->messages == 0 ? MESSAGES : 50 * MESSAGES; /* a move takes long */
     set_up(line);
     for (uint32_t turn = 0; turn < 60; turn++) {
         uint32_t bad[3];
         for (size_t i = 0; i < 3; i++) {
             size_t k = (i + 2) % 3; /* the empty one first: it sets rows back and leaves no access in them */
             double from = seconds();
-            bad[k] = run(line, libraries[k].handle, &lent[k % 2], 50 * MESSAGES);
-            double took = (seconds() - from) / (50 * MESSAGES);
+            bad[k] = run(line, &libraries[k], &lent[k % 2], calls);
+            double took = (seconds() - from) / calls;
             best[k] = took < best[k] ? took : best[k];
         }
-        if (bad[0] || bad[1] || !same_lent(line->rows)) {
+        if (bad[0] || bad[1] || !same_lent(line)) {
             printf("%s: not as expected while it was measured\n", line->name);
             return false;
         }
@@ -470,8 +533,8 @@ static int count_line(const struct line *line, const char *library, uint32_t cal
     for (size_t k = 0; k < 3; k++)
         if (!strcmp(library, libraries[k].name)) {
             set_up(line);
-            uint32_t bad = run(line, libraries[k].handle, &lent[0], calls);
-            printf("%016lx\n", (unsigned long)digest(&lent[0], line->rows));
+            uint32_t bad = run(line, &libraries[k], &lent[0], calls);
+            printf("%016lx\n", (unsigned long)digest(&lent[0], line));
             return k < 2 && bad;
         }
     return 2;

@@ -1,4 +1,4 @@
-/* Calls by chance: set-up operations and requests, good and damaged, on tables that live on. After each one both libraries must
+/* Calls by chance: set-up operations, requests and moves, good and damaged, on tables of both forms that live on. After each one both libraries must
  * have given the same and left the same bytes everywhere. */
 #include "requests.h"
 
@@ -11,8 +11,15 @@ int fclose(FILE *);
 enum { ROWS = 4, ANSWER = WM_ANSWER_LEAST + 64, NOTICE = WM_NOTICE_LEAST + 64 };
 
 static struct side {
-    uint8_t table[ROWS * WM_ROW], answer[ANSWER], notice[NOTICE];
+    uint8_t table[ROWS * WM_ROW_2], target[ROWS * WM_ROW_2 + 64], answer[ANSWER], notice[NOTICE];
 } proved, plain;
+
+/* The form in which the table stands now: a move that succeeded, and a clearing, may leave another one. */
+static uint32_t form;
+
+static size_t row_of(uint32_t of_form) {
+    return of_form == 1 ? WM_ROW : WM_ROW_2;
+}
 
 static uint64_t seed;
 
@@ -85,6 +92,42 @@ static const struct text *pick_label(void) {
     return &typed;
 }
 
+/* The lowest place in use, counted from 0. */
+static uint32_t first_place(const uint8_t *row) {
+    uint32_t place = 0;
+    while (place < 7 && !(row[17] >> place & 1))
+        place++;
+    return place;
+}
+
+/* A row, mostly one with an access that stands. */
+static uint8_t *pick_row(void) {
+    uint8_t *row = proved.table + below(ROWS) * row_of(form);
+    for (uint32_t tries = 0; row[17] == 0 && tries < 6; tries++)
+        row = proved.table + below(ROWS) * row_of(form);
+    return row;
+}
+
+/* A subscriber of the table with an access that stands: half of the requests are about one. */
+static struct {
+    bool there;
+    uint32_t op;
+    struct text name, session, label;
+} held;
+
+static void look_at_table(void) {
+    const uint8_t *row = pick_row(), *block = row + 512 + 512 * form * (one_in(2) ? below(8) : first_place(row));
+    uint32_t entry = block[1] - 1u;
+    held.there = !decoded && one_in(2) && row[0] == 1 && row[1] <= 15 && block[0] == 2 && block[2] <= 128 && entry < 4;
+    if (!held.there)
+        return;
+    const uint8_t *label = row + 32 + 104 * entry;
+    held.op = row[19];
+    held.name = (struct text){(const char *)row + 2, row[1]};
+    held.session = (struct text){(const char *)block + 8, block[2]};
+    held.label = (struct text){(const char *)label + 1, label[0] <= 100 ? label[0] : 0};
+}
+
 /* ---- a request ---- */
 
 /* A field of the list: now and then it is absent, twice there, of another vendor, or as long as it must not be. */
@@ -135,6 +178,15 @@ static void other(struct request *r) {
     }
 }
 
+/* Policies: one mostly, in form 2 up to three, and now and then one too many or still more. */
+static void policies(struct request *r) {
+    uint32_t count = form == 2 ? 1 + below(3) : 1;
+    if (one_in(30))
+        count = form == 2 ? 3 + below(3) : 2;
+    for (; count > 0; count--)
+        text_field(r, 312, true, PICK(texts));
+}
+
 /* Fields in a turned order behind Session-Id: `turn` is the one that comes first. */
 static void fields(struct request *r, bool termination, uint32_t type) {
     uint32_t count = termination ? 8 : 11, turn = one_in(3) ? below(count) : 0;
@@ -160,11 +212,11 @@ static void fields(struct request *r, bool termination, uint32_t type) {
             text_field(r, 293, false, PICK(texts));
             break;
         case 6:
-            text_field(r, 1, false, pick_name());
+            text_field(r, 1, false, held.there ? &held.name : pick_name());
             break;
         case 7:
             if (termination || type == 0 || one_in(4))
-                text_field(r, 100, true, pick_label());
+                text_field(r, 100, true, held.there && !one_in(8) ? &held.label : pick_label());
             break;
         case 8:
             value_field(r, 311, true, type);
@@ -175,7 +227,7 @@ static void fields(struct request *r, bool termination, uint32_t type) {
             break;
         default:
             if (type == 1 || one_in(8))
-                text_field(r, 312, true, PICK(texts));
+                policies(r);
         }
     }
 }
@@ -185,32 +237,72 @@ static void damage(uint8_t *bytes, size_t length, uint32_t times) {
         bytes[one_in(2) && length > 64 ? below(64) : below((uint32_t)length)] ^= (uint8_t)(1u << below(8));
 }
 
+/* The sums of a block are put right. */
+static void agree(uint8_t *block) {
+    uint32_t low = 0, high = 0;
+    for (uint32_t i = 0; i < 510; i++) {
+        low = (low + block[i]) % 255;
+        high = (high + low) % 255;
+    }
+    block[510] = (uint8_t)high;
+    block[511] = (uint8_t)low;
+}
+
 /* The second label of a row becomes the first with that bit turned in one byte; the sums of block 0 agree. */
 static void label_again(uint8_t *row) {
     uint8_t *first = row + 32, *second = first + 104;
-    uint32_t low = 0, high = 0;
     if (row[0] != 1 || row[18] < 2 || first[0] < 1 || first[0] > 100)
         return;
     memcpy(second, first, 101);
     turn_case(second + 1, second[0]);
-    for (uint32_t i = 0; i < 510; i++) {
-        low = (low + row[i]) % 255;
-        high = (high + low) % 255;
+    agree(row);
+}
+
+/* One byte of a second block in a row of form 2 is another, mostly one that says something; or the block is gone; or a second or a third policy of one byte
+ * stands in it, whatever is held before. The sums agree but where they are what is damaged. */
+static void damage_second(uint8_t *row) {
+    static const uint16_t at[] = {0, 1, 2, 3, 4, 5, 7, 8, 135, 136, 263, 264, 391, 392, 509};
+    uint32_t place = one_in(8) ? below(8) : first_place(row), offset = one_in(4) ? below(512) : at[below(sizeof at / sizeof *at)];
+    uint8_t *block = row + 512 + 1024 * place + 512;
+    if (one_in(8))
+        memset(block, 0, 512);
+    else if (block[0] == 3 && !one_in(3)) {
+        uint32_t third = below(2);
+        memset(block + 136 + 128 * third, 0, 128);
+        block[136 + 128 * third] = 'x';
+        block[3 + third] = 1;
+        agree(block);
+    } else {
+        block[offset] = one_in(2) ? (uint8_t)(block[offset] ^ 1u << below(8)) : (uint8_t)(126 + below(4));
+        if (offset < 510)
+            agree(block);
     }
-    row[510] = (uint8_t)high;
-    row[511] = (uint8_t)low;
+}
+
+/* A row becomes another one, mostly damaged. */
+static void damage_row(uint8_t *row) {
+    if (one_in(3))
+        label_again(row);
+    else if (form == 2 && one_in(2))
+        damage_second(row);
+    else if (row[0] == 1 && one_in(4)) {
+        row[19] = (uint8_t)(15 + below(3));
+        agree(row);
+    } else
+        damage(row, one_in(2) ? 512 : row_of(form), 1);
 }
 
 static void by_chance(struct request *r) {
     bool termination = one_in(4);
+    uint32_t type = one_in(3);
     uint32_t flags = one_in(40) ? below(256) : 0x80 + 0x40 * below(2) + 0x10 * one_in(8);
     if (decoded)
         flags |= 0x80;
     start(r, flags, one_in(100) ? 272 + (decoded ? 2 : below(4)) : termination ? 275 : 265, one_in(60) ? below(3) : 1, below(9999));
     if (one_in(60))
         put_text(r, one_in(2) ? 25 : 33, "before");
-    text_field(r, 263, false, PICK(sessions));
-    fields(r, termination, one_in(4));
+    text_field(r, 263, false, held.there && (termination || type == 1) ? &held.session : PICK(sessions));
+    fields(r, termination, type);
     other(r);
     if (one_in(100))
         while (r->length < MESSAGE_MOST - 8 + 4 * below(4))
@@ -260,12 +352,41 @@ static size_t pick_shares(uint32_t *shares) {
 
 static bool same_rooms(void) {
     return memcmp(proved.table, plain.table, sizeof plain.table) == 0 &&
+           memcmp(proved.target, plain.target, sizeof plain.target) == 0 &&
            memcmp(proved.answer, plain.answer, sizeof plain.answer) == 0 &&
            memcmp(proved.notice, plain.notice, sizeof plain.notice) == 0;
 }
 
 static size_t table_length(void) {
-    return one_in(100) ? below(3) * WM_ROW + below(2) : ROWS * WM_ROW;
+    return one_in(100) ? below(3) * row_of(form) + below(2) : ROWS * row_of(form);
+}
+
+/* The form that a call says: the table's, and now and then the other one, or none. */
+static uint32_t say_form(uint32_t right) {
+    static const uint32_t none[] = {0, 3, 4, 255, 257, 258, 0x80000002, 0xFFFFFFFF};
+    if (decoded || !one_in(100))
+        return right;
+    return one_in(2) ? 3 - right : none[below(8)];
+}
+
+/* What a move brought, or nothing at all, becomes the table of both, in this form. */
+static void go_on_in(uint32_t next, const uint8_t *from, size_t length) {
+    form = next;
+    memset(proved.table, 0, sizeof proved.table);
+    memcpy(proved.table, from, length);
+    memcpy(plain.table, proved.table, sizeof plain.table);
+}
+
+static bool move(uint32_t *number) {
+    uint32_t to = 3 - form, said = say_form(to);
+    size_t length = table_length(), target = length / row_of(form) * row_of(to);
+    if (one_in(10))
+        target = one_in(2) ? below(ROWS + 1) * row_of(to) : target + below(64);
+    *number = wm_move(proved.table, length, proved.target, target, said);
+    bool same = *number == plain_move(plain.table, length, plain.target, target, said) && same_rooms();
+    if (same && *number == 0 && said == to && !one_in(4))
+        go_on_in(to, proved.target, target);
+    return same;
 }
 
 static bool set_up(uint32_t *number) {
@@ -273,35 +394,40 @@ static bool set_up(uint32_t *number) {
     const struct text *name = decoded ? &names[3 + below(4)] : PICK(names), *label = pick_label();
     const uint8_t *n = (const uint8_t *)name->bytes, *l = (const uint8_t *)label->bytes;
     uint8_t limit = (uint8_t)(one_in(20) ? below(12) : 1 + below(3)), flags = (uint8_t)(one_in(8) ? below(6) : 2 * below(2));
-    if (one_in(12)) {
-        *number = wm_clear(proved.table, length);
-        return *number == plain_clear(plain.table, length);
+    uint32_t said = say_form(form);
+    if (one_in(40)) {
+        *number = wm_clear(proved.table, length, said);
+        bool same = *number == plain_clear(plain.table, length, said) && same_rooms();
+        if (same && *number == 0 && length == ROWS * row_of(form) && !decoded)
+            go_on_in(1 + below(2), proved.table, 0);
+        return same;
     }
     uint32_t op = pick_operator(), shares[OPERATORS + 1];
     if (one_in(2)) {
         size_t count = pick_shares(shares);
-        *number = wm_enter(proved.table, length, op, shares, count, n, name->length);
-        return *number == plain_enter(plain.table, length, op, shares, count, n, name->length);
+        *number = wm_enter(proved.table, length, said, op, shares, count, n, name->length);
+        return *number == plain_enter(plain.table, length, said, op, shares, count, n, name->length);
     }
-    *number = wm_add(proved.table, length, op, n, name->length, l, label->length, limit, flags);
-    return *number == plain_add(plain.table, length, op, n, name->length, l, label->length, limit, flags);
+    *number = wm_add(proved.table, length, said, op, n, name->length, l, label->length, limit, flags);
+    return *number == plain_add(plain.table, length, said, op, n, name->length, l, label->length, limit, flags);
 }
 
 static bool request(struct wm_outcome *o) {
     static struct request r;
     const struct text *host = PICK(texts), *realm = PICK(texts);
     size_t table = table_length(), answer = WM_ANSWER_LEAST, notice = WM_NOTICE_LEAST;
-    uint32_t op = pick_operator();
     bool wag = !one_in(4);
+    look_at_table();
+    uint32_t said = say_form(form), op = held.there && !one_in(10) ? held.op : pick_operator();
     by_chance(&r);
     if (one_in(100))
         answer = answer + below(3) - 1;
     if (one_in(100))
         notice = notice + below(3) - 1;
-    *o = wm_handle(proved.table, table, op, (const uint8_t *)host->bytes, host->length, (const uint8_t *)realm->bytes,
+    *o = wm_handle(proved.table, table, said, op, (const uint8_t *)host->bytes, host->length, (const uint8_t *)realm->bytes,
                    realm->length, r.bytes, r.length, wag, proved.answer, answer, proved.notice, notice);
     struct wm_outcome other =
-        plain_handle(plain.table, table, op, (const uint8_t *)host->bytes, host->length, (const uint8_t *)realm->bytes,
+        plain_handle(plain.table, table, said, op, (const uint8_t *)host->bytes, host->length, (const uint8_t *)realm->bytes,
                      realm->length, r.bytes, r.length, wag, plain.answer, answer, plain.notice, notice);
     return memcmp(o, &other, sizeof other) == 0;
 }
@@ -325,11 +451,13 @@ int mix(uint32_t calls, uint64_t from, const char *answers) {
         return 2;
     begin_chance(from);
     decoded = file != 0;
+    form = 1;
     for (uint32_t n = 0; n < calls && differ < 10; n++) {
         struct wm_outcome o = {0};
-        bool setting_up = one_in(8), agree = setting_up ? set_up(&o.code) : request(&o);
-        kinds = outcomes(setting_up ? 20000 + o.code : o.code + 10000 * (o.kind == 2));
-        if (!agree || !same_rooms()) {
+        bool setting_up = one_in(8), moving = !decoded && !setting_up && one_in(20);
+        bool same = setting_up ? set_up(&o.code) : moving ? move(&o.code) : request(&o);
+        kinds = outcomes(setting_up || moving ? 20000 + o.code : o.code + 10000 * (o.kind == 2));
+        if (!same || !same_rooms()) {
             printf("mix: call %u of seed %llu: the libraries differ; the proved one said %u\n", n, (unsigned long long)from, o.code);
             differ++;
         }
@@ -337,11 +465,8 @@ int mix(uint32_t calls, uint64_t from, const char *answers) {
             fwrite(proved.answer, 1, o.length, file);
             written++;
         }
-        if (!decoded && one_in(60)) {
-            if (one_in(3))
-                label_again(proved.table + below(ROWS) * WM_ROW);
-            else
-                damage(proved.table + below(ROWS) * WM_ROW, one_in(2) ? 512 : WM_ROW, 1);
+        if (!decoded && one_in(120)) {
+            damage_row(pick_row());
             memcpy(plain.table, proved.table, sizeof plain.table);
         }
     }

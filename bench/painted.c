@@ -66,7 +66,7 @@ static size_t deepest(void (*f)(void)) {
 
 /* ---- a request ---- */
 
-static uint8_t table[WM_ROW], message[512], answer[WM_ANSWER_LEAST], notice[WM_NOTICE_LEAST];
+static uint8_t table[WM_ROW_2], message[512], answer[WM_ANSWER_LEAST], notice[WM_NOTICE_LEAST];
 static size_t end;
 static struct wm_outcome outcome;
 
@@ -114,13 +114,13 @@ static void ask(const uint8_t *session, size_t bytes) {
 
 static void set_up(void) {
     static const uint32_t shares[16] = {1};
-    wm_clear(table, sizeof table);
-    wm_enter(table, sizeof table, 0, shares, 16, TEXT("001010123456789"));
-    wm_add(table, sizeof table, 0, TEXT("001010123456789"), TEXT("board"), 1, 0);
+    wm_clear(table, sizeof table, 2);
+    wm_enter(table, sizeof table, 2, 0, shares, 16, TEXT("001010123456789"));
+    wm_add(table, sizeof table, 2, 0, TEXT("001010123456789"), TEXT("board"), 1, 0);
 }
 
 static void open_tunnel(void) {
-    outcome = wm_handle(table, sizeof table, 0, TEXT("server.example"), TEXT("example"), message, end, true, answer, sizeof answer,
+    outcome = wm_handle(table, sizeof table, 2, 0, TEXT("server.example"), TEXT("example"), message, end, true, answer, sizeof answer,
                         notice, sizeof notice);
 }
 

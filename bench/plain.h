@@ -20,14 +20,16 @@ int memcmp(const void *a, const void *b, size_t bytes);
 
 #include "../include/wm.h"
 
-uint32_t plain_clear(uint8_t *table, size_t table_length);
-uint32_t plain_enter(uint8_t *table, size_t table_length, uint32_t op, const uint32_t *shares, size_t shares_length,
-                     const uint8_t *name, size_t name_length);
-uint32_t plain_add(uint8_t *table, size_t table_length, uint32_t op, const uint8_t *name, size_t name_length,
+uint32_t plain_clear(uint8_t *table, size_t table_length, uint32_t form);
+uint32_t plain_enter(uint8_t *table, size_t table_length, uint32_t form, uint32_t op, const uint32_t *shares,
+                     size_t shares_length, const uint8_t *name, size_t name_length);
+uint32_t plain_add(uint8_t *table, size_t table_length, uint32_t form, uint32_t op, const uint8_t *name, size_t name_length,
                    const uint8_t *label, size_t label_length, uint8_t limit, uint8_t flags);
-struct wm_outcome plain_handle(uint8_t *table, size_t table_length, uint32_t op, const uint8_t *host, size_t host_length,
-                               const uint8_t *realm, size_t realm_length, const uint8_t *message, size_t message_length,
-                               bool wag, uint8_t *answer, size_t answer_length, uint8_t *notice, size_t notice_length);
+struct wm_outcome plain_handle(uint8_t *table, size_t table_length, uint32_t form, uint32_t op, const uint8_t *host,
+                               size_t host_length, const uint8_t *realm, size_t realm_length, const uint8_t *message,
+                               size_t message_length, bool wag, uint8_t *answer, size_t answer_length, uint8_t *notice,
+                               size_t notice_length);
+uint32_t plain_move(const uint8_t *table, size_t table_length, uint8_t *target, size_t target_length, uint32_t form);
 uint32_t plain_report_count(struct wm_report *report, const struct wm_told *told, size_t told_length);
 
 #endif

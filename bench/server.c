@@ -5,8 +5,10 @@
 #include "plain.h"
 
 enum { ROWS = 1024, BLOCK = 512, SUMMED = 510, NAME_MOST = 15, TEXT_MOST = 128, LABEL_MOST = 100, ENTRIES = 4, PLACES = 8, OPERATORS = 16 };
+enum { POLICIES = 3 }; /* of an access in form 2; form 1 has one */
 enum { ENTRY = 32, ENTRY_SIZE = 104, ENTRIES_END = ENTRY + ENTRIES * ENTRY_SIZE, OPERATOR = 19, LINE = 20 }; /* in block 0 */
-enum { SESSION_AT = 8, HOST_AT = 136, POLICY_AT = 264, TEXTS_END = 392 };                     /* in a place's block */
+enum { SESSION_AT = 8, HOST_AT = 136, POLICY_AT = 264 };          /* in a place's first block */
+enum { REALM_AT = 8, SECOND_AT = 136, THIRD_AT = 264 };           /* in its second one, of form 2 */
 enum { BARRED = 1, MAY_ROAM = 2 };
 enum { RESULT = 1, EXPERIMENTAL = 2 };
 enum { VENDOR = 10415 };
@@ -133,6 +135,16 @@ struct row_use {
     uint8_t of_entry[ENTRIES + 1];
 };
 
+/* A form is told by its number, which is also how many blocks a place has. */
+static inline size_t row_size(uint32_t form) {
+    return BLOCK + (size_t)PLACES * BLOCK * form;
+}
+
+/* Where a place's blocks start in its row. */
+static inline size_t place_at(uint32_t form, uint32_t place) {
+    return BLOCK + (size_t)BLOCK * form * (place - 1);
+}
+
 static inline const uint8_t *entry_at(const uint8_t *row, uint32_t i) {
     return row + ENTRY + ENTRY_SIZE * i;
 }
@@ -152,9 +164,9 @@ static uint32_t find_entry(const uint8_t *row, const uint8_t *label, size_t leng
 }
 
 /* The place with this Session-Id among those in use up to `last`, or 0. */
-static uint32_t find_session(const uint8_t *row, const uint8_t *session, size_t length, uint32_t last) {
+static uint32_t find_session(const uint8_t *row, uint32_t form, const uint8_t *session, size_t length, uint32_t last) {
     for (uint32_t place = 1; place <= last; place++) {
-        const uint8_t *b = row + BLOCK * place;
+        const uint8_t *b = row + place_at(form, place);
         if (in_use(row, place) && b[2] == length && same(b + SESSION_AT, session, length))
             return place;
     }
@@ -214,58 +226,76 @@ static bool access_sound(const uint8_t *b, uint32_t entries) {
            all_zero(b + POLICY_AT + b[5], (size_t)(SUMMED - POLICY_AT - b[5])) && sums_agree(b);
 }
 
-static bool places_sound(const uint8_t *row, struct row_use *use) {
-    for (uint32_t place = 1; place <= PLACES; place++) {
-        const uint8_t *b = row + BLOCK * place;
+/* The second block of a place in use; `policy` if the first one holds a policy. */
+static bool second_sound(const uint8_t *b, bool policy) {
+    if (b[0] != 3 || b[1] > TEXT_MOST || b[3] > TEXT_MOST || b[4] > TEXT_MOST || (b[2] | b[5] | b[6] | b[7]) != 0)
+        return false;
+    if ((b[3] != 0 && !policy) || (b[4] != 0 && b[3] == 0))
+        return false;
+    return tail_zero(b + REALM_AT, b[1], TEXT_MOST) && tail_zero(b + SECOND_AT, b[3], TEXT_MOST) &&
+           all_zero(b + THIRD_AT + b[4], (size_t)(SUMMED - THIRD_AT - b[4])) && sums_agree(b);
+}
+
+static bool places_sound(const uint8_t *row, uint32_t form, struct row_use *use) {
+    const uint8_t *b = row + BLOCK;
+    for (uint32_t place = 1; place <= PLACES; place++, b += BLOCK * form) {
         if (!in_use(row, place)) {
-            if (!all_zero(b, BLOCK))
+            if (!all_zero(b, (size_t)BLOCK * form))
                 return false;
             continue;
         }
         if (!access_sound(b, row[18]) || ++use->of_entry[b[1]] > entry_at(row, b[1] - 1u)[102])
             return false;
-        if (find_session(row, b + SESSION_AT, b[2], place - 1) != 0)
+        if (form == 2 && !second_sound(b + BLOCK, b[4]))
+            return false;
+        if (find_session(row, form, b + SESSION_AT, b[2], place - 1) != 0)
             return false;
     }
     return true;
 }
 
 /* Of a row that was found: its first byte, its operator and its name's length are right. */
-static bool row_sound(const uint8_t *row, struct row_use *use) {
+static bool row_sound(const uint8_t *row, uint32_t form, struct row_use *use) {
     memset(use, 0, sizeof *use);
     return row[18] <= ENTRIES && (row[28] | row[29] | row[30] | row[31]) == 0 && name_sound(row) &&
-           line_sound(row, use) && entries_sound(row) && sums_agree(row) && places_sound(row, use);
+           line_sound(row, use) && entries_sound(row) && sums_agree(row) && places_sound(row, form, use);
 }
 
 /* The operator's first row of this name, or none. A row starts with the byte 1, the length and the name. The word that ends with the
  * name tells almost every row apart, and the operator those of the same name; where the name is too short for a word, the first byte does. */
-static APART uint8_t *find_row(uint8_t *table, size_t table_length, uint32_t op, const uint8_t *name, size_t length) {
+static APART uint8_t *find_row(uint8_t *table, size_t table_length, uint32_t form, uint32_t op, const uint8_t *name,
+                               size_t length) {
     if (length < 1 || length > NAME_MOST)
         return 0;
     uint8_t start[2 + NAME_MOST] = {1, (uint8_t)length}, *end = table + table_length;
+    size_t size = row_size(form);
     memcpy(start + 2, name, length);
     if (length >= 6) {
         size_t at = length - 6;
         uint64_t wanted = word(start + at);
-        for (uint8_t *row = table; row != end; row += WM_ROW)
+        for (uint8_t *row = table; row != end; row += size)
             if (word(row + at) == wanted && row[OPERATOR] == op && memcmp(row, start, length + 2) == 0)
                 return row;
         return 0;
     }
-    for (uint8_t *row = table; row != end; row += WM_ROW)
+    for (uint8_t *row = table; row != end; row += size)
         if (row[0] == 1 && row[OPERATOR] == op && memcmp(row, start, length + 2) == 0)
             return row;
     return 0;
 }
 
-static bool table_fits(size_t table_length) {
-    return table_length != 0 && table_length <= (size_t)ROWS * WM_ROW && table_length % WM_ROW == 0;
+/* Rows of a known length are divided by it without a division. */
+static bool table_fits(size_t table_length, uint32_t form) {
+    if (form != 1 && form != 2)
+        return false;
+    size_t rest = form == 1 ? table_length % WM_ROW : table_length % WM_ROW_2;
+    return table_length != 0 && table_length <= ROWS * row_size(form) && rest == 0;
 }
 
 /* ---- set-up ---- */
 
-uint32_t plain_clear(uint8_t *table, size_t table_length) {
-    if (!table_fits(table_length))
+uint32_t plain_clear(uint8_t *table, size_t table_length, uint32_t form) {
+    if (!table_fits(table_length, form))
         return 1;
     memset(table, 0, table_length);
     return 0;
@@ -282,32 +312,33 @@ static bool shares_fit(const uint32_t *shares, size_t shares_length, size_t rows
 }
 
 /* How many rows the operator has, sound or not. */
-static size_t own_rows(const uint8_t *table, size_t table_length, uint32_t op) {
-    size_t own = 0;
-    for (const uint8_t *row = table; row != table + table_length; row += WM_ROW)
+static size_t own_rows(const uint8_t *table, size_t table_length, uint32_t form, uint32_t op) {
+    size_t own = 0, size = row_size(form);
+    for (const uint8_t *row = table; row != table + table_length; row += size)
         own += row[0] == 1 && row[OPERATOR] == op;
     return own;
 }
 
-uint32_t plain_enter(uint8_t *table, size_t table_length, uint32_t op, const uint32_t *shares, size_t shares_length,
-                     const uint8_t *name, size_t name_length) {
-    if (!table_fits(table_length))
+uint32_t plain_enter(uint8_t *table, size_t table_length, uint32_t form, uint32_t op, const uint32_t *shares,
+                     size_t shares_length, const uint8_t *name, size_t name_length) {
+    size_t size = row_size(form);
+    if (!table_fits(table_length, form))
         return 1;
     if (op >= OPERATORS)
         return 33;
-    if (!shares_fit(shares, shares_length, table_length / WM_ROW))
+    if (!shares_fit(shares, shares_length, table_length / size))
         return 26;
     if (name_length < 1 || name_length > NAME_MOST)
         return 9;
     for (size_t i = 0; i < name_length; i++)
         if (name[i] < '0' || name[i] > '9')
             return 9;
-    if (find_row(table, table_length, op, name, name_length))
+    if (find_row(table, table_length, form, op, name, name_length))
         return 10;
-    if (own_rows(table, table_length, op) >= shares[op])
+    if (own_rows(table, table_length, form, op) >= shares[op])
         return 27;
-    for (uint8_t *row = table; row != table + table_length; row += WM_ROW) {
-        if (row[0] != 0 || !all_zero(row, WM_ROW))
+    for (uint8_t *row = table; row != table + table_length; row += size) {
+        if (row[0] != 0 || !all_zero(row, size))
             continue;
         row[0] = 1;
         row[1] = (uint8_t)name_length;
@@ -319,17 +350,17 @@ uint32_t plain_enter(uint8_t *table, size_t table_length, uint32_t op, const uin
     return 11;
 }
 
-uint32_t plain_add(uint8_t *table, size_t table_length, uint32_t op, const uint8_t *name, size_t name_length,
+uint32_t plain_add(uint8_t *table, size_t table_length, uint32_t form, uint32_t op, const uint8_t *name, size_t name_length,
                    const uint8_t *label, size_t label_length, uint8_t limit, uint8_t flags) {
-    if (!table_fits(table_length))
+    if (!table_fits(table_length, form))
         return 1;
     if (op >= OPERATORS)
         return 33;
-    uint8_t *row = find_row(table, table_length, op, name, name_length);
+    uint8_t *row = find_row(table, table_length, form, op, name, name_length);
     struct row_use use;
     if (!row)
         return 12;
-    if (!row_sound(row, &use))
+    if (!row_sound(row, form, &use))
         return 13;
     if (label_length < 1 || label_length > LABEL_MOST || limit < 1 || limit > 8 || flags > 3)
         return 14;
@@ -349,6 +380,59 @@ uint32_t plain_add(uint8_t *table, size_t table_length, uint32_t op, const uint8
     e[102] = limit;
     row[18]++;
     put_sums(row);
+    return 0;
+}
+
+/* ---- moving ---- */
+
+/* A row wherever it stands, found by a name or not. */
+static bool row_moves(const uint8_t *row, uint32_t form) {
+    struct row_use use;
+    if (row[0] != 1)
+        return all_zero(row, row_size(form));
+    return row[1] - 1u < NAME_MOST && row[OPERATOR] < OPERATORS && row_sound(row, form, &use);
+}
+
+/* Whether a sound row of form 2 says what form 1 has no room for. */
+static bool says_more(const uint8_t *row) {
+    for (uint32_t place = 1; place <= PLACES; place++) {
+        const uint8_t *b = row + place_at(2, place) + BLOCK;
+        if (in_use(row, place) && (b[1] | b[3]) != 0)
+            return true;
+    }
+    return false;
+}
+
+/* A second block of an access that says no more than form 1 can: the sums of one byte 3 and 509 zeros. A place that is not in use, and so a
+ * wholly zero row, stays zero. */
+static void move_row(const uint8_t *row, uint8_t *to, uint32_t form) {
+    memcpy(to, row, BLOCK);
+    for (uint32_t place = 1; place <= PLACES; place++) {
+        uint8_t *b = to + place_at(form, place);
+        memcpy(b, row + place_at(3 - form, place), BLOCK);
+        if (form == 1)
+            continue;
+        memset(b + BLOCK, 0, BLOCK);
+        if (in_use(row, place))
+            b[BLOCK] = b[BLOCK + 511] = 3;
+    }
+}
+
+uint32_t plain_move(const uint8_t *table, size_t table_length, uint8_t *target, size_t target_length, uint32_t form) {
+    uint32_t from = 3 - form;
+    if (!table_fits(table_length, from))
+        return 1;
+    size_t size = row_size(from), target_size = row_size(form), rows = table_length / size;
+    if (target_length != rows * target_size)
+        return 19;
+    for (size_t i = 0; i < rows; i++)
+        if (!row_moves(table + i * size, from))
+            return 20;
+    for (size_t i = 0; form == 1 && i < rows; i++)
+        if (says_more(table + i * size))
+            return 21;
+    for (size_t i = 0; i < rows; i++)
+        move_row(table + i * size, target + i * target_size, form);
     return 0;
 }
 
@@ -389,15 +473,18 @@ static const uint8_t base_slot[579] = {
     [94 ... 96] = KNOWN, [98] = KNOWN,            [276 ... 278] = KNOWN, [282] = KNOWN,
     [291] = KNOWN,     [401 ... 402] = KNOWN,     [578] = KNOWN};
 
+struct value {
+    const uint8_t *start;
+    uint32_t length;
+};
+
 /* What one walk gathers: bit s of `seen` and `twice` for slot s, where its value starts and how long it is (of the last one
- * where there are several: then only their number counts), and the stretch from the first Proxy-Info to the last one's end. */
+ * where there are several: then only their number counts), the stretch from the first Proxy-Info to the last one's end, and how many policies
+ * there are, with the first three. */
 struct avps {
-    uint32_t seen, twice;
+    uint32_t seen, twice, policies;
     const uint8_t *proxies, *proxies_end;
-    struct {
-        const uint8_t *start;
-        uint32_t length;
-    } of[SLOTS];
+    struct value of[SLOTS], policy[POLICIES];
 };
 
 static inline uint32_t vendor_slot(const uint8_t *avp) {
@@ -441,6 +528,12 @@ static inline void gather(struct avps *a, uint32_t slot, const uint8_t *p, uint3
     a->of[slot].length = length - head;
 }
 
+static inline void gather_policy(struct avps *a, const uint8_t *p, uint32_t length) {
+    if (a->policies < POLICIES)
+        a->policy[a->policies] = (struct value){p + 12, length - 12};
+    a->policies++;
+}
+
 /* The whole walk: 0, or the code. All but a few AVPs are of the base: they have V clear, and one test tells. */
 static APART uint32_t walk(const uint8_t *m, const uint8_t *end, struct avps *a) {
     const uint8_t *p = m + 20, *next;
@@ -455,7 +548,9 @@ static APART uint32_t walk(const uint8_t *m, const uint8_t *end, struct avps *a)
             if (slot == OTHER) {
                 if (flags_length & MANDATORY)
                     return 5001;
-            } else if (slot != KNOWN)
+            } else if (slot == ROUTING_POLICY)
+                gather_policy(a, p, length);
+            else if (slot != KNOWN)
                 gather(a, slot, p, 12, length, next);
         } else {
             next = p + ((length + 3) & ~3u);
@@ -514,6 +609,18 @@ static inline uint32_t text_if(const struct avps *a, enum slot s, uint32_t most,
     return required || (a->seen >> s & 1) ? text(a, s, most) : 0;
 }
 
+/* As many as an access can hold. */
+static uint32_t policies(const struct avps *a, uint32_t form, bool required) {
+    if (a->policies == 0)
+        return required ? 5005 : 0;
+    if (a->policies > (form == 1 ? 1 : POLICIES))
+        return 5009;
+    for (uint32_t i = 0; i < a->policies; i++)
+        if (a->policy[i].length - 1 >= TEXT_MOST)
+            return 5014;
+    return 0;
+}
+
 static inline uint32_t value(const struct avps *a, enum slot s, uint32_t least, uint32_t most) {
     uint32_t code = stands_once(a, s);
     if (code)
@@ -530,7 +637,7 @@ static inline uint32_t value(const struct avps *a, enum slot s, uint32_t least, 
             return c;      \
     } while (0)
 
-static uint32_t lists(const uint8_t *m, const struct avps *a, bool opening_or_policy) {
+static uint32_t lists(const uint8_t *m, const struct avps *a, uint32_t form, bool opening_or_policy) {
     if (!(a->seen >> SESSION_ID & 1) || number(m + 20) != 263 || m[24] >> 7)
         return 5005;
     TRY(text(a, SESSION_ID, TEXT_MOST));
@@ -550,13 +657,14 @@ static uint32_t lists(const uint8_t *m, const struct avps *a, bool opening_or_po
     bool policy = a->of[REQUEST_TYPE].start[3];
     TRY(text_if(a, VISITED_NETWORK, TEXT_MOST, false));
     TRY(text_if(a, APN, LABEL_MOST, !policy));
-    return text_if(a, ROUTING_POLICY, TEXT_MOST, policy);
+    return policies(a, form, policy);
 }
 
 /* ---- deciding ---- */
 
 /* One call's view of what it was lent. */
 struct call {
+    uint32_t form;
     uint8_t *row;
     const uint8_t *m;
     uint8_t *notice;
@@ -568,7 +676,12 @@ static inline const uint8_t *field(const struct call *c, enum slot s) {
     return c->a.of[s].start;
 }
 
-/* The place leaves the order line, which closes up, and the mask; its block is zeroed. */
+/* The first block of a place. */
+static inline uint8_t *block(const struct call *c, uint32_t place) {
+    return c->row + place_at(c->form, place);
+}
+
+/* The place leaves the order line, which closes up, and the mask; its blocks are zeroed. */
 static void free_place(struct call *c, uint32_t place) {
     uint8_t *line = c->row + LINE;
     uint32_t i = 0;
@@ -579,15 +692,15 @@ static void free_place(struct call *c, uint32_t place) {
     line[PLACES - 1] = 0;
     c->use.used--;
     c->row[17] &= (uint8_t)~(1u << (place - 1));
-    memset(c->row + BLOCK * place, 0, BLOCK);
+    memset(block(c, place), 0, (size_t)BLOCK * c->form);
 }
 
 /* Cuts the first-opened access of the entry. Texts in a block are zero filled, so the notice is one stretch of it. */
 static void cut_first(struct call *c, uint32_t entry, struct wm_outcome *o) {
     const uint8_t *line = c->row + LINE;
-    while (c->row[BLOCK * *line + 1] != entry)
+    while (block(c, *line)[1] != entry)
         line++;
-    const uint8_t *b = c->row + BLOCK * *line;
+    const uint8_t *b = block(c, *line);
     o->cut = 1;
     o->cut_session = b[2];
     o->cut_host = b[3];
@@ -602,7 +715,7 @@ static uint32_t open_access(struct call *c, uint32_t entry) {
     c->row[LINE + c->use.used] = (uint8_t)place;
     c->row[17] |= (uint8_t)(1u << (place - 1));
     put_sums(c->row);
-    uint8_t *b = c->row + BLOCK * place;
+    uint8_t *b = block(c, place);
     b[0] = 2;
     b[1] = (uint8_t)entry;
     b[2] = (uint8_t)c->a.of[SESSION_ID].length;
@@ -610,6 +723,13 @@ static uint32_t open_access(struct call *c, uint32_t entry) {
     memcpy(b + SESSION_AT, field(c, SESSION_ID), b[2]);
     memcpy(b + HOST_AT, field(c, ORIGIN_HOST), b[3]);
     put_sums(b);
+    if (c->form == 2) {
+        b += BLOCK;
+        b[0] = 3;
+        b[1] = (uint8_t)c->a.of[ORIGIN_REALM].length;
+        memcpy(b + REALM_AT, field(c, ORIGIN_REALM), b[1]);
+        put_sums(b);
+    }
     return place;
 }
 
@@ -627,7 +747,7 @@ static void decide_opening(struct call *c, struct wm_outcome *o) {
     } else if ((c->a.seen >> VISITED_NETWORK & 1) && !(e[101] & MAY_ROAM)) {
         o->kind = EXPERIMENTAL;
         o->code = 5004;
-    } else if (find_session(c->row, field(c, SESSION_ID), c->a.of[SESSION_ID].length, PLACES)) {
+    } else if (find_session(c->row, c->form, field(c, SESSION_ID), c->a.of[SESSION_ID].length, PLACES)) {
         o->code = 5012;
     } else {
         if (c->use.of_entry[entry] == e[102])
@@ -637,25 +757,38 @@ static void decide_opening(struct call *c, struct wm_outcome *o) {
     }
 }
 
+/* The policy that was brought with this index, and zeros behind it; none where fewer were brought. Gives back its length. */
+static uint8_t put_policy(const struct call *c, uint8_t *to, uint32_t i) {
+    uint32_t length = i < c->a.policies ? c->a.policy[i].length : 0;
+    if (length != 0)
+        memcpy(to, c->a.policy[i].start, length);
+    memset(to + length, 0, TEXT_MOST - length);
+    return (uint8_t)length;
+}
+
 static void decide_policy(struct call *c, bool wag, struct wm_outcome *o) {
-    uint32_t place = find_session(c->row, field(c, SESSION_ID), c->a.of[SESSION_ID].length, PLACES);
+    uint32_t place = find_session(c->row, c->form, field(c, SESSION_ID), c->a.of[SESSION_ID].length, PLACES);
     o->kind = RESULT;
     o->code = 5012;
     if (place == 0 || !wag)
         return;
-    uint8_t *b = c->row + BLOCK * place;
+    uint8_t *b = block(c, place);
     b[4] = 1;
-    b[5] = (uint8_t)c->a.of[ROUTING_POLICY].length;
-    memcpy(b + POLICY_AT, field(c, ROUTING_POLICY), b[5]);
-    memset(b + POLICY_AT + b[5], 0, (size_t)TEXT_MOST - b[5]);
+    b[5] = put_policy(c, b + POLICY_AT, 0);
     put_sums(b);
+    if (c->form == 2) {
+        b += BLOCK;
+        b[3] = put_policy(c, b + SECOND_AT, 1);
+        b[4] = put_policy(c, b + THIRD_AT, 2);
+        put_sums(b);
+    }
     o->code = 2001;
 }
 
 static void decide_termination(struct call *c, struct wm_outcome *o) {
     uint32_t entry = find_entry(c->row, field(c, APN), c->a.of[APN].length);
-    uint32_t place = find_session(c->row, field(c, SESSION_ID), c->a.of[SESSION_ID].length, PLACES);
-    if (entry == 0 || place == 0 || c->row[BLOCK * place + 1] != entry) {
+    uint32_t place = find_session(c->row, c->form, field(c, SESSION_ID), c->a.of[SESSION_ID].length, PLACES);
+    if (entry == 0 || place == 0 || block(c, place)[1] != entry) {
         o->kind = EXPERIMENTAL;
         o->code = 5042;
         return;
@@ -667,11 +800,11 @@ static void decide_termination(struct call *c, struct wm_outcome *o) {
 }
 
 static void decide(uint8_t *table, size_t table_length, uint32_t op, struct call *c, bool aa, bool wag, struct wm_outcome *o) {
-    c->row = find_row(table, table_length, op, field(c, USER_NAME), c->a.of[USER_NAME].length);
+    c->row = find_row(table, table_length, c->form, op, field(c, USER_NAME), c->a.of[USER_NAME].length);
     if (!c->row) {
         o->kind = EXPERIMENTAL;
         o->code = 5001;
-    } else if (!row_sound(c->row, &c->use)) {
+    } else if (!row_sound(c->row, c->form, &c->use)) {
         o->code = 5012;
     } else if (!aa) {
         decide_termination(c, o);
@@ -767,9 +900,9 @@ static void write_answer(uint8_t *answer, const struct call *c, const struct own
 
 /* ---- a request ---- */
 
-static uint32_t no_answer(size_t table_length, uint32_t op, size_t host_length, size_t realm_length, const uint8_t *message,
-                          size_t message_length, size_t answer_length, size_t notice_length) {
-    if (!table_fits(table_length))
+static uint32_t no_answer(size_t table_length, uint32_t form, uint32_t op, size_t host_length, size_t realm_length,
+                          const uint8_t *message, size_t message_length, size_t answer_length, size_t notice_length) {
+    if (!table_fits(table_length, form))
         return 1;
     if (op >= OPERATORS)
         return 33;
@@ -788,19 +921,21 @@ static uint32_t no_answer(size_t table_length, uint32_t op, size_t host_length, 
     return message[4] & 0x80 ? 0 : 8;
 }
 
-struct wm_outcome plain_handle(uint8_t *table, size_t table_length, uint32_t op, const uint8_t *host, size_t host_length,
-                               const uint8_t *realm, size_t realm_length, const uint8_t *message, size_t message_length,
-                               bool wag, uint8_t *answer, size_t answer_length, uint8_t *notice, size_t notice_length) {
+struct wm_outcome plain_handle(uint8_t *table, size_t table_length, uint32_t form, uint32_t op, const uint8_t *host,
+                               size_t host_length, const uint8_t *realm, size_t realm_length, const uint8_t *message,
+                               size_t message_length, bool wag, uint8_t *answer, size_t answer_length, uint8_t *notice,
+                               size_t notice_length) {
     struct wm_outcome o = {0};
-    o.code = no_answer(table_length, op, host_length, realm_length, message, message_length, answer_length, notice_length);
+    o.code = no_answer(table_length, form, op, host_length, realm_length, message, message_length, answer_length, notice_length);
     if (o.code)
         return o;
     struct call c;
     struct own own = {host, realm, host_length, realm_length};
     bool aa = message[7] == (265 & 0xFF);
+    c.form = form;
     c.m = message;
     c.notice = notice;
-    c.a.seen = c.a.twice = 0;
+    c.a.seen = c.a.twice = c.a.policies = 0;
     o.kind = RESULT;
     o.code = header_code(message);
     if (o.code == 0) {
@@ -808,7 +943,7 @@ struct wm_outcome plain_handle(uint8_t *table, size_t table_length, uint32_t op,
         if (o.code)
             c.a.seen = 0; /* no Proxy-Info is copied */
         else
-            o.code = lists(message, &c.a, aa);
+            o.code = lists(message, &c.a, form, aa);
     }
     if (o.code == 0)
         decide(table, table_length, op, &c, aa, wag, &o);

@@ -1,6 +1,6 @@
 /* A table of two rows, one for each of two operators, who have a subscriber of the same name: one of them opens a tunnel on its one W-APN, the other has
- * no W-APN. Prints the outcome, the answer's bytes, what the other operator is told, the report of that hour, and what the screen board shows of the request, of its
- * result and of a notice. */
+ * no W-APN. Prints the outcome, the answer's bytes, what the other operator is told, what comes of moving the table to form 2 and back, the report of that hour, and
+ * what the screen board shows of the request, of its result and of a notice. */
 
 /* The kit's compiler comes without headers, so the types and the one function of the C library stand here. */
 #define WM_OWN_TYPES
@@ -17,7 +17,7 @@ int printf(const char *, ...);
 
 static struct wm_report report;
 static struct wm_screen screens[2] = {{WM_OFF, 0, 1, "a"}, {WM_OFF, 0, 1, "b"}};
-static uint8_t table[2 * WM_ROW], message[512], answer[WM_ANSWER_LEAST], notice[WM_NOTICE_LEAST];
+static uint8_t table[2 * WM_ROW], moved[2 * WM_ROW_2], back[2 * WM_ROW], message[512], answer[WM_ANSWER_LEAST], notice[WM_NOTICE_LEAST];
 
 /* Operators 0 and 1 may have a row each. */
 static const uint32_t shares[WM_OPERATORS] = {1, 1};
@@ -45,10 +45,10 @@ static size_t put_avp(size_t at, uint32_t code, bool of_3gpp, const uint8_t *val
     return end;
 }
 
-/* AA-Request of type 0 for the W-APN "board". */
-static size_t opening(void) {
+/* AA-Request of type 0 for the W-APN "board", with a Session-Id of one letter. */
+static size_t opening(const char *session) {
     size_t at = 20;
-    at = put_avp(at, 263, false, TEXT("a"));
+    at = put_avp(at, 263, false, (const uint8_t *)session, 1);
     at = put_avp(at, 258, false, TEXT("\0\0\0\1"));
     at = put_avp(at, 264, false, TEXT("gateway.example"));
     at = put_avp(at, 296, false, TEXT("example"));
@@ -75,21 +75,34 @@ static void show(const char *fed, uint32_t number) {
     printf(", b is %s; %u connected\n", states[screens[1].state], wm_screens_connected(screens, 2).screens);
 }
 
+/* There and back: to form 2, where each access has room for a realm and two policies more, and, as none has one yet, back to the same bytes. */
+static void move_both_ways(void) {
+    uint32_t there = wm_move(table, sizeof table, moved, sizeof moved, 2), again = wm_move(moved, sizeof moved, back, sizeof back, 1);
+    size_t same = 0;
+    while (same < sizeof table && table[same] == back[same])
+        same++;
+    printf("move to form 2: %u; back to form 1: %u, %zu of %zu bytes the same\n", there, again, same, sizeof table);
+    struct wm_outcome o = wm_handle(moved, sizeof moved, 2, 0, TEXT("server.example"), TEXT("example"), message, opening("b"), true,
+                                    answer, sizeof answer, notice, sizeof notice);
+    printf("in form 2: code %u, place %u; and back with its realm: %u\n", o.code, o.place, wm_move(moved, sizeof moved, back, sizeof back, 1));
+}
+
 int main(void) {
-    printf("clear: %u\n", wm_clear(table, sizeof table));
-    printf("enter: %u\n", wm_enter(table, sizeof table, 0, shares, WM_OPERATORS, TEXT("001010123456789")));
-    printf("enter, for operator 1: %u\n", wm_enter(table, sizeof table, 1, shares, WM_OPERATORS, TEXT("001010123456789")));
-    printf("and one more than its share: %u\n", wm_enter(table, sizeof table, 1, shares, WM_OPERATORS, TEXT("001010999999999")));
-    printf("add: %u\n", wm_add(table, sizeof table, 0, TEXT("001010123456789"), TEXT("board"), 2, 0));
-    struct wm_outcome o = wm_handle(table, sizeof table, 0, TEXT("server.example"), TEXT("example"), message, opening(), true,
+    printf("clear: %u\n", wm_clear(table, sizeof table, 1));
+    printf("enter: %u\n", wm_enter(table, sizeof table, 1, 0, shares, WM_OPERATORS, TEXT("001010123456789")));
+    printf("enter, for operator 1: %u\n", wm_enter(table, sizeof table, 1, 1, shares, WM_OPERATORS, TEXT("001010123456789")));
+    printf("and one more than its share: %u\n", wm_enter(table, sizeof table, 1, 1, shares, WM_OPERATORS, TEXT("001010999999999")));
+    printf("add: %u\n", wm_add(table, sizeof table, 1, 0, TEXT("001010123456789"), TEXT("board"), 2, 0));
+    struct wm_outcome o = wm_handle(table, sizeof table, 1, 0, TEXT("server.example"), TEXT("example"), message, opening("a"), true,
                                     answer, sizeof answer, notice, sizeof notice);
     printf("code %u, kind %u, place %u, cut %u; an answer of %u bytes:", o.code, o.kind, o.place, o.cut, o.length);
     for (uint32_t i = 0; i < o.length; i++)
         printf(i % 16 == 0 ? "\n %02X" : " %02X", answer[i]);
     printf("\n");
-    struct wm_outcome other = wm_handle(table, sizeof table, 1, TEXT("server.example"), TEXT("example"), message, opening(), true,
+    struct wm_outcome other = wm_handle(table, sizeof table, 1, 1, TEXT("server.example"), TEXT("example"), message, opening("a"), true,
                                         answer, sizeof answer, notice, sizeof notice);
     printf("for operator 1: code %u, kind %u\n", other.code, other.kind);
+    move_both_ways();
     struct wm_told told = {21, 0, o.code, o.kind, o.place, o.cut};
     printf("count: %u\n", wm_report_count(&report, &told, 1));
     struct wm_rate rate = wm_report_rate(&report);

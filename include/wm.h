@@ -1,9 +1,13 @@
-/* The Wm side of a tunnel access server: three set-up operations and one request at a time; a report of what came of requests, by hour;
- * and a board that shows which screens are connected.
+/* The Wm side of a tunnel access server: three set-up operations and one request at a time; moving a table from one form to the other; a report of
+ * what came of requests, by hour; and a board that shows which screens are connected.
  * docs/RULES.md has the rules.
  *
  * A table may serve several operators, 0 to 15. A row is one operator's: two of them may have a subscriber of one name, and neither finds or changes
  * the other's. Who has one operator alone says 0 everywhere.
+ *
+ * A table stands in one of two forms, and the caller says which in every call. In form 2 a row is longer: each access keeps its gateway's realm too, and up
+ * to three policies. A table that is lent in the form it does not have is read as what it is not: where its length fits, damaged rows are
+ * what is found. Who starts anew takes form 2; wm_move brings a table of form 1 there.
  *
  * Everything is lent by the caller: a pointer and a length. No function keeps a pointer, allocates, locks or waits, and none has
  * state of its own. Any length and any contents are allowed: what does not fit the rules is refused by its number, and a refusal
@@ -15,9 +19,9 @@
  * - No pointer is null, not even with length 0: any address of the program's own will do there, it is neither read nor written.
  * - Any alignment will do for bytes. Shares, a report, a list of results and a list of screens are aligned as their types ask.
  * - Buffers of one call do not overlap where one of them is not const: table, answer and notice stand apart from each other
- *   and from all the rest, a report that is changed from the other one and from the list, and a list of screens from the Session-Id. Those that are const may overlap each other: host,
+ *   and from all the rest, the target of a move from the table, a report that is changed from the other one and from the list, and a list of screens from the Session-Id. Those that are const may overlap each other: host,
  *   realm, message, name, label, shares.
- * - While a call runs no other thread writes to anything that was lent to it, and none reads table, answer or notice.
+ * - While a call runs no other thread writes to anything that was lent to it, and none reads table, answer, notice or target. A move reads its table only.
  *   So calls on one table come one after another, in any threads, with whatever lock the caller likes. Calls with tables and rooms of
  *   their own may run at once, and may share host, realm and messages.
  * - A bool is 0 or 1.
@@ -38,7 +42,8 @@
 extern "C" {
 #endif
 
-#define WM_ROW 4608u          /* bytes of a row; a table is 1 to 1,024 rows */
+#define WM_ROW 4608u          /* bytes of a row in form 1; a table is 1 to 1,024 rows */
+#define WM_ROW_2 8704u        /* bytes of a row in form 2 */
 #define WM_ANSWER_LEAST 5120u /* the answer room's least length */
 #define WM_NOTICE_LEAST 256u  /* the notice room's least length */
 #define WM_OPERATORS 16u      /* how many shares there are: one for each operator */
@@ -50,11 +55,11 @@ enum wm_flag { WM_BARRED = 1, WM_MAY_ROAM = 2 };
 enum wm_kind { WM_NO_ANSWER = 0, WM_RESULT_CODE = 1, WM_EXPERIMENTAL_RESULT = 2 };
 
 /* The numbers of refusals that are no Diameter codes. A set-up operation gives 0, 1, 33, 26, 27 or 9 to 17. A request gives 1, 33 or 2 to 8, with the
- * kind WM_NO_ANSWER, or a code that goes into its answer. A board gives 0, 25 or 24, tested in this order;
+ * kind WM_NO_ANSWER, or a code that goes into its answer. A move gives 0, 1 or 19 to 21. A board gives 0, 25 or 24, tested in this order;
  * a report 0, 29 or 30. Of the others the first that holds is given, in the order of these lines. */
 enum wm_number {
-    WM_DONE = 0,             /* set-up, a board and a report: it is done */
-    WM_TABLE_LENGTH = 1,     /* the table is not 1 to 1,024 rows of WM_ROW bytes */
+    WM_DONE = 0,             /* set-up, a move, a board and a report: it is done */
+    WM_TABLE_LENGTH = 1,     /* the form is neither 1 nor 2, or the table is not 1 to 1,024 rows of its form: WM_ROW or WM_ROW_2 bytes each */
     WM_NO_OPERATOR = 33,     /* entering, adding, and a request: the operator is over 15 */
     WM_OWN_NAMES = 2,        /* the own host or realm has not 1 to 128 bytes */
     WM_ANSWER_ROOM = 3,      /* the answer room is under WM_ANSWER_LEAST */
@@ -74,6 +79,9 @@ enum wm_number {
     WM_LABEL_HELD = 15,      /* adding: the subscriber has that label, its letters in either case */
     WM_FOUR_LABELS = 16,     /* adding: the subscriber has four labels */
     WM_LIMITS_OVER_8 = 17,   /* adding: the limits would sum to over 8 */
+    WM_TARGET_LENGTH = 19,   /* moving: the target is not as many rows of the other form */
+    WM_UNSOUND_MOVE = 20,    /* moving: some row is damaged, and not wholly zero */
+    WM_MORE_THAN_FORM_1 = 21, /* moving to form 1: some access keeps a realm or a second policy */
     WM_NO_SCREEN = 24,       /* the board: the Session-Id is on no entry */
     WM_SCREENS = 25,         /* the board: over 64 entries, or a Session-Id on it twice or not of 1 to 128 bytes */
     WM_HOUR_OVER_23 = 29,    /* counting: an hour of the list is over 23 */
@@ -88,19 +96,27 @@ struct wm_outcome {
     uint32_t code, kind, length, place, cut, cut_session, cut_host;
 };
 
-/* Set-up: one of enum wm_number. op: the operator, 0 to 15. flags: of enum wm_flag.
+/* Set-up: one of enum wm_number. form: 1 or 2, the one in which the table is lent. op: the operator, 0 to 15. flags: of enum wm_flag.
  * shares: for each operator how many rows it may have; shares_length: how many shares there are, WM_OPERATORS. They are not kept in the table, but
  * lent at each entering. With the same ones each time, on a table that was cleared before, nobody gets WM_NO_FREE_ROW. */
-uint32_t wm_clear(uint8_t *table, size_t table_length);
-uint32_t wm_enter(uint8_t *table, size_t table_length, uint32_t op, const uint32_t *shares, size_t shares_length,
+uint32_t wm_clear(uint8_t *table, size_t table_length, uint32_t form);
+uint32_t wm_enter(uint8_t *table, size_t table_length, uint32_t form, uint32_t op, const uint32_t *shares, size_t shares_length,
                   const uint8_t *name, size_t name_length);
-uint32_t wm_add(uint8_t *table, size_t table_length, uint32_t op, const uint8_t *name, size_t name_length,
+uint32_t wm_add(uint8_t *table, size_t table_length, uint32_t form, uint32_t op, const uint8_t *name, size_t name_length,
                 const uint8_t *label, size_t label_length, uint8_t limit, uint8_t flags);
 
-/* One request, for a subscriber of the operator op. host and realm are the server's own names; wag is the wireless gateway's word on a policy. */
-struct wm_outcome wm_handle(uint8_t *table, size_t table_length, uint32_t op, const uint8_t *host, size_t host_length,
-                            const uint8_t *realm, size_t realm_length, const uint8_t *message, size_t message_length,
-                            bool wag, uint8_t *answer, size_t answer_length, uint8_t *notice, size_t notice_length);
+/* One request, for a subscriber of the operator op. form: as above. host and realm are the server's own names; wag is the wireless gateway's word on a
+ * policy. In form 1 a request brings one policy at most, in form 2 three; each that is granted replaces all that were held. */
+struct wm_outcome wm_handle(uint8_t *table, size_t table_length, uint32_t form, uint32_t op, const uint8_t *host,
+                            size_t host_length, const uint8_t *realm, size_t realm_length, const uint8_t *message,
+                            size_t message_length, bool wag, uint8_t *answer, size_t answer_length, uint8_t *notice,
+                            size_t notice_length);
+
+/* Moves a table into another room, in the other form: one of enum wm_number. form: 1 or 2, the one to move to; the table is in the other one. target: as many
+ * rows as the table has, of that form; it is written whole, or, with a number other than 0, not at all. The table stays as it is. All rows are
+ * tested, also those that no name finds, and those that are wholly zero stay so. Forwards each access keeps a realm of no bytes until
+ * its tunnel is opened anew; back again the same bytes stand as before. */
+uint32_t wm_move(const uint8_t *table, size_t table_length, uint8_t *target, size_t target_length, uint32_t form);
 
 /* THE YEAR BY HOUR. A report is numbers alone: all zero to begin with, and it may be stored and lent again as the caller likes. It may hold anything:
  * where its own totals pass 64 bits the number is WM_OVER_64_BITS.

@@ -7,11 +7,13 @@ use crate::operators::namesake;
 use crate::program::{Asked, Operation, Room};
 use crate::random::Random;
 use crate::reading_a_message::{
-    Name, PROXY_INFO, ROUTING_POLICY, SESSION_REQUEST_TYPE, TERMINATION_CAUSE, VISITED_NETWORK,
-    W_APN,
+    Name, ORIGIN_REALM, PROXY_INFO, ROUTING_POLICY, SESSION_REQUEST_TYPE, TERMINATION_CAUSE,
+    VISITED_NETWORK, W_APN,
 };
 use crate::rules::DOCUMENT_01;
-use crate::the_table::{Access, Entry, MAY_ROAM, PLACES, ROW, Row, encode, put, same_label};
+use crate::the_table::{
+    Access, Entry, FORMS, Form, MAY_ROAM, PLACES, Policies, Row, encode, put, same_label,
+};
 
 #[derive(Clone, Copy, Debug, PartialEq, Eq)]
 pub enum Sort {
@@ -23,9 +25,12 @@ pub enum Sort {
 pub const SORTS: [Sort; 3] = [Sort::Open, Sort::Policy, Sort::Termination];
 
 /// One call with all its inputs, each of which can still be spoilt. `row` is the
-/// subscriber's, at `index` in the table.
+/// subscriber's, at `index` in the table, which stands in `form`; `said` is the form that
+/// the call says.
 pub struct Case {
     pub sort: Sort,
+    pub form: Form,
+    pub said: u32,
     pub operator: u32,
     pub row: Row,
     pub index: usize,
@@ -39,19 +44,25 @@ pub struct Case {
 }
 
 impl Case {
-    /// A case that is answered with 2001.
+    /// A case that is answered with 2001, on a table of either form.
     pub fn good(sort: Sort, random: &mut Random) -> Case {
+        Case::in_form(*random.pick(&FORMS), sort, random)
+    }
+
+    pub fn in_form(form: Form, sort: Sort, random: &mut Random) -> Case {
         let name = digits(random);
-        let mut row = sound_row(&name, random);
+        let mut row = sound_row(form, &name, random);
         row.operator = *random.pick(&[0, 0, 1, 2, 9, 14, 15]);
-        let draft = good_draft(sort, &mut row, random);
+        let draft = good_draft(form, sort, &mut row, random);
         let index = random.below(2);
         let mut case = Case {
             sort,
+            form,
+            said: form.number(),
             operator: u32::from(row.operator),
             row,
             index,
-            table: vec![0; ROW * random.from_to(index + 1, 3)],
+            table: vec![0; form.row() * random.from_to(index + 1, 3)],
             draft,
             host: text(random, 128),
             realm: text(random, 128),
@@ -73,18 +84,19 @@ impl Case {
     /// Gives the name to other operators too: in the row before, and now and then in one
     /// behind.
     fn write_namesakes(&mut self, random: &mut Random) {
-        for index in 0..self.table.len() / ROW {
+        let length = self.form.row();
+        for index in 0..self.table.len() / length {
             if index < self.index || index > self.index && random.once_in(6) {
-                let bytes = namesake(&self.row, random);
-                put(&mut self.table, index * ROW, &bytes);
+                let bytes = namesake(self.form, &self.row, random);
+                put(&mut self.table, index * length, &bytes);
             }
         }
     }
 
     /// A row with no place free and a new access on an entry whose accesses were all
     /// opened after those of the other.
-    pub fn full(random: &mut Random) -> Case {
-        let mut case = Case::good(Sort::Open, random);
+    pub fn full(form: Form, random: &mut Random) -> Case {
+        let mut case = Case::in_form(form, Sort::Open, random);
         let last = random.from_to(1, 4) as u8;
         let limits = [8 - last, last];
         let asked = case.draft.avp(W_APN).map(|avp| avp.value.clone());
@@ -108,7 +120,8 @@ impl Case {
                 2
             };
             let session = vec![b's', place];
-            case.row.places[usize::from(place) - 1] = Some(access(entry, session, random));
+            let access = access(case.form, entry, session, random);
+            case.row.places[usize::from(place) - 1] = Some(access);
             case.row.line.push(place);
         }
         case.write_row();
@@ -117,12 +130,13 @@ impl Case {
 
     /// Puts the row, as it now is, into the table.
     pub fn write_row(&mut self) {
-        let bytes = encode(&DOCUMENT_01, &self.row);
+        let bytes = encode(&DOCUMENT_01, self.form, &self.row);
         self.row_bytes().copy_from_slice(&bytes);
     }
 
     pub fn row_bytes(&mut self) -> &mut [u8] {
-        &mut self.table[self.index * ROW..][..ROW]
+        let length = self.form.row();
+        &mut self.table[self.index * length..][..length]
     }
 
     /// The entry the request is about.
@@ -134,6 +148,7 @@ impl Case {
 
     pub fn operation(&self) -> Operation {
         Operation::Handle(Asked {
+            form: self.said,
             operator: self.operator,
             host: self.host.clone(),
             realm: self.realm.clone(),
@@ -146,16 +161,16 @@ impl Case {
 }
 
 /// A request that the row grants; the row is altered where it would not.
-fn good_draft(sort: Sort, row: &mut Row, random: &mut Random) -> Draft {
+fn good_draft(form: Form, sort: Sort, row: &mut Row, random: &mut Random) -> Draft {
     let gateway = text(random, 128);
     if row.line.is_empty() {
-        let access = access(1, b"only".to_vec(), random);
+        let access = access(form, 1, b"only".to_vec(), random);
         let place = random.from_to(1, 8);
         row.places[place - 1] = Some(access);
         row.line.push(place as u8);
     }
     let held = row.access(*random.pick(&row.line)).cloned();
-    let held = held.unwrap_or_else(|| access(1, Vec::new(), random));
+    let held = held.unwrap_or_else(|| access(form, 1, Vec::new(), random));
     let label = row.entries[usize::from(held.entry) - 1].label.clone();
     let mut draft = match sort {
         Sort::Open => {
@@ -173,21 +188,38 @@ fn good_draft(sort: Sort, row: &mut Row, random: &mut Random) -> Draft {
             Draft::termination(&row.name, &held.session, &gateway, &label)
         }
     };
+    if let Some(realm) = draft.avp(ORIGIN_REALM) {
+        realm.value = text(random, 128);
+    }
     let roams = sort != Sort::Open || row.entries.iter().all(|e| e.flags & MAY_ROAM != 0);
     if roams && random.once_in(2) {
         draft.insert(random.below(9), DraftAvp::new(VISITED_NETWORK, b"mnc010"));
     }
-    ignored(&mut draft, sort, random);
+    if sort == Sort::Policy {
+        more_policies(&mut draft, random.below(form.policies()), random);
+    }
+    ignored(form, &mut draft, sort, random);
     garnish(&mut draft, random);
     draft
 }
 
+/// So many more policies, anywhere in the message.
+pub fn more_policies(draft: &mut Draft, count: usize, random: &mut Random) {
+    for _ in 0..count {
+        let policy = DraftAvp::new(ROUTING_POLICY, &text(random, 128));
+        draft.insert(random.below(20), policy);
+    }
+}
+
 /// AVPs that are known but have no say in this sort of request, for 275 even with
 /// values that its own list would not allow.
-fn ignored(draft: &mut Draft, sort: Sort, random: &mut Random) {
+fn ignored(form: Form, draft: &mut Draft, sort: Sort, random: &mut Random) {
     if random.once_in(3) {
         let avp = match sort {
-            Sort::Open => DraftAvp::new(ROUTING_POLICY, &text(random, 128)),
+            Sort::Open => {
+                more_policies(draft, random.below(form.policies()), random);
+                DraftAvp::new(ROUTING_POLICY, &text(random, 128))
+            }
             Sort::Policy => DraftAvp::new(W_APN, &text(random, 100)),
             Sort::Termination => DraftAvp::number(SESSION_REQUEST_TYPE, random.below(9) as u32),
         };
@@ -275,8 +307,9 @@ pub fn text(random: &mut Random, most: usize) -> Vec<u8> {
         .collect()
 }
 
-/// A sound row in any state that limits, places and order line can have.
-pub fn sound_row(name: &[u8], random: &mut Random) -> Row {
+/// A sound row in any state that limits, places and order line can have, with what an
+/// access can say in this form.
+pub fn sound_row(form: Form, name: &[u8], random: &mut Random) -> Row {
     let mut row = Row {
         name: name.to_vec(),
         entries: entries(random),
@@ -291,7 +324,8 @@ pub fn sound_row(name: &[u8], random: &mut Random) -> Row {
             let mut session = text(random, 120);
             session.extend([b'-', b'0' + index as u8, b'0' + count as u8]);
             let place = places.pop().unwrap_or(1);
-            row.places[usize::from(place) - 1] = Some(access(index as u8 + 1, session, random));
+            let access = access(form, index as u8 + 1, session, random);
+            row.places[usize::from(place) - 1] = Some(access);
             row.line.push(place);
         }
     }
@@ -324,11 +358,23 @@ pub fn entries(random: &mut Random) -> Vec<Entry> {
     entries
 }
 
-pub fn access(entry: u8, session: Vec<u8>, random: &mut Random) -> Access {
+pub fn access(form: Form, entry: u8, session: Vec<u8>, random: &mut Random) -> Access {
+    let realm = form == Form::Two && !random.once_in(4);
+    let count = random.below(form.policies() + 1);
     Access {
         entry,
         session,
         host: text(random, 128),
-        policy: random.once_in(2).then(|| text(random, 128)),
+        realm: if realm { text(random, 128) } else { Vec::new() },
+        policies: some_policies(count, random),
     }
+}
+
+/// So many policies.
+pub fn some_policies(count: usize, random: &mut Random) -> Policies {
+    let mut policies = Policies::default();
+    for policy in policies.iter_mut().take(count) {
+        *policy = Some(text(random, 128));
+    }
+    policies
 }

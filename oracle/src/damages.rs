@@ -4,20 +4,30 @@ use crate::cases::{Case, access, entries};
 use crate::either_case::typed;
 use crate::random::Random;
 use crate::reading_a_message::USER_NAME;
+use crate::second_blocks::{CLAUSES, break_clause};
 use crate::the_table::{
-    Access, BLOCK, ENTRIES, ENTRY, ENTRY_COUNT, Entry, HOST, IN_USE, LINE, NAME, OPERATOR, POLICY,
-    ROW, Row, SESSION, SUMS, put, sums,
+    Access, BLOCK, ENTRIES, ENTRY, ENTRY_COUNT, Entry, Form, HOST, IN_USE, LINE, NAME, OPERATOR,
+    POLICY, Row, SESSION, SUMS, put, sums,
 };
 
-/// How many ways there are to damage a row.
+/// How many ways there are to damage a row of either form; form 2 has more of its own.
 pub const DAMAGES: usize = 15 + HEAD_DAMAGES + ACCESS_DAMAGES + 3;
 const HEAD_DAMAGES: usize = 19;
 const ACCESS_DAMAGES: usize = 14;
 
+/// Spoils the case's row in any way that its form knows.
+pub fn any_damage(case: &mut Case, random: &mut Random) {
+    if case.form == Form::Two && random.once_in(4) {
+        let clause = random.pick(&CLAUSES);
+        return break_clause(case, clause, random);
+    }
+    damage(case, random.below(DAMAGES), random);
+}
+
 /// Spoils the case's row in one respect and writes it into the table.
 pub fn damage(case: &mut Case, way: usize, random: &mut Random) {
-    let name = case.row.name.clone();
-    damage_meaning(&mut case.row, way, random);
+    let (form, name) = (case.form, case.row.name.clone());
+    damage_meaning(form, &mut case.row, way, random);
     case.write_row();
     // A name that was damaged too is asked for as it now stands.
     let user = case.draft.avp(USER_NAME);
@@ -31,18 +41,18 @@ pub fn damage(case: &mut Case, way: usize, random: &mut Random) {
     if row.line.is_empty() || way < HEAD_DAMAGES {
         return damage_head(bytes, &row, way % HEAD_DAMAGES, random);
     }
-    let place = usize::from(*random.pick(&row.line));
-    let free = (1..=8).find(|&p| row.access(p as u8).is_none());
+    let place = form.start(*random.pick(&row.line));
+    let free = (1..=8).find(|&p| row.access(p).is_none());
     match (way - HEAD_DAMAGES, free) {
         (way, _) if way < ACCESS_DAMAGES => damage_access(bytes, place, way, random),
-        (_, Some(free)) if random.once_in(2) => damage_free(bytes, free, random),
+        (_, Some(free)) if random.once_in(2) => damage_free(bytes, form.start(free), random),
         _ => stored_255(bytes, place, random),
     }
 }
 
 /// Ways 0 to 14: a row in the right form that breaks one of the other conditions.
 /// Where it has nothing to break, it stays sound.
-fn damage_meaning(row: &mut Row, way: usize, random: &mut Random) {
+fn damage_meaning(form: Form, row: &mut Row, way: usize, random: &mut Random) {
     let entry = random.below(row.entries.len());
     match way {
         0 => row.line.push(*random.pick(&[1, 5, 8, 9, 255])),
@@ -50,12 +60,12 @@ fn damage_meaning(row: &mut Row, way: usize, random: &mut Random) {
         2 => repeat_on_line(row, random),
         3 => same_session(row, random),
         4 => any_access(row, random, |a, r| a.entry = *r.pick(&[0, 5, 9, 255])),
-        5 => any_access(row, random, |a, _| a.policy = Some(Vec::new())),
+        5 => any_access(row, random, |a, _| a.policies[0] = Some(Vec::new())),
         6 => any_access(row, random, |a, _| a.session.clear()),
         7 => any_access(row, random, |a, _| a.host.clear()),
         8 => label_twice(row, random),
         9 => limits_of_nine(row),
-        10 => over_limit(row, random),
+        10 => over_limit(form, row, random),
         11 => row.entries[entry].label.clear(),
         12 => row.entries[entry].flags |= *random.pick(&[4, 8, 128]),
         13 => no_limit(row),
@@ -128,7 +138,7 @@ fn limits_of_nine(row: &mut Row) {
 }
 
 /// One more access on an entry than its limit allows.
-fn over_limit(row: &mut Row, random: &mut Random) {
+fn over_limit(form: Form, row: &mut Row, random: &mut Random) {
     let number = random.from_to(1, row.entries.len()) as u8;
     let limit = usize::from(row.entries[usize::from(number) - 1].limit);
     for place in 1..=8u8 {
@@ -137,15 +147,16 @@ fn over_limit(row: &mut Row, random: &mut Random) {
         }
         if row.access(place).is_none() {
             let session = vec![b's', place];
-            row.places[usize::from(place) - 1] = Some(access(number, session, random));
+            row.places[usize::from(place) - 1] = Some(access(form, number, session, random));
             row.line.push(place);
         }
     }
 }
 
-/// Sets one byte of a block to another value and, if asked, puts the sums right.
-fn set(bytes: &mut [u8], block: usize, offset: usize, value: u8, repair: bool) {
-    let block = &mut bytes[block * BLOCK..][..BLOCK];
+/// Sets one byte of the block that starts here to another value and, if asked, puts the
+/// sums right.
+pub fn set(bytes: &mut [u8], start: usize, offset: usize, value: u8, repair: bool) {
+    let block = &mut bytes[start..][..BLOCK];
     block[offset] = if block[offset] == value {
         value ^ 1
     } else {
@@ -190,7 +201,8 @@ fn damage_head(bytes: &mut [u8], row: &Row, way: usize, random: &mut Random) {
     set(bytes, 0, offset, value, offset < SUMS && !random.once_in(3));
 }
 
-/// A free place has to be wholly zero, its sums included.
+/// A free place has to be wholly zero, its sums included. Blocks are told by where they
+/// start.
 fn damage_free(bytes: &mut [u8], place: usize, random: &mut Random) {
     let offset = *random.pick(&[0, 1, 8, 100, 509, 510, 511]);
     let value = *random.pick(&[1, 2, 255]);
@@ -204,7 +216,7 @@ fn damage_free(bytes: &mut [u8], place: usize, random: &mut Random) {
 }
 
 fn damage_access(bytes: &mut [u8], place: usize, way: usize, random: &mut Random) {
-    let block = &bytes[place * BLOCK..][..BLOCK];
+    let block = &bytes[place..][..BLOCK];
     let end = |start: usize, length: u8| start + usize::from(length).min(127);
     let places: [(usize, &[u8]); ACCESS_DAMAGES] = [
         (0, &[0, 1, 3, 255]),
@@ -236,7 +248,7 @@ fn damage_access(bytes: &mut [u8], place: usize, way: usize, random: &mut Random
 /// An access whose first sum is 0, with 255 stored for it: the same remainder, but
 /// not the one that is to be stored.
 fn stored_255(bytes: &mut [u8], place: usize, random: &mut Random) {
-    let block = &mut bytes[place * BLOCK..][..BLOCK];
+    let block = &mut bytes[place..][..BLOCK];
     let text = if random.once_in(2) { SESSION } else { HOST };
     let fits = |block: &mut [u8], value: u8| {
         block[text] = value;
@@ -251,16 +263,17 @@ fn stored_255(bytes: &mut [u8], place: usize, random: &mut Random) {
 }
 
 /// A row of no subscriber: wholly random, or zero but for one byte.
-pub fn odd_row(random: &mut Random) -> Vec<u8> {
-    let mut bytes = vec![0; ROW];
+pub fn odd_row(form: Form, random: &mut Random) -> Vec<u8> {
+    let all = form.row();
+    let mut bytes = vec![0; all];
     match random.below(3) {
         0 => {
             let length = random.from_to(1, 40);
-            put(&mut bytes, random.below(ROW - 40), &random.bytes(length));
+            put(&mut bytes, random.below(all - 40), &random.bytes(length));
         }
-        1 if random.once_in(2) => bytes = random.bytes(ROW),
-        1 => bytes[random.from_to(1, ROW - 1)] = 1,
-        _ => bytes[ROW - 1] = 1,
+        1 if random.once_in(2) => bytes = random.bytes(all),
+        1 => bytes[random.from_to(1, all - 1)] = 1,
+        _ => bytes[all - 1] = 1,
     }
     bytes
 }

@@ -1,10 +1,13 @@
 //! Deciding: what a request that passed its lists does to the subscriber's row.
 
 use crate::reading_a_message::{
-    AA, ORIGIN_HOST, ROUTING_POLICY, Request, SESSION_ID, USER_NAME, VISITED_NETWORK, W_APN,
+    AA, ORIGIN_HOST, ORIGIN_REALM, ROUTING_POLICY, Request, SESSION_ID, USER_NAME, VISITED_NETWORK,
+    W_APN,
 };
 use crate::rules::Rules;
-use crate::the_table::{Access, BARRED, MAY_ROAM, PLACES, Row, row_at, same_label, sound};
+use crate::the_table::{
+    Access, BARRED, Form, MAY_ROAM, PLACES, Policies, Row, row_at, same_label, sound,
+};
 use crate::{Code, SUCCESS, experimental, plain};
 
 /// Numbers of TS 29.229 and of TS 29.234, 10.3.1.
@@ -34,15 +37,17 @@ impl Decision {
 /// The new access's place, or 0, and the access that was cut for it.
 type Done = (u8, Option<Access>);
 
-/// The request of an operator, with the wireless gateway's word.
-pub fn decide(
-    rules: &Rules,
-    table: &mut [u8],
-    operator: u32,
-    request: &Request,
-    wag: bool,
-) -> Decision {
-    match change(rules, table, operator, request, wag) {
+/// What is decided about: the request of an operator on a table of some form, with the
+/// wireless gateway's word.
+pub struct Asking<'a> {
+    pub form: Form,
+    pub operator: u32,
+    pub request: &'a Request<'a>,
+    pub wag: bool,
+}
+
+pub fn decide(rules: &Rules, table: &mut [u8], asking: &Asking) -> Decision {
+    match change(rules, table, asking) {
         Ok((place, cut)) => Decision {
             code: SUCCESS,
             place,
@@ -53,27 +58,22 @@ pub fn decide(
 }
 
 /// Changes a copy of the row and stores it only when nothing was refused.
-fn change(
-    rules: &Rules,
-    table: &mut [u8],
-    operator: u32,
-    request: &Request,
-    wag: bool,
-) -> Result<Done, Code> {
+fn change(rules: &Rules, table: &mut [u8], asking: &Asking) -> Result<Done, Code> {
+    let (form, request) = (asking.form, asking.request);
     let name = request.text(USER_NAME);
-    let index = (rules.find)(rules, table, operator, name).ok_or(USER_UNKNOWN)?;
-    let mut row = sound(rules, row_at(table, index)).ok_or(plain(5012))?;
+    let index = (rules.find)(rules, form, table, asking.operator, name).ok_or(USER_UNKNOWN)?;
+    let mut row = sound(rules, form, row_at(form, table, index)).ok_or(plain(5012))?;
     let done = match (request.command, request.session_type()) {
-        (AA, Some(0)) => open(rules, &mut row, request)?,
-        (AA, _) => (rules.take_policy)(&mut row, request, wag).map(|()| (0, None))?,
+        (AA, Some(0)) => open(rules, form, &mut row, request)?,
+        (AA, _) => (rules.take_policy)(&mut row, request, asking.wag).map(|()| (0, None))?,
         _ => (rules.terminate)(&mut row, request).map(|()| (0, None))?,
     };
-    (rules.store)(rules, table, index, &row);
+    (rules.store)(rules, form, table, index, &row);
     Ok(done)
 }
 
 /// Type 0: a new access, for which the entry's oldest may have to go.
-fn open(rules: &Rules, row: &mut Row, request: &Request) -> Result<Done, Code> {
+fn open(rules: &Rules, form: Form, row: &mut Row, request: &Request) -> Result<Done, Code> {
     let entry = (rules.may_open)(row, request)?;
     let mut cut = None;
     let mut freed = None;
@@ -87,11 +87,20 @@ fn open(rules: &Rules, row: &mut Row, request: &Request) -> Result<Done, Code> {
         entry,
         session: request.text(SESSION_ID).to_vec(),
         host: request.text(ORIGIN_HOST).to_vec(),
-        policy: None,
+        realm: (rules.realm_to_keep)(form, request),
+        policies: Policies::default(),
     };
     row.places[usize::from(place - 1)] = Some(access);
     row.line.push(place);
     Ok((place, cut))
+}
+
+/// The gateway's realm, for which form 1 has no room.
+pub fn realm_to_keep(form: Form, request: &Request) -> Vec<u8> {
+    match form {
+        Form::One => Vec::new(),
+        Form::Two => request.text(ORIGIN_REALM).to_vec(),
+    }
 }
 
 /// The tests of type 0; gives the number of the entry.
@@ -128,7 +137,8 @@ pub fn place_to_take(row: &Row, _freed: Option<u8>) -> Option<u8> {
     (1..=PLACES).find(|&place| row.access(place).is_none())
 }
 
-/// Type 1: the policy of an open access, found by Session-Id alone.
+/// Type 1: the policies of an open access, found by Session-Id alone. Those that the
+/// request brings take the place of all that were held.
 pub fn take_policy(row: &mut Row, request: &Request, wag: bool) -> Result<(), Code> {
     let session = request.text(SESSION_ID);
     let mut accesses = row.places.iter_mut().flatten();
@@ -136,7 +146,11 @@ pub fn take_policy(row: &mut Row, request: &Request, wag: bool) -> Result<(), Co
     if !wag {
         return Err(plain(5012));
     }
-    access.policy = request.get(ROUTING_POLICY).map(<[u8]>::to_vec);
+    let mut brought = request.all(ROUTING_POLICY).into_iter();
+    access.policies = access
+        .policies
+        .each_ref()
+        .map(|_| brought.next().map(<[u8]>::to_vec));
     Ok(())
 }
 

@@ -9,7 +9,7 @@ use crate::reading_a_message::{SESSION_ID, USER_NAME, W_APN};
 use crate::recorder::Recorder;
 use crate::rules::DOCUMENT_01;
 use crate::the_table::{
-    Entry, NAME, ROW, Row, bears, decode, encode, find, is_of, row_at, same_label,
+    Entry, FORMS, Form, NAME, Row, bears, decode, encode, find, is_of, row_at, rows, same_label,
 };
 
 /// Bytes that differ as the two cases of a letter do, each way round: the first and the
@@ -59,16 +59,17 @@ pub fn either_case(recorder: &mut Recorder, pair: (u8, u8), random: &mut Random)
     }
     let (held, asked) = two_labels(pair, random);
     let name = digits(random);
-    recorder.set_table(&row_of(&name, &[&held]));
-    recorder.call(add(0, &name, &asked, 1, 0), false);
-    recorder.set_table(&row_of(&name, &[&held, &asked]));
-    recorder.call(add(0, &name, b"one more", 1, 0), false);
+    let form = *random.pick(&FORMS);
+    recorder.set_table(&row_of(form, &name, &[&held]));
+    recorder.call(add(form, 0, &name, &asked, 1, 0), false);
+    recorder.set_table(&row_of(form, &name, &[&held, &asked]));
+    recorder.call(add(form, 0, &name, b"one more", 1, 0), false);
     for draft in [
         Draft::open(&name, b"s", b"pdg", &asked),
         Draft::termination(&name, b"s", b"pdg", &held),
     ] {
-        recorder.set_table(&row_of(&name, &[&held, &asked]));
-        recorder.call(request(0, &draft, true, random), false);
+        recorder.set_table(&row_of(form, &name, &[&held, &asked]));
+        recorder.call(request(form, 0, &draft, true, random), false);
     }
     other_texts(recorder, random);
 }
@@ -111,7 +112,7 @@ fn set(draft: &mut Draft, name: crate::reading_a_message::Name, value: &[u8]) {
 }
 
 /// A row of a subscriber with these labels.
-fn row_of(name: &[u8], labels: &[&[u8]]) -> Vec<u8> {
+fn row_of(form: Form, name: &[u8], labels: &[&[u8]]) -> Vec<u8> {
     let entry = |label: &&[u8]| Entry {
         label: label.to_vec(),
         flags: 0,
@@ -122,7 +123,7 @@ fn row_of(name: &[u8], labels: &[&[u8]]) -> Vec<u8> {
         entries: labels.iter().map(entry).collect(),
         ..Row::default()
     };
-    encode(&DOCUMENT_01, &row)
+    encode(&DOCUMENT_01, form, &row)
 }
 
 /// What a call brings that is compared with a row, and where its label is compared.
@@ -136,11 +137,11 @@ pub struct Texts<'a> {
 }
 
 /// What of a call has to do with the case of letters, for the report.
-pub fn signs(texts: &Texts, table: &[u8]) -> Vec<String> {
+pub fn signs(texts: &Texts, form: Form, table: &[u8]) -> Vec<String> {
     let mut signs = Vec::new();
-    let index = find(table, texts.operator, texts.name);
-    let Some(row) = index.and_then(|i| decode(row_at(table, i))) else {
-        if name_in_another_case(texts.operator, texts.name, table) {
+    let index = find(form, table, texts.operator, texts.name);
+    let Some(row) = index.and_then(|i| decode(form, row_at(form, table, i))) else {
+        if name_in_another_case(texts.operator, texts.name, form, table) {
             signs.push("name in another case".to_string());
         }
         return signs;
@@ -179,9 +180,8 @@ fn pair_in(one: &[u8], other: &[u8]) -> Option<(u8, u8)> {
     (alone && PAIRS.contains(&pair)).then_some(pair)
 }
 
-fn name_in_another_case(operator: u32, name: &[u8], table: &[u8]) -> bool {
+fn name_in_another_case(operator: u32, name: &[u8], form: Form, table: &[u8]) -> bool {
     let held = |row: &[u8]| row[NAME..].get(..name.len()).unwrap_or_default().to_vec();
     let bears_it = |row: &[u8]| in_another_case(&held(row), name) && bears(row, &held(row));
-    let mut rows = table.chunks_exact(ROW);
-    rows.any(|row| is_of(row, operator) && bears_it(row))
+    rows(form, table).any(|row| is_of(row, operator) && bears_it(row))
 }

@@ -1,20 +1,24 @@
 //! Everything that can be wrong with a request's call, check by check.
 
 use crate::cases::{Case, Sort, text};
-use crate::damages::{DAMAGES, damage};
+use crate::damages::any_damage;
 use crate::drafts::{Draft, DraftAvp};
 use crate::known_avps::UNKNOWN;
 use crate::random::Random;
 use crate::reading_a_message::{
-    AA, Field, Form, LIST_BOTH, MANDATORY, Name, Needed, SESSION_ID, TERMINATION, USER_NAME,
-    VISITED_NETWORK, W_APN, list,
+    AA, Field, LIST_BOTH, MANDATORY, Name, Needed, ROUTING_POLICY, SESSION_ID, TERMINATION,
+    USER_NAME, VISITED_NETWORK, ValueForm, W_APN, list,
 };
-use crate::the_table::{BARRED, MAY_ROAM, ROW, same_label};
+use crate::the_table::{BARRED, Form, MAY_ROAM, same_label};
 
 #[derive(Clone, Debug)]
 pub enum Fault {
-    /// The table has this many bytes.
-    TableSize(usize),
+    /// The table has this many rows, and so many bytes more or less.
+    TableSize(usize, isize),
+    /// The table has one row of the form that is not said.
+    OtherRow,
+    /// The call says a form that no table has.
+    NoForm(u32),
     Operator(u32),
     Host(usize),
     Realm(usize),
@@ -42,7 +46,8 @@ pub enum Fault {
     /// An AVP has another vendor, or none, and so is another AVP, not known and without M.
     Renamed(Name, Name),
     NotFirst,
-    Twice(Field),
+    /// One more than may be, or still more.
+    TooOften(Field),
     /// A value of this many bytes.
     Length(Field, usize),
     Value(Name, u32),
@@ -76,7 +81,7 @@ pub fn own_checks(sort: Sort) -> Vec<Vec<Fault>> {
         Sort::Policy => (AA, Some(1)),
         Sort::Termination => (TERMINATION, None),
     };
-    for field in list(command).into_iter().skip(LIST_BOTH.len()) {
+    for field in list(Form::One, command).into_iter().skip(LIST_BOTH.len()) {
         all.extend(field_checks(field, session_type));
     }
     all.push(vec![Fault::UnknownUser]);
@@ -89,7 +94,16 @@ fn call_checks() -> Vec<Vec<Fault>> {
     use Fault::*;
     let lengths = [0, 129, 130, 300];
     vec![
-        [0, 1, ROW - 1, ROW + 1].map(TableSize).to_vec(),
+        vec![
+            TableSize(0, 0),
+            TableSize(0, 1),
+            TableSize(1, -1),
+            TableSize(1, 1),
+            OtherRow,
+            NoForm(0),
+            NoForm(3),
+            NoForm(258),
+        ],
         [16, 17, 255, 256, 1 << 16, u32::MAX].map(Operator).to_vec(),
         [lengths.map(Host), lengths.map(Realm)].concat(),
         [0, 1, 5_119].map(AnswerRoom).to_vec(),
@@ -130,11 +144,11 @@ fn field_checks(field: Field, session_type: Option<u32>) -> Vec<Vec<Fault>> {
         Needed::ForType(which) => session_type == Some(which),
         other => other != Needed::Never,
     };
-    let mut checks = vec![vec![Fault::Twice(field)], lengths(field)];
+    let mut checks = vec![vec![Fault::TooOften(field)], lengths(field)];
     if needed {
         checks.push(ways_to_miss(field));
     }
-    if let Form::Number(..) = field.form {
+    if let ValueForm::Number(..) = field.form {
         checks.push(values(field));
     }
     checks
@@ -160,16 +174,16 @@ fn ways_to_miss(field: Field) -> Vec<Fault> {
 
 fn lengths(field: Field) -> Vec<Fault> {
     let wrong: &[usize] = match field.form {
-        Form::Number(..) => &[0, 1, 2, 3, 5, 8, 100, 128],
-        Form::Text(100) => &[0, 101, 102, 104, 128, 129],
-        Form::Text(_) => &[0, 129, 130, 132, 256, 1_000],
+        ValueForm::Number(..) => &[0, 1, 2, 3, 5, 8, 100, 128],
+        ValueForm::Text(100) => &[0, 101, 102, 104, 128, 129],
+        ValueForm::Text(_) => &[0, 129, 130, 132, 256, 1_000],
     };
     wrong.iter().map(|&n| Fault::Length(field, n)).collect()
 }
 
 /// Values beside the right ones, and right ones in the wrong byte.
 fn values(field: Field) -> Vec<Fault> {
-    let Form::Number(low, high) = field.form else {
+    let ValueForm::Number(low, high) = field.form else {
         return Vec::new();
     };
     let wrong = [
@@ -202,14 +216,19 @@ pub fn deciding_checks(sort: Sort) -> Vec<Vec<Fault>> {
 impl Fault {
     pub fn apply(&self, case: &mut Case, random: &mut Random) {
         match self {
-            Fault::TableSize(size) => case.table.resize(*size, 0),
+            Fault::TableSize(rows, more) => {
+                let length = (case.form.row() * rows).saturating_add_signed(*more);
+                case.table.resize(length, 0);
+            }
+            Fault::OtherRow => case.table.resize(case.form.other().row(), 0),
+            Fault::NoForm(form) => case.said = *form,
             Fault::Operator(operator) => case.operator = *operator,
             Fault::Host(length) => case.host = vec![b'h'; *length],
             Fault::Realm(length) => case.realm = vec![b'r'; *length],
             Fault::AnswerRoom(length) => case.answer_room.length = *length,
             Fault::NoticeRoom(length) => case.notice_room.length = *length,
             Fault::WagSaysNo => case.wag = false,
-            Fault::DamagedRow => damage(case, random.below(DAMAGES), random),
+            Fault::DamagedRow => any_damage(case, random),
             Fault::UnknownUser => unknown_user(case, random),
             Fault::Barred => set_flags(case, BARRED, 0),
             Fault::Visitor => {
@@ -222,6 +241,11 @@ impl Fault {
             Fault::UnknownSession => set(&mut case.draft, SESSION_ID, b"never opened"),
             Fault::OtherLabel => other_label(case, random),
             Fault::NearLabel => near_label(case, random),
+            Fault::TooOften(field) => {
+                let policies = field.name == ROUTING_POLICY;
+                let most = if policies { case.form.policies() } else { 1 };
+                too_often(&mut case.draft, field, most, random);
+            }
             on_message => on_message.apply_to(&mut case.draft, random),
         }
     }
@@ -252,11 +276,11 @@ impl Fault {
             Fault::UnknownFirst(name) => unknown_avp(draft, 0, *name, random),
             Fault::UnknownLast(name) => unknown_avp(draft, draft.avps.len(), *name, random),
             Fault::NotFirst => not_first(draft, random),
-            Fault::Twice(field) => twice(draft, field, random),
             Fault::Length(field, length) => {
                 present(draft, field, random);
                 let some = text(random, 128).into_iter().cycle();
-                set(draft, field.name, &some.take(*length).collect::<Vec<u8>>());
+                let value: Vec<u8> = some.take(*length).collect();
+                set_any(draft, field.name, &value, random);
             }
             Fault::Value(name, value) => set(draft, *name, &value.to_be_bytes()),
             _ => (),
@@ -284,6 +308,15 @@ fn set(draft: &mut Draft, name: Name, value: &[u8]) {
     }
 }
 
+/// Sets one of the AVPs of this name.
+fn set_any(draft: &mut Draft, name: Name, value: &[u8], random: &mut Random) {
+    let mut named: Vec<_> = draft.avps.iter_mut().filter(|a| a.name == name).collect();
+    let chosen = random.below(named.len());
+    if let Some(avp) = named.get_mut(chosen) {
+        avp.value = value.to_vec();
+    }
+}
+
 /// Adds the field with a good value if it is not there.
 fn present(draft: &mut Draft, field: &Field, random: &mut Random) {
     if draft.position(field.name).is_none() {
@@ -294,14 +327,14 @@ fn present(draft: &mut Draft, field: &Field, random: &mut Random) {
 
 fn good_avp(field: &Field, random: &mut Random) -> DraftAvp {
     match field.form {
-        Form::Number(low, _) => DraftAvp::number(field.name, low),
-        Form::Text(most) => DraftAvp::new(field.name, &text(random, most)),
+        ValueForm::Number(low, _) => DraftAvp::number(field.name, low),
+        ValueForm::Text(most) => DraftAvp::new(field.name, &text(random, most)),
     }
 }
 
-/// A second copy before or behind the first, good or of a wrong length, now and then
-/// a third.
-fn twice(draft: &mut Draft, field: &Field, random: &mut Random) {
+/// More copies than may be, before or behind the first, good or of a wrong length, now
+/// and then one more still.
+fn too_often(draft: &mut Draft, field: &Field, most: usize, random: &mut Random) {
     present(draft, field, random);
     loop {
         let mut copy = good_avp(field, random);
@@ -309,7 +342,8 @@ fn twice(draft: &mut Draft, field: &Field, random: &mut Random) {
             copy.value = vec![0; *random.pick(&[0, 1, 5, 129])];
         }
         draft.insert(random.below(20), copy);
-        if !random.once_in(4) {
+        let copies = draft.avps.iter().filter(|avp| avp.name == field.name);
+        if copies.count() > most && !random.once_in(4) {
             return;
         }
     }

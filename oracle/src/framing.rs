@@ -4,12 +4,14 @@ use crate::program::{Asked, Operation, Room};
 use crate::script::{Changes, Expected, K1, Record, digest};
 
 pub const MAGIC: &[u8; 8] = b"WMSCRIPT";
-pub const VERSION: u32 = 2;
+pub const VERSION: u32 = 3;
 
 /// No record is longer, its type and length included.
 pub const LONGEST_RECORD: usize = 65_536;
-/// No table is longer.
-pub const LONGEST_TABLE: usize = 4_723_264;
+/// No table is longer: one row of form 2 more than a table may have, and a little.
+pub const LONGEST_TABLE: usize = 8_921_664;
+/// No target of a move is longer.
+pub const LONGEST_TARGET: u32 = 65_536;
 /// No entering brings more shares.
 pub const MOST_SHARES: usize = 17;
 
@@ -21,6 +23,7 @@ const ENTER: u8 = 5;
 const ADD: u8 = 6;
 const HANDLE: u8 = 7;
 const END: u8 = 8;
+const MOVE: u8 = 9;
 
 /// Appends a record: type, length of the rest, body, check.
 fn frame(script: &mut Vec<u8>, kind: u8, body: &[u8]) {
@@ -81,13 +84,16 @@ fn write_record(record: &Record) -> (u8, Vec<u8>) {
     (kind, body)
 }
 
+/// Every call says its form first.
 fn write_operation(body: &mut Vec<u8>, operation: &Operation) -> u8 {
+    word(body, operation.form() as usize);
     match operation {
-        Operation::Clear => CLEAR,
+        Operation::Clear { .. } => CLEAR,
         Operation::Enter {
             operator,
             shares,
             name,
+            ..
         } => {
             word(body, *operator as usize);
             word(body, shares.len());
@@ -103,6 +109,7 @@ fn write_operation(body: &mut Vec<u8>, operation: &Operation) -> u8 {
             label,
             limit,
             flags,
+            ..
         } => {
             word(body, *operator as usize);
             bytes(body, name);
@@ -111,18 +118,29 @@ fn write_operation(body: &mut Vec<u8>, operation: &Operation) -> u8 {
             ADD
         }
         Operation::Handle(asked) => {
-            word(body, asked.operator as usize);
-            bytes(body, &asked.host);
-            bytes(body, &asked.realm);
-            bytes(body, &asked.message);
-            body.push(u8::from(asked.wag));
-            for room in [asked.answer_room, asked.notice_room] {
-                word(body, room.length as usize);
-                body.push(room.seed);
-            }
+            write_asked(body, asked);
             HANDLE
         }
+        Operation::Move { target, .. } => {
+            write_room(body, *target);
+            MOVE
+        }
     }
+}
+
+fn write_asked(body: &mut Vec<u8>, asked: &Asked) {
+    word(body, asked.operator as usize);
+    bytes(body, &asked.host);
+    bytes(body, &asked.realm);
+    bytes(body, &asked.message);
+    body.push(u8::from(asked.wag));
+    write_room(body, asked.answer_room);
+    write_room(body, asked.notice_room);
+}
+
+fn write_room(body: &mut Vec<u8>, room: Room) {
+    word(body, room.length as usize);
+    body.push(room.seed);
 }
 
 fn write_expected(body: &mut Vec<u8>, expected: &Expected) {
@@ -266,13 +284,17 @@ fn read_record(kind: u8, fields: &mut Fields) -> Result<Record, Defect> {
                 bytes: fields.bytes()?,
             });
         }
-        CLEAR => Operation::Clear,
+        CLEAR => Operation::Clear {
+            form: fields.word()?,
+        },
         ENTER => Operation::Enter {
+            form: fields.word()?,
             operator: fields.word()?,
             shares: fields.shares()?,
             name: fields.bytes()?,
         },
         ADD => Operation::Add {
+            form: fields.word()?,
             operator: fields.word()?,
             name: fields.bytes()?,
             label: fields.bytes()?,
@@ -280,13 +302,23 @@ fn read_record(kind: u8, fields: &mut Fields) -> Result<Record, Defect> {
             flags: fields.byte()?,
         },
         HANDLE => Operation::Handle(read_asked(fields)?),
+        MOVE => read_move(fields)?,
         _ => return Err("a record of no known type"),
     };
     Ok(Record::Call(operation, read_expected(fields)?))
 }
 
+fn read_move(fields: &mut Fields) -> Result<Operation, Defect> {
+    let form = fields.word()?;
+    let target = fields.room()?;
+    let fits = target.length <= LONGEST_TARGET;
+    fits.then_some(Operation::Move { form, target })
+        .ok_or("a room too long")
+}
+
 fn read_asked(fields: &mut Fields) -> Result<Asked, Defect> {
     let asked = Asked {
+        form: fields.word()?,
         operator: fields.word()?,
         host: fields.bytes()?,
         realm: fields.bytes()?,

@@ -2,11 +2,13 @@
 //! every sort.
 
 use crate::cases::{Case, SORTS, Sort, digits, garnish, sound_row, text};
-use crate::damages::{DAMAGES, damage, odd_row, some_entry};
+use crate::damages::{DAMAGES, any_damage, damage, odd_row, some_entry};
 use crate::drafts::{Draft, DraftAvp};
 use crate::either_case::{PAIRS, either_case, typed};
 use crate::faults::{Fault, checks, deciding_checks, header_checks, own_checks};
+use crate::forms::{FormDecks, in_forms};
 use crate::known_avps::{UNKNOWN, known_and_ignored};
+use crate::moves::move_to;
 use crate::operators::{Situation, all_rows, entering, namesake, operators, situations};
 use crate::program::{Operation, Room};
 use crate::random::Random;
@@ -14,20 +16,20 @@ use crate::reading_a_message::{Name, PROXY_INFO, VISITED_NETWORK};
 use crate::recorder::Recorder;
 use crate::rules::DOCUMENT_01;
 use crate::sequences::sequence;
-use crate::the_table::{MOST_ROWS, ROW, encode, put};
+use crate::the_table::{FORMS, Form, MOST_ROWS, encode, put};
 
 /// Cards that all come up once, in an order of chance, before one comes again.
-struct Deck<T> {
+pub struct Deck<T> {
     cards: Vec<T>,
     drawn: usize,
 }
 
 impl<T> Deck<T> {
-    fn new(cards: Vec<T>) -> Deck<T> {
+    pub fn new(cards: Vec<T>) -> Deck<T> {
         Deck { cards, drawn: 0 }
     }
 
-    fn draw(&mut self, random: &mut Random) -> &T {
+    pub fn draw(&mut self, random: &mut Random) -> &T {
         if self.drawn.is_multiple_of(self.cards.len()) {
             random.shuffle(&mut self.cards);
         }
@@ -45,6 +47,7 @@ struct Decks {
     known: Deck<Name>,
     unknown: Deck<(Sort, Vec<Fault>)>,
     situations: Deck<Situation>,
+    forms: FormDecks,
 }
 
 /// The calls of a script.
@@ -59,14 +62,17 @@ pub fn generate(seed: u64, calls: usize) -> Recorder {
         known: Deck::new(known_and_ignored()),
         unknown: Deck::new(all_unknown()),
         situations: Deck::new(situations()),
+        forms: FormDecks::new(),
     };
     for turn in 0.. {
         if recorder.is_full() {
             break;
         }
         round(&mut recorder, &mut decks, &mut random);
-        if turn % 50 == 12 {
-            big_tables(&mut recorder, &mut random);
+        match turn % 50 {
+            9 => big_tables(&mut recorder, Form::One, &mut random),
+            10 => big_tables(&mut recorder, Form::Two, &mut random),
+            _ => (),
         }
     }
     recorder
@@ -89,12 +95,18 @@ fn round(recorder: &mut Recorder, decks: &mut Decks, random: &mut Random) {
     for (sort, fault) in late_faults(random) {
         faulty(recorder, sort, &[fault], random);
     }
-    let foreign = [
-        Fault::Command(257),
-        Fault::HeaderFlags(*random.pick(&[4, 0x20])),
-    ];
-    faulty(recorder, Sort::Open, &foreign, random);
-    record(recorder, &Case::full(random));
+    let bits_and_application = [Fault::HeaderFlags(1), Fault::Application(2)];
+    faulty(recorder, Sort::Open, &bits_and_application, random);
+    for form in FORMS {
+        let foreign = [
+            Fault::Command(257),
+            Fault::HeaderFlags(*random.pick(&[4, 0x20])),
+        ];
+        let case = Case::in_form(form, Sort::Open, random);
+        with_faults(recorder, case, &foreign, random);
+    }
+    let form = *random.pick(&FORMS);
+    record(recorder, &Case::full(form, random));
     for _ in 0..9 {
         let way = *decks.damages.draw(random);
         damaged(recorder, way, random);
@@ -115,8 +127,11 @@ fn round(recorder: &mut Recorder, decks: &mut Decks, random: &mut Random) {
     noise(recorder, random);
     edges(recorder, random);
     set_up(recorder, random);
-    adding(recorder, random);
+    for form in FORMS {
+        adding(recorder, form, random);
+    }
     either_case(recorder, *decks.pairs_of_bytes.draw(random), random);
+    in_forms(recorder, &mut decks.forms, random);
     sequence(recorder, random);
 }
 
@@ -192,7 +207,11 @@ fn all_pairs() -> Vec<Pair> {
 }
 
 fn faulty(recorder: &mut Recorder, sort: Sort, faults: &[Fault], random: &mut Random) {
-    let mut case = Case::good(sort, random);
+    let case = Case::good(sort, random);
+    with_faults(recorder, case, faults, random);
+}
+
+fn with_faults(recorder: &mut Recorder, mut case: Case, faults: &[Fault], random: &mut Random) {
     let mut faults = faults.to_vec();
     faults.sort_by_key(turn);
     for fault in faults {
@@ -205,7 +224,7 @@ fn faulty(recorder: &mut Recorder, sort: Sort, faults: &[Fault], random: &mut Ra
 /// after all that write into it.
 fn turn(fault: &Fault) -> u8 {
     match fault {
-        Fault::TableSize(_) => 2,
+        Fault::TableSize(..) | Fault::OtherRow => 2,
         Fault::DamagedRow => 1,
         _ => 0,
     }
@@ -219,27 +238,47 @@ fn damaged(recorder: &mut Recorder, way: usize, random: &mut Random) {
     let name = case.row.name.clone();
     if random.once_in(3) {
         let entry = some_entry(random);
-        let operator = case.operator;
+        let (form, operator) = (case.form, case.operator);
         recorder.set_table(&case.table);
-        recorder.call(
-            add(operator, &name, &entry.label, entry.limit, entry.flags),
-            false,
+        let new = add(
+            form,
+            operator,
+            &name,
+            &entry.label,
+            entry.limit,
+            entry.flags,
         );
-        let shares = all_rows(&case.table, operator);
-        recorder.call(enter(operator, &shares, &name), false);
+        recorder.call(new, false);
+        let shares = all_rows(form, &case.table, operator);
+        recorder.call(enter(form, operator, &shares, &name), false);
+        move_to(recorder, form.other(), random);
     }
 }
 
-pub fn enter(operator: u32, shares: &[u32], name: &[u8]) -> Operation {
+pub fn clear(form: Form) -> Operation {
+    let form = form.number();
+    Operation::Clear { form }
+}
+
+pub fn enter(form: Form, operator: u32, shares: &[u32], name: &[u8]) -> Operation {
     Operation::Enter {
+        form: form.number(),
         operator,
         shares: shares.to_vec(),
         name: name.to_vec(),
     }
 }
 
-pub fn add(operator: u32, name: &[u8], label: &[u8], limit: u8, flags: u8) -> Operation {
+pub fn add(
+    form: Form,
+    operator: u32,
+    name: &[u8],
+    label: &[u8],
+    limit: u8,
+    flags: u8,
+) -> Operation {
     Operation::Add {
+        form: form.number(),
         operator,
         name: name.to_vec(),
         label: label.to_vec(),
@@ -251,23 +290,23 @@ pub fn add(operator: u32, name: &[u8], label: &[u8], limit: u8, flags: u8) -> Op
 /// Two rows of one name, either of which may be damaged.
 fn duplicates(recorder: &mut Recorder, random: &mut Random) {
     let mut case = Case::good(*random.pick(&SORTS), random);
-    let mut good = vec![0; ROW];
-    put(&mut good, 0, case.row_bytes());
+    let form = case.form;
+    let good = case.row_bytes().to_vec();
     let (operator, name) = (case.operator, case.row.name.clone());
-    let mut other = sound_row(&name, random);
+    let mut other = sound_row(form, &name, random);
     other.operator = case.row.operator;
-    let mut other = encode(&DOCUMENT_01, &other);
+    let mut other = encode(&DOCUMENT_01, form, &other);
     if random.once_in(2) {
-        damage(&mut case, random.below(DAMAGES), random);
+        any_damage(&mut case, random);
         put(&mut other, 0, case.row_bytes());
     }
     let mut rows = [good, other];
     random.shuffle(&mut rows);
     case.table = rows.concat();
     record(recorder, &case);
-    recorder.call(add(operator, &name, b"second", 1, 0), false);
-    let shares = all_rows(&case.table, operator);
-    recorder.call(enter(operator, &shares, &name), false);
+    recorder.call(add(form, operator, &name, b"second", 1, 0), false);
+    let shares = all_rows(form, &case.table, operator);
+    recorder.call(enter(form, operator, &shares, &name), false);
 }
 
 /// Good messages with bytes changed at random, and messages of mere chance.
@@ -367,17 +406,19 @@ fn fill(draft: &mut Draft, size: usize, random: &mut Random) {
 
 /// Set-up on small tables, refused as often as not.
 fn set_up(recorder: &mut Recorder, random: &mut Random) {
-    let sizes = [ROW, 2 * ROW, 3 * ROW, 0, ROW - 1, ROW + 1];
+    let form = *random.pick(&FORMS);
+    let row = form.row();
+    let sizes = [row, 2 * row, 3 * row, 0, row - 1, row + 1];
     let size = *random.pick(&[0, 1, 2, 0, 1, 2, 0, 1, 2, 3, 4, 5]);
     let mut table = vec![0; sizes[size]];
     if random.once_in(3) {
-        put(&mut table, 0, &odd_row(random));
+        put(&mut table, 0, &odd_row(form, random));
     }
     recorder.set_table(&table);
     let operator = *random.pick(&[0, 0, 1, 8, 15]);
-    let shares = all_rows(&table, operator);
+    let shares = all_rows(form, &table, operator);
     let first = digits(random);
-    recorder.call(enter(operator, &shares, &first), false);
+    recorder.call(enter(form, operator, &shares, &first), false);
     let known = [first.clone(), first, digits(random)];
     for _ in 0..random.from_to(8, 18) {
         let mut name = random.pick(&known).clone();
@@ -385,27 +426,31 @@ fn set_up(recorder: &mut Recorder, random: &mut Random) {
             name = odd_name(random);
         }
         let operation = match random.below(12) {
-            0 if random.once_in(3) => Operation::Clear,
-            0..4 => enter(operator, &shares, &name),
-            _ => odd_add(operator, &name, random),
+            0 if random.once_in(3) => clear(form),
+            0..4 => enter(form, operator, &shares, &name),
+            _ => odd_add(form, operator, &name, random),
         };
         recorder.call(operation, false);
     }
 }
 
 /// W-APNs added to a row that may have no room for them, one of them known already.
-fn adding(recorder: &mut Recorder, random: &mut Random) {
+fn adding(recorder: &mut Recorder, form: Form, random: &mut Random) {
     let name = digits(random);
-    let mut row = sound_row(&name, random);
+    let mut row = sound_row(form, &name, random);
     let operator = random.below(16) as u32;
     row.operator = operator as u8;
-    let table = [namesake(&row, random), encode(&DOCUMENT_01, &row)];
+    let table = [
+        namesake(form, &row, random),
+        encode(&DOCUMENT_01, form, &row),
+    ];
     recorder.set_table(&table.concat());
     let known = typed(&random.pick(&row.entries).label, random);
     for label in [known, text(random, 100), vec![b'n'; 101], text(random, 100)] {
         let limit = *random.pick(&[1, 1, 2, 8, 9]);
         let flags = *random.pick(&[0, 1, 2, 3, 3, 4]);
-        recorder.call(add(operator, &name, &label, limit, flags), false);
+        let new = add(form, operator, &name, &label, limit, flags);
+        recorder.call(new, false);
     }
 }
 
@@ -421,7 +466,7 @@ pub fn odd_name(random: &mut Random) -> Vec<u8> {
 
 /// Labels from a small store, so that some come twice; limits and flags also beyond
 /// what is allowed.
-fn odd_add(operator: u32, name: &[u8], random: &mut Random) -> Operation {
+fn odd_add(form: Form, operator: u32, name: &[u8], random: &mut Random) -> Operation {
     let long = *random.pick(&[0, 1, 100, 101, 256, 300]);
     let label = match random.below(8) {
         0 => vec![b'l'; long],
@@ -430,36 +475,37 @@ fn odd_add(operator: u32, name: &[u8], random: &mut Random) -> Operation {
     };
     let limit = *random.pick(&[1, 1, 1, 1, 1, 1, 2, 2, 3, 4, 8, 0, 9, 255]);
     let flags = *random.pick(&[0, 1, 2, 3, 0, 1, 2, 3, 0, 1, 2, 3, 4, 255]);
-    add(operator, name, &label, limit, flags)
+    add(form, operator, name, &label, limit, flags)
 }
 
 /// Tables of 1,024 rows, of more, and of a byte too few or too many.
-fn big_tables(recorder: &mut Recorder, random: &mut Random) {
-    let mut table = vec![0; MOST_ROWS * ROW];
-    for row in table.chunks_mut(ROW) {
+fn big_tables(recorder: &mut Recorder, form: Form, random: &mut Random) {
+    let row = form.row();
+    let most = MOST_ROWS * row;
+    let mut table = vec![0; most];
+    for row in table.chunks_mut(row) {
         row[0] = 3;
     }
-    let last = (MOST_ROWS - 1) * ROW;
-    table[last] = 0;
+    table[most - row] = 0;
     recorder.set_table(&table);
-    big_calls(recorder, random);
-    for size in [
-        MOST_ROWS * ROW + ROW,
-        MOST_ROWS * ROW - 1,
-        MOST_ROWS * ROW + 1,
-    ] {
+    big_calls(recorder, form, random);
+    for size in [most + row, most - 1, most + 1] {
         recorder.set_table(&vec![0; size]);
         let name = b"12345";
-        let case = Case::good(Sort::Open, random);
+        let mut case = Case::in_form(form, Sort::Open, random);
+        case.operator = 0;
         recorder.call(case.operation(), false);
-        recorder.call(add(0, name, b"board", 1, 0), false);
-        recorder.call(enter(0, &all_rows(&[0; ROW], 0), name), false);
-        recorder.call(Operation::Clear, true);
+        recorder.call(add(form, 0, name, b"board", 1, 0), false);
+        let shares = all_rows(form, &vec![0; row], 0);
+        recorder.call(enter(form, 0, &shares, name), false);
+        move_to(recorder, form.other(), random);
+        recorder.call(clear(form), true);
     }
 }
 
-/// The one free row is the last; then it is used, and the table is cleared.
-fn big_calls(recorder: &mut Recorder, random: &mut Random) {
+/// The one free row is the last; then it is used, and the table is cleared. A move is
+/// refused in between: there is no room for so many rows in a record.
+fn big_calls(recorder: &mut Recorder, form: Form, random: &mut Random) {
     let name = digits(random);
     let mut stranger = name.clone();
     stranger[0] = if stranger[0] == b'9' {
@@ -468,27 +514,35 @@ fn big_calls(recorder: &mut Recorder, random: &mut Random) {
         stranger[0] + 1
     };
     let operator = random.below(16) as u32;
-    let shares = all_rows(&recorder.table, operator);
+    let shares = all_rows(form, &recorder.table, operator);
     for name in [&name, &name, &stranger] {
-        recorder.call(enter(operator, &shares, name), true);
+        recorder.call(enter(form, operator, &shares, name), true);
     }
-    recorder.call(add(operator, &name, b"board", 2, 2), false);
-    recorder.call(add(operator, &stranger, b"board", 2, 2), false);
+    recorder.call(add(form, operator, &name, b"board", 2, 2), false);
+    recorder.call(add(form, operator, &stranger, b"board", 2, 2), false);
+    move_to(recorder, form.other(), random);
     for session in [b"one", b"two", b"six", b"ten"] {
         let mut draft = Draft::open(&name, session, b"pdg", b"board");
         draft.avps.push(DraftAvp::new(VISITED_NETWORK, b"v"));
         garnish(&mut draft, random);
-        recorder.call(request(operator, &draft, true, random), false);
+        recorder.call(request(form, operator, &draft, true, random), false);
     }
     let draft = Draft::termination(&name, b"six", b"pdg", b"board");
-    recorder.call(request(operator, &draft, true, random), true);
-    recorder.call(Operation::Clear, true);
+    recorder.call(request(form, operator, &draft, true, random), true);
+    recorder.call(clear(form), true);
 }
 
 /// A draft as a call whose other inputs are in order.
-pub fn request(operator: u32, draft: &Draft, wag: bool, random: &mut Random) -> Operation {
+pub fn request(
+    form: Form,
+    operator: u32,
+    draft: &Draft,
+    wag: bool,
+    random: &mut Random,
+) -> Operation {
     let seed = random.byte();
     Operation::Handle(crate::program::Asked {
+        form: form.number(),
         operator,
         host: b"aaa.home.example".to_vec(),
         realm: b"home.example".to_vec(),

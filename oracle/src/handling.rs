@@ -1,15 +1,17 @@
 //! Handling one request: the calls that get no Diameter answer, then reading,
 //! deciding and writing in this order.
 
-use crate::deciding::{Decision, decide};
+use crate::deciding::{Asking, Decision, decide};
 use crate::reading_a_message::{Avp, Header, REQUEST, Request, header, walk};
 use crate::rules::Rules;
-use crate::the_table::put;
+use crate::set_up::form_lent;
+use crate::the_table::{Form, put};
 use crate::writing_the_answer::{Reached, Reply, answer};
 use crate::{Code, Outcome};
 
 /// One call's inputs. Table and rooms hold its results afterwards.
 pub struct Call<'a> {
+    pub form: u32,
     pub table: &'a mut [u8],
     pub operator: u32,
     pub host: &'a [u8],
@@ -23,7 +25,7 @@ pub struct Call<'a> {
 /// Number 1, then 33, then 2 to 8, in this order; 0 for a call that gets an answer.
 pub fn no_answer(rules: &Rules, call: &Call) -> u16 {
     let fits = |name: &[u8]| (1..=128).contains(&name.len());
-    if !(rules.table_fits)(call.table) {
+    if form_lent(rules, call.form, call.table).is_none() {
         return 1;
     }
     if !(rules.operator_fits)(call.operator) {
@@ -68,7 +70,7 @@ struct Read<'m> {
     request: Result<Request<'m>, Code>,
 }
 
-fn read<'m>(rules: &Rules, header: &Header, message: &'m [u8]) -> Read<'m> {
+fn read<'m>(rules: &Rules, form: Form, header: &Header, message: &'m [u8]) -> Read<'m> {
     let failed = |reached, code| Read {
         reached,
         avps: Vec::new(),
@@ -81,7 +83,7 @@ fn read<'m>(rules: &Rules, header: &Header, message: &'m [u8]) -> Read<'m> {
         Ok(avps) => avps,
         Err(code) => return failed(Reached::Walk, code),
     };
-    let request = (rules.read_list)(rules, header.command, &avps);
+    let request = (rules.read_list)(rules, form, header.command, &avps);
     let passed = request.is_ok();
     Read {
         reached: if passed {
@@ -99,9 +101,21 @@ pub fn handle(rules: &Rules, call: Call) -> Outcome {
     let Some(header) = header(call.message).filter(|_| number == 0) else {
         return Outcome::no_answer(number);
     };
-    let read = read(rules, &header, call.message);
+    let Some(form) = (rules.form_numbered)(call.form) else {
+        return Outcome::no_answer(1);
+    };
+    let read = read(rules, form, &header, call.message);
     let decision = match &read.request {
-        Ok(request) => decide(rules, call.table, call.operator, request, call.wag),
+        Ok(request) => {
+            let (operator, wag) = (call.operator, call.wag);
+            let asking = Asking {
+                form,
+                operator,
+                request,
+                wag,
+            };
+            decide(rules, call.table, &asking)
+        }
         Err(code) => Decision::refused(*code),
     };
     let reply = Reply {

@@ -7,6 +7,7 @@
 pub mod deciding;
 pub mod handling;
 pub mod known_avps;
+pub mod moving;
 pub mod reading_a_message;
 pub mod rules;
 pub mod set_up;
@@ -22,8 +23,12 @@ pub mod damages;
 pub mod drafts;
 pub mod either_case;
 pub mod faults;
+pub mod form_signs;
+pub mod forms;
 pub mod framing;
 pub mod generator;
+pub mod move_signs;
+pub mod moves;
 pub mod operator_signs;
 pub mod operators;
 pub mod program;
@@ -32,6 +37,7 @@ pub mod recorder;
 pub mod report;
 pub mod rollover;
 pub mod script;
+pub mod second_blocks;
 pub mod sequences;
 pub mod year_calls;
 

@@ -8,9 +8,9 @@ use crate::operators::{BYTES_19, IN_ORDER};
 use crate::program::{Asked, Operation};
 use crate::rules::DOCUMENT_01;
 use crate::set_up::{
-    NewRow, name_fits, operator_fits, own_rows, row_is_free, share_is_full, shares_fit, table_fits,
+    NewRow, name_fits, operator_fits, own_rows, share_is_full, shares_fit, table_fits,
 };
-use crate::the_table::{OPERATOR, ROW, bears, find, is_of, sound};
+use crate::the_table::{Form, OPERATOR, bears, find, is_of, row_is_free, rows, sound};
 
 /// Operators that each call has to bring.
 const BROUGHT: [u32; 5] = [0, 1, 15, 16, u32::MAX];
@@ -100,6 +100,9 @@ pub struct Subject<'a> {
     pub name: &'a [u8],
 }
 
+/// The table of a call, and the form in which it is lent.
+type Lent<'a> = (Form, &'a [u8]);
+
 /// `came` is what the report says of the call by itself.
 pub fn signs_of_operators(
     operation: &Operation,
@@ -107,23 +110,27 @@ pub fn signs_of_operators(
     table: &[u8],
     came: &str,
 ) -> Vec<String> {
+    let Some(form) = Form::numbered(operation.form()) else {
+        return Vec::new();
+    };
+    let lent = (form, table);
     let mut signs = match operation {
-        Operation::Clear => return Vec::new(),
+        Operation::Clear { .. } | Operation::Move { .. } => return Vec::new(),
         Operation::Enter { shares, .. } => {
             let new = NewRow {
                 operator: subject.operator,
                 shares,
                 name: subject.name,
             };
-            signs_of_entering(&new, table, came)
+            signs_of_entering(&new, lent, came)
         }
         Operation::Add { limit, flags, .. } => {
             let no_entry = *limit > 8 || *flags > 3;
-            signs_of_two(subject.operator, table, (14, no_entry), came)
+            signs_of_two(subject.operator, lent, (14, no_entry), came)
         }
         Operation::Handle(asked) => {
             let names = own_names_fail(asked);
-            signs_of_two(subject.operator, table, (2, names), came)
+            signs_of_two(subject.operator, lent, (2, names), came)
         }
     };
     let kind = ["enter", "add"]
@@ -131,8 +138,8 @@ pub fn signs_of_operators(
         .find(|kind| came.starts_with(kind));
     let kind = kind.unwrap_or("handle");
     signs.push(format!("operator {}, {kind}", subject.operator));
-    if table_fits(table) {
-        signs.extend(signs_of_rows(subject, table, came));
+    if table_fits(form, table) {
+        signs.extend(signs_of_rows(subject, lent, came));
     }
     signs.retain(|sign| WANTED_OF_OPERATORS.contains(sign));
     signs
@@ -140,7 +147,8 @@ pub fn signs_of_operators(
 
 fn own_names_fail(asked: &Asked) -> bool {
     let call = Call {
-        table: &mut [0; ROW],
+        form: 1,
+        table: &mut [0; Form::One.row()],
         operator: 0,
         host: &asked.host,
         realm: &asked.realm,
@@ -153,9 +161,9 @@ fn own_names_fail(asked: &Asked) -> bool {
 }
 
 /// Of a call other than an entering: 33 beside 1, and beside the number behind it.
-fn signs_of_two(operator: u32, table: &[u8], later: (u8, bool), came: &str) -> Vec<String> {
+fn signs_of_two(operator: u32, (form, table): Lent, later: (u8, bool), came: &str) -> Vec<String> {
     let kind = came.split(':').next().unwrap_or_default();
-    match (table_fits(table), operator_fits(operator), later) {
+    match (table_fits(form, table), operator_fits(operator), later) {
         (false, false, _) => vec![format!("1 beside 33, {kind}")],
         (true, false, (number, true)) => vec![format!("33 beside {number}, {kind}")],
         _ => Vec::new(),
@@ -163,16 +171,16 @@ fn signs_of_two(operator: u32, table: &[u8], later: (u8, bool), came: &str) -> V
 }
 
 /// Which rows of the name, and of other operators, the call met.
-fn signs_of_rows(subject: &Subject, table: &[u8], came: &str) -> Vec<String> {
+fn signs_of_rows(subject: &Subject, (form, table): Lent, came: &str) -> Vec<String> {
     let mut signs = Vec::new();
-    let rows = || table.chunks_exact(ROW);
+    let rows = || rows(form, table);
     if !operator_fits(subject.operator) {
         if rows().any(|row| is_of(row, subject.operator) && row[0] == 1) {
             signs.push(format!("byte 19 of the operator in a row, {came}"));
         }
         return signs;
     }
-    let found = find(table, subject.operator, subject.name);
+    let found = find(form, table, subject.operator, subject.name);
     let before = rows().take(found.unwrap_or(rows().count()));
     let mut passed: Vec<u8> = before
         .filter(|row| bears(row, subject.name))
@@ -186,8 +194,8 @@ fn signs_of_rows(subject: &Subject, table: &[u8], came: &str) -> Vec<String> {
     if found.is_none() && !passed.is_empty() {
         signs.push(format!("name of others alone, {came}"));
     }
-    let namesakes =
-        rows().filter(|row| bears(row, subject.name) && sound(&DOCUMENT_01, row).is_some());
+    let is_sound = |row: &[u8]| sound(&DOCUMENT_01, form, row).is_some();
+    let namesakes = rows().filter(|row| bears(row, subject.name) && is_sound(row));
     let mut operators: Vec<u8> = namesakes.map(|row| row[OPERATOR]).collect();
     operators.sort_unstable();
     operators.dedup();
@@ -198,23 +206,24 @@ fn signs_of_rows(subject: &Subject, table: &[u8], came: &str) -> Vec<String> {
 }
 
 /// Which numbers hold beside the one that was given, and what the shares are.
-fn signs_of_entering(new: &NewRow, table: &[u8], came: &str) -> Vec<String> {
+fn signs_of_entering(new: &NewRow, lent: Lent, came: &str) -> Vec<String> {
     let mut signs = Vec::new();
     let given = IN_ORDER
         .into_iter()
-        .find(|&number| holds(new, table, number));
+        .find(|&number| holds(new, lent, number));
     if let Some(given) = given {
         let later = IN_ORDER
             .into_iter()
             .skip_while(|&number| number != given)
             .skip(1);
-        let beside = later.filter(|&number| holds(new, table, number));
+        let beside = later.filter(|&number| holds(new, lent, number));
         signs.extend(beside.map(|number| format!("{given} beside {number}, enter")));
     } else {
         signs.push(format!("entered by operator {}", new.operator));
     }
-    if table_fits(table) && operator_fits(new.operator) {
-        let of_shares = signs_of_shares(new, table).into_iter();
+    let (form, table) = lent;
+    if table_fits(form, table) && operator_fits(new.operator) {
+        let of_shares = signs_of_shares(new, lent).into_iter();
         signs.extend(of_shares.map(|sign| format!("{sign}, {came}")));
     }
     signs
@@ -222,22 +231,23 @@ fn signs_of_entering(new: &NewRow, table: &[u8], came: &str) -> Vec<String> {
 
 /// Whether a number holds of an entering, whatever comes before it. Of a table that does
 /// not fit, and of an operator over 15, some are not asked.
-fn holds(new: &NewRow, table: &[u8], number: u8) -> bool {
-    let (fits, known) = (table_fits(table), operator_fits(new.operator));
+fn holds(new: &NewRow, (form, table): Lent, number: u8) -> bool {
+    let (fits, known) = (table_fits(form, table), operator_fits(new.operator));
     match number {
         1 => !fits,
         33 => !known,
-        26 => !shares_fit(table, new.shares),
+        26 => !shares_fit(form, table, new.shares),
         9 => !name_fits(new.name),
-        10 => fits && find(table, new.operator, new.name).is_some(),
-        27 => fits && known && share_is_full(table, new),
-        _ => fits && !table.chunks_exact(ROW).any(row_is_free),
+        10 => fits && find(form, table, new.operator, new.name).is_some(),
+        27 => fits && known && share_is_full(form, table, new),
+        _ => fits && !rows(form, table).any(row_is_free),
     }
 }
 
-fn signs_of_shares(new: &NewRow, table: &[u8]) -> Vec<String> {
-    let mut signs = signs_of_sum(new.shares, (table.len() / ROW) as u64);
-    signs.extend(signs_of_own_share(new, table));
+fn signs_of_shares(new: &NewRow, (form, table): Lent) -> Vec<String> {
+    let rows = (table.len() / form.row()) as u64;
+    let mut signs = signs_of_sum(new.shares, rows);
+    signs.extend(signs_of_own_share(new, (form, table)));
     signs
 }
 
@@ -262,15 +272,15 @@ fn signs_of_sum(shares: &[u32], rows: u64) -> Vec<String> {
 }
 
 /// Which rows fill the operator's own share, or would.
-fn signs_of_own_share(new: &NewRow, table: &[u8]) -> Vec<String> {
-    let rows = || table.chunks_exact(ROW);
+fn signs_of_own_share(new: &NewRow, (form, table): Lent) -> Vec<String> {
+    let rows = || rows(form, table);
     let its = |row: &&[u8]| is_of(row, new.operator);
     let share = new.shares.get(new.operator as usize).copied();
     let share = share.unwrap_or(0) as usize;
-    let own = own_rows(table, new.operator);
+    let own = own_rows(form, table, new.operator);
     let open = own < share;
     let free = rows().any(row_is_free);
-    let whole = rows().filter(|row| its(row) && sound(&DOCUMENT_01, row).is_some());
+    let whole = rows().filter(|row| its(row) && sound(&DOCUMENT_01, form, row).is_some());
     let begun = rows().filter(|row| row[0] == 1);
     let held = rows().filter(|row| its(row) && !row_is_free(row));
     let as_many = own == share && own > 0;

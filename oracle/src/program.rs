@@ -3,31 +3,37 @@
 use crate::Outcome;
 use crate::handling::Call;
 use crate::rules::Rules;
-use crate::set_up::{NewEntry, NewRow};
+use crate::set_up::{Account, NewEntry, NewRow};
 
-/// A program that offers the four operations: the oracle, or one compared with it.
+/// A program that offers the five operations: the oracle, or one compared with it. `form`
+/// is the one in which the table is lent; for a move, the one to move to.
 pub trait Program {
-    fn clear(&mut self, table: &mut [u8]) -> u8;
-    fn enter(&mut self, table: &mut [u8], new: &NewRow) -> u8;
-    fn add(&mut self, table: &mut [u8], operator: u32, name: &[u8], new: &NewEntry) -> u8;
+    fn clear(&mut self, form: u32, table: &mut [u8]) -> u8;
+    fn enter(&mut self, form: u32, table: &mut [u8], new: &NewRow) -> u8;
+    fn add(&mut self, form: u32, table: &mut [u8], of: &Account, new: &NewEntry) -> u8;
     fn handle(&mut self, call: Call) -> Outcome;
+    fn move_table(&mut self, source: &[u8], target: &mut [u8], form: u32) -> u8;
 }
 
 impl Program for Rules {
-    fn clear(&mut self, table: &mut [u8]) -> u8 {
-        (self.clear)(self, table)
+    fn clear(&mut self, form: u32, table: &mut [u8]) -> u8 {
+        (self.clear)(self, form, table)
     }
 
-    fn enter(&mut self, table: &mut [u8], new: &NewRow) -> u8 {
-        (self.enter)(self, table, new)
+    fn enter(&mut self, form: u32, table: &mut [u8], new: &NewRow) -> u8 {
+        (self.enter)(self, form, table, new)
     }
 
-    fn add(&mut self, table: &mut [u8], operator: u32, name: &[u8], new: &NewEntry) -> u8 {
-        (self.add)(self, table, operator, name, new)
+    fn add(&mut self, form: u32, table: &mut [u8], of: &Account, new: &NewEntry) -> u8 {
+        (self.add)(self, form, table, of, new)
     }
 
     fn handle(&mut self, call: Call) -> Outcome {
         (self.handle)(self, call)
+    }
+
+    fn move_table(&mut self, source: &[u8], target: &mut [u8], form: u32) -> u8 {
+        (self.move_table)(self, source, target, form)
     }
 }
 
@@ -52,6 +58,7 @@ impl Room {
 /// The inputs of a request's call, apart from the table.
 #[derive(Clone, Debug, PartialEq, Eq)]
 pub struct Asked {
+    pub form: u32,
     pub operator: u32,
     pub host: Vec<u8>,
     pub realm: Vec<u8>,
@@ -63,13 +70,17 @@ pub struct Asked {
 
 #[derive(Clone, Debug, PartialEq, Eq)]
 pub enum Operation {
-    Clear,
+    Clear {
+        form: u32,
+    },
     Enter {
+        form: u32,
         operator: u32,
         shares: Vec<u32>,
         name: Vec<u8>,
     },
     Add {
+        form: u32,
         operator: u32,
         name: Vec<u8>,
         label: Vec<u8>,
@@ -77,11 +88,41 @@ pub enum Operation {
         flags: u8,
     },
     Handle(Asked),
+    /// The table is the source, and stays.
+    Move {
+        form: u32,
+        target: Room,
+    },
+}
+
+impl Operation {
+    /// The number by which the call says a form.
+    pub fn form(&self) -> u32 {
+        match self {
+            Operation::Clear { form }
+            | Operation::Enter { form, .. }
+            | Operation::Add { form, .. }
+            | Operation::Move { form, .. } => *form,
+            Operation::Handle(asked) => asked.form,
+        }
+    }
+
+    /// The same call with another form said.
+    pub fn saying(mut self, number: u32) -> Operation {
+        match &mut self {
+            Operation::Clear { form }
+            | Operation::Enter { form, .. }
+            | Operation::Add { form, .. }
+            | Operation::Move { form, .. } => *form = number,
+            Operation::Handle(asked) => asked.form = number,
+        }
+        self
+    }
 }
 
 /// What came of an operation besides the table. The numbers are code, kind, length,
-/// place, cut, and the lengths of the cut texts; set-up has only the first, and no
-/// rooms.
+/// place, cut, and the lengths of the cut texts; set-up and moving have only the first.
+/// Set-up has no rooms; the target of a move stands where the answer room does.
 #[derive(Clone, Debug, PartialEq, Eq, Default)]
 pub struct Seen {
     pub numbers: [u32; 7],
@@ -90,45 +131,45 @@ pub struct Seen {
 }
 
 pub fn perform(program: &mut dyn Program, operation: &Operation, table: &mut [u8]) -> Seen {
+    let mut seen = Seen::default();
     let number = match operation {
-        Operation::Clear => program.clear(table),
+        Operation::Clear { form } => program.clear(*form, table),
         Operation::Enter {
+            form,
             operator,
             shares,
             name,
         } => {
             let operator = *operator;
-            program.enter(
-                table,
-                &NewRow {
-                    operator,
-                    shares,
-                    name,
-                },
-            )
+            let new = NewRow {
+                operator,
+                shares,
+                name,
+            };
+            program.enter(*form, table, &new)
         }
         Operation::Add {
+            form,
             operator,
             name,
             label,
             limit,
             flags,
         } => {
-            let (limit, flags) = (*limit, *flags);
-            program.add(
-                table,
-                *operator,
-                name,
-                &NewEntry {
-                    label,
-                    limit,
-                    flags,
-                },
-            )
+            let (operator, limit, flags) = (*operator, *limit, *flags);
+            let new = NewEntry {
+                label,
+                limit,
+                flags,
+            };
+            program.add(*form, table, &Account { operator, name }, &new)
         }
         Operation::Handle(asked) => return perform_handle(program, asked, table),
+        Operation::Move { form, target } => {
+            seen.answer_room = target.fresh();
+            program.move_table(table, &mut seen.answer_room, *form)
+        }
     };
-    let mut seen = Seen::default();
     seen.numbers[0] = u32::from(number);
     seen
 }
@@ -137,6 +178,7 @@ fn perform_handle(program: &mut dyn Program, asked: &Asked, table: &mut [u8]) ->
     let mut answer_room = asked.answer_room.fresh();
     let mut notice_room = asked.notice_room.fresh();
     let outcome = program.handle(Call {
+        form: asked.form,
         table,
         operator: asked.operator,
         host: &asked.host,

@@ -2,6 +2,7 @@
 //! what each command must carry.
 
 use crate::rules::Rules;
+use crate::the_table::Form;
 use crate::{Code, plain};
 
 pub const VENDOR_3GPP: u32 = 10_415;
@@ -170,53 +171,65 @@ pub enum Needed {
 
 /// What its value has to be.
 #[derive(Clone, Copy, Debug, PartialEq, Eq)]
-pub enum Form {
+pub enum ValueForm {
     /// At least 1 and at most this many bytes.
     Text(usize),
     /// Four bytes; the value from the first to the second, both allowed.
     Number(u32, u32),
 }
 
+/// An AVP of a list. `most` is how often it may stand.
 #[derive(Clone, Copy, Debug, PartialEq, Eq)]
 pub struct Field {
     pub name: Name,
     pub needed: Needed,
-    pub form: Form,
+    pub form: ValueForm,
+    pub most: usize,
 }
 
-const fn field(name: Name, needed: Needed, form: Form) -> Field {
-    Field { name, needed, form }
+const fn field(name: Name, needed: Needed, form: ValueForm) -> Field {
+    Field {
+        name,
+        needed,
+        form,
+        most: 1,
+    }
 }
 
-const TEXT: Form = Form::Text(128);
-const LABEL: Form = Form::Text(100);
+const TEXT: ValueForm = ValueForm::Text(128);
+const LABEL: ValueForm = ValueForm::Text(100);
 
 pub const LIST_BOTH: [Field; 5] = [
     field(SESSION_ID, Needed::First, TEXT),
-    field(AUTH_APPLICATION_ID, Needed::Always, Form::Number(1, 1)),
+    field(AUTH_APPLICATION_ID, Needed::Always, ValueForm::Number(1, 1)),
     field(ORIGIN_HOST, Needed::Always, TEXT),
     field(ORIGIN_REALM, Needed::Always, TEXT),
     field(DESTINATION_REALM, Needed::Always, TEXT),
 ];
 
 pub const LIST_265: [Field; 7] = [
-    field(AUTH_REQUEST_TYPE, Needed::Always, Form::Number(2, 2)),
+    field(AUTH_REQUEST_TYPE, Needed::Always, ValueForm::Number(2, 2)),
     field(DESTINATION_HOST, Needed::Always, TEXT),
     field(USER_NAME, Needed::Always, TEXT),
-    field(SESSION_REQUEST_TYPE, Needed::Always, Form::Number(0, 1)),
+    field(
+        SESSION_REQUEST_TYPE,
+        Needed::Always,
+        ValueForm::Number(0, 1),
+    ),
     field(VISITED_NETWORK, Needed::Never, TEXT),
     field(W_APN, Needed::ForType(0), LABEL),
     field(ROUTING_POLICY, Needed::ForType(1), TEXT),
 ];
 
 pub const LIST_275: [Field; 4] = [
-    field(TERMINATION_CAUSE, Needed::Always, Form::Number(1, 8)),
+    field(TERMINATION_CAUSE, Needed::Always, ValueForm::Number(1, 8)),
     field(DESTINATION_HOST, Needed::Always, TEXT),
     field(USER_NAME, Needed::Always, TEXT),
     field(W_APN, Needed::Always, LABEL),
 ];
 
-/// The values of a request that passed its lists.
+/// The values of a request that passed its lists, several under one name in the order
+/// in which they stand.
 #[derive(Clone, Debug, PartialEq, Eq, Default)]
 pub struct Request<'m> {
     pub command: u32,
@@ -229,6 +242,12 @@ impl<'m> Request<'m> {
         found.map(|(_, value)| *value)
     }
 
+    /// All values of a name.
+    pub fn all(&self, name: Name) -> Vec<&'m [u8]> {
+        let named = self.values.iter().filter(|(n, _)| *n == name);
+        named.map(|(_, value)| *value).collect()
+    }
+
     /// A text, empty where it is not there.
     pub fn text(&self, name: Name) -> &'m [u8] {
         self.get(name).unwrap_or_default()
@@ -239,51 +258,64 @@ impl<'m> Request<'m> {
     }
 }
 
-/// The list of a command, what both have in common first.
-pub fn list(command: u32) -> Vec<Field> {
+/// The list of a command, what both have in common first. For a table of form 2 a
+/// policy may come as often as an access can hold one.
+pub fn list(form: Form, command: u32) -> Vec<Field> {
     let own: &[Field] = match command {
         AA => &LIST_265,
         TERMINATION => &LIST_275,
         _ => &[],
     };
-    [&LIST_BOTH, own].concat()
+    let mut fields = [&LIST_BOTH, own].concat();
+    for field in &mut fields {
+        if field.name == ROUTING_POLICY {
+            field.most = form.policies();
+        }
+    }
+    fields
 }
 
 /// Takes the fields in list order; all tests of one come before those of the next.
-pub fn read_list<'m>(rules: &Rules, command: u32, avps: &[Avp<'m>]) -> Result<Request<'m>, Code> {
+pub fn read_list<'m>(
+    rules: &Rules,
+    form: Form,
+    command: u32,
+    avps: &[Avp<'m>],
+) -> Result<Request<'m>, Code> {
     let mut request = Request {
         command,
         values: Vec::new(),
     };
-    for field in (rules.list)(command) {
+    for field in (rules.list)(form, command) {
         let needed = match field.needed {
             Needed::ForType(which) => request.session_type() == Some(which),
             other => other != Needed::Never,
         };
-        match (rules.read_field)(rules, avps, &field)? {
-            Some(value) => request.values.push((field.name, value)),
-            None if needed => return Err(plain(5005)),
-            None => (),
+        let values = (rules.read_field)(rules, avps, &field)?;
+        if values.is_empty() && needed {
+            return Err(plain(5005));
         }
+        let named = values.into_iter().map(|value| (field.name, value));
+        request.values.extend(named);
     }
     Ok(request)
 }
 
-/// One field: absent (`None`), twice, length wrong, value wrong, in this order.
+/// One field: absent (no value), too often, then length and value of each that is
+/// there, in this order.
 pub fn read_field<'m>(
     rules: &Rules,
     avps: &[Avp<'m>],
     field: &Field,
-) -> Result<Option<&'m [u8]>, Code> {
+) -> Result<Vec<&'m [u8]>, Code> {
     let copies = copies(rules, avps, field);
-    let Some(value) = copies.first() else {
-        return Ok(None);
-    };
-    if copies.len() > 1 {
+    if copies.len() > field.most {
         return Err(plain(5009));
     }
-    length_and_value(value, field.form)?;
-    Ok(Some(value))
+    for value in &copies {
+        length_and_value(value, field.form)?;
+    }
+    Ok(copies)
 }
 
 /// The values of all AVPs with the field's name; none where the field must come
@@ -297,11 +329,11 @@ pub fn copies<'m>(rules: &Rules, avps: &[Avp<'m>], field: &Field) -> Vec<&'m [u8
     avps.iter().filter(named).map(|avp| avp.value).collect()
 }
 
-pub fn length_and_value(value: &[u8], form: Form) -> Result<(), Code> {
+pub fn length_and_value(value: &[u8], form: ValueForm) -> Result<(), Code> {
     match form {
-        Form::Text(most) if !(1..=most).contains(&value.len()) => Err(plain(5014)),
-        Form::Number(..) if value.len() != 4 => Err(plain(5014)),
-        Form::Number(low, high) if !(low..=high).contains(&number(value)) => Err(plain(5004)),
+        ValueForm::Text(most) if !(1..=most).contains(&value.len()) => Err(plain(5014)),
+        ValueForm::Number(..) if value.len() != 4 => Err(plain(5014)),
+        ValueForm::Number(low, high) if !(low..=high).contains(&number(value)) => Err(plain(5004)),
         _ => Ok(()),
     }
 }

@@ -4,6 +4,7 @@ use std::collections::BTreeMap;
 use std::fmt;
 
 use crate::either_case::{PAIRS, PLACES_OF_LABELS, Texts, pair_key, signs};
+use crate::form_signs::{WANTED_OF_FORMS, signs_of_forms};
 use crate::known_avps::{UNKNOWN, known_and_ignored, supported};
 use crate::operator_signs::{Subject, WANTED_OF_OPERATORS, signs_of_operators};
 use crate::program::{Asked, Operation, Seen};
@@ -11,7 +12,7 @@ use crate::reading_a_message::{
     AA, Avp, HEADER, MANDATORY, Name, SESSION_ID, SESSION_REQUEST_TYPE, TERMINATION, USER_NAME,
     VENDOR, W_APN, header, is, number, walk_tests,
 };
-use crate::the_table::{Row, decode, find, row_at};
+use crate::the_table::{FORMS, Form, Row, decode, find, row_at};
 
 #[derive(Clone, Debug, Default)]
 pub struct Report {
@@ -35,22 +36,23 @@ const WANTED: [(&str, &str); 4] = [
     ("other command", "3001 3008 5013"),
 ];
 
-/// The numbers of the four operations, apart from the codes above.
-const NUMBERS: [(&str, &[u32]); 4] = [
+/// The numbers of the five operations, apart from the codes above.
+const NUMBERS: [(&str, &[u32]); 5] = [
     ("clear", &[0, 1]),
     ("enter", &[0, 1, 33, 26, 9, 10, 27, 11]),
     ("add", &[0, 1, 33, 12, 13, 14, 15, 16, 17]),
     ("handle", &[1, 33, 2, 3, 4, 5, 6, 7, 8]),
+    ("move", &[0, 1, 19, 20, 21]),
 ];
 
 /// Everything that has to come up at least once.
 fn wanted() -> Vec<String> {
-    let mut all = Vec::new();
-    for (operation, numbers) in NUMBERS {
-        all.extend(numbers.iter().map(|n| number_key(operation, *n)));
-    }
-    for (sort, codes) in WANTED {
-        all.extend(codes.split(' ').map(|code| format!("{sort}: {code}")));
+    let mut all = numbers_and_codes();
+    let in_form = |form: Form| move |key: &String| format!("form {}, {key}", form.number());
+    for form in FORMS {
+        let those = numbers_and_codes().into_iter();
+        let those = those.filter(|key| !key.starts_with("move"));
+        all.extend(those.map(|key| in_form(form)(&key)));
     }
     all.extend((1..=8).map(|place| format!("place {place}")));
     all.extend((1..=8).map(|place| format!("cut from line position {place}")));
@@ -65,6 +67,20 @@ fn wanted() -> Vec<String> {
     all.extend([AT_FIRST, LATER, BEFORE_BROKEN, BEHIND_BROKEN].map(str::to_string));
     all.extend([3001, 3007, 3008, 5013].map(beside_key));
     all.extend(WANTED_OF_OPERATORS.iter().cloned());
+    all.extend(WANTED_OF_FORMS.iter().cloned());
+    all
+}
+
+/// What each operation and each sort of request can be given; all but moves come up in
+/// both forms.
+fn numbers_and_codes() -> Vec<String> {
+    let mut all = Vec::new();
+    for (operation, numbers) in NUMBERS {
+        all.extend(numbers.iter().map(|n| number_key(operation, *n)));
+    }
+    for (sort, codes) in WANTED {
+        all.extend(codes.split(' ').map(|code| format!("{sort}: {code}")));
+    }
     all
 }
 
@@ -124,7 +140,8 @@ impl Report {
     pub fn count(&mut self, operation: &Operation, table: &[u8], seen: &Seen) {
         let code = seen.numbers[0];
         let key = match operation {
-            Operation::Clear => number_key("clear", code),
+            Operation::Clear { .. } => number_key("clear", code),
+            Operation::Move { .. } => number_key("move", code),
             Operation::Enter { .. } => number_key("enter", code),
             Operation::Add { .. } => number_key("add", code),
             Operation::Handle(_) if seen.numbers[1] == 0 => number_key("handle", code),
@@ -135,7 +152,9 @@ impl Report {
                 format!("{}: {mark}{code}", sort(&asked.message))
             }
         };
-        for sign in signs(&texts(operation), table) {
+        let form = Form::numbered(operation.form());
+        let subject = subject(operation);
+        for sign in form.map_or(Vec::new(), |form| signs(&texts(operation), form, table)) {
             let of_bytes = sign.starts_with("bytes");
             self.add(if of_bytes {
                 sign
@@ -143,7 +162,10 @@ impl Report {
                 format!("{sign}, {key}")
             });
         }
-        for sign in signs_of_operators(operation, &subject(operation), table, &key) {
+        for sign in signs_of_operators(operation, &subject, table, &key) {
+            self.add(sign);
+        }
+        for sign in signs_of_forms(operation, &subject, table, seen, &key) {
             self.add(sign);
         }
         self.add(key);
@@ -225,7 +247,7 @@ impl fmt::Display for Report {
 
 /// The AVPs as far as lengths lead, and which of them or what behind them is broken;
 /// one with reserved bits is stepped over here.
-fn loosely_read(message: &[u8]) -> (Vec<Avp<'_>>, Option<usize>) {
+pub fn loosely_read(message: &[u8]) -> (Vec<Avp<'_>>, Option<usize>) {
     let (mut avps, mut broken) = (Vec::new(), None);
     let mut rest = message.get(HEADER..).unwrap_or_default();
     while !rest.is_empty() {
@@ -256,7 +278,7 @@ fn by_length(rest: &[u8]) -> Option<Avp<'_>> {
 }
 
 /// The AVPs that can be read before one fails, by name and value.
-fn readable(message: &[u8], name: Name) -> Option<&[u8]> {
+pub fn readable(message: &[u8], name: Name) -> Option<&[u8]> {
     let mut rest = message.get(HEADER..)?;
     while let Ok(avp) = walk_tests(rest) {
         if is(&avp, name) {
@@ -282,7 +304,7 @@ fn sort(message: &[u8]) -> &'static str {
 /// Who calls, and for which name.
 fn subject(operation: &Operation) -> Subject<'_> {
     let (operator, name) = match operation {
-        Operation::Clear => (0, &[][..]),
+        Operation::Clear { .. } | Operation::Move { .. } => (0, &[][..]),
         Operation::Enter { operator, name, .. } | Operation::Add { operator, name, .. } => {
             (*operator, name.as_slice())
         }
@@ -331,6 +353,7 @@ fn texts(operation: &Operation) -> Texts<'_> {
 
 fn row_of(asked: &Asked, table: &[u8]) -> Option<Row> {
     let name = readable(&asked.message, USER_NAME)?;
-    let index = find(table, asked.operator, name)?;
-    decode(row_at(table, index))
+    let form = Form::numbered(asked.form)?;
+    let index = find(form, table, asked.operator, name)?;
+    decode(form, row_at(form, table, index))
 }

@@ -5,7 +5,7 @@ use std::fmt::Write;
 
 use crate::random::Random;
 use crate::rules::{DOCUMENT_01, Rules};
-use crate::the_table::{Access, Entry, Row};
+use crate::the_table::{Access, Entry, Policies, Row};
 
 /// The old rule: the server numbers its tunnels with 16 bits, and the lowest number is cut. A
 /// Session-Id here ends in the count of all openings, from which that number follows.
@@ -91,7 +91,8 @@ pub fn month(rules: &Rules, seed: u64) -> Vec<Cut> {
                 entry: 1,
                 session: format!("gw.example;{count}").into_bytes(),
                 host: b"gw.example".to_vec(),
-                policy: None,
+                realm: Vec::new(),
+                policies: Policies::default(),
             });
             row.line.push(place);
             ends[usize::from(place - 1)] = now + lasts;

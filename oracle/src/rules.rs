@@ -4,60 +4,69 @@
 
 use crate::handling::{Call, handle, no_answer};
 use crate::known_avps::supported;
+use crate::moving::{move_table, row_may_move, says_form_1};
 use crate::reading_a_message::{
     Avp, Field, Header, Name, Request, header_tests, is, list, read_field, read_list, walk_is_over,
     walk_tests,
 };
 use crate::set_up::{
-    NewEntry, NewRow, add, clear, enter, may_add, operator_fits, row_is_free, share_is_full,
+    Account, NewEntry, NewRow, add, clear, enter, may_add, operator_fits, share_is_full,
     shares_fit, table_fits,
 };
-use crate::the_table::{Access, CONDITIONS, Row, find, store, sums};
+use crate::the_table::{Access, CONDITIONS, Form, Row, find, row_is_free, store, sums};
 use crate::writing_the_answer::{
     Reply, answer_flags, auth_part, notice, proxy_part, result_part, session_part,
     subscription_part,
 };
 use crate::{Code, Outcome, deciding};
 
-type ReadList = for<'m> fn(&Rules, u32, &[Avp<'m>]) -> Result<Request<'m>, Code>;
-type ReadField = for<'m> fn(&Rules, &[Avp<'m>], &Field) -> Result<Option<&'m [u8]>, Code>;
+type ReadList = for<'m> fn(&Rules, Form, u32, &[Avp<'m>]) -> Result<Request<'m>, Code>;
+type ReadField = for<'m> fn(&Rules, &[Avp<'m>], &Field) -> Result<Vec<&'m [u8]>, Code>;
+type Find = fn(&Rules, Form, &[u8], u32, &[u8]) -> Option<usize>;
 type Part = fn(&Reply) -> Vec<u8>;
 
 #[derive(Clone, Copy)]
 pub struct Rules {
-    // The four operations.
-    pub clear: fn(&Rules, &mut [u8]) -> u8,
-    pub enter: fn(&Rules, &mut [u8], &NewRow) -> u8,
-    pub add: fn(&Rules, &mut [u8], u32, &[u8], &NewEntry) -> u8,
+    // The five operations. The first four are told by a number which form is lent, the
+    // last one to which form the table goes.
+    pub clear: fn(&Rules, u32, &mut [u8]) -> u8,
+    pub enter: fn(&Rules, u32, &mut [u8], &NewRow) -> u8,
+    pub add: fn(&Rules, u32, &mut [u8], &Account, &NewEntry) -> u8,
     pub handle: fn(&Rules, Call) -> Outcome,
+    pub move_table: fn(&Rules, &[u8], &mut [u8], u32) -> u8,
     // Calls that get no Diameter answer, and set-up.
     pub no_answer: fn(&Rules, &Call) -> u16,
-    pub table_fits: fn(&[u8]) -> bool,
+    pub form_numbered: fn(u32) -> Option<Form>,
+    pub table_fits: fn(Form, &[u8]) -> bool,
     pub operator_fits: fn(u32) -> bool,
-    pub shares_fit: fn(&[u8], &[u32]) -> bool,
-    pub share_is_full: fn(&Rules, &[u8], &NewRow) -> bool,
+    pub shares_fit: fn(Form, &[u8], &[u32]) -> bool,
+    pub share_is_full: fn(&Rules, Form, &[u8], &NewRow) -> bool,
     pub row_is_free: fn(&[u8]) -> bool,
     pub may_add: fn(&Row, &NewEntry) -> u8,
+    // Moving.
+    pub row_may_move: fn(&Rules, Form, &[u8]) -> bool,
+    pub says_form_1: fn(&Row) -> bool,
     // Reading a message.
     pub header_tests: fn(&Header) -> Result<(), Code>,
     pub walk_is_over: fn(&[u8]) -> bool,
     pub walk_tests: fn(&[u8]) -> Result<Avp<'_>, Code>,
     pub supported: fn(&Avp) -> Result<(), Code>,
     pub is: fn(&Avp, Name) -> bool,
-    pub list: fn(u32) -> Vec<Field>,
+    pub list: fn(Form, u32) -> Vec<Field>,
     pub read_list: ReadList,
     pub read_field: ReadField,
     // The table.
     pub sums: fn(&[u8]) -> [u8; 2],
-    pub same_row: fn(&[u8], &[u8]) -> bool,
+    pub same_row: fn(Form, &[u8], &[u8]) -> bool,
     pub conditions: &'static [fn(&Row) -> bool],
-    pub find: fn(&Rules, &[u8], u32, &[u8]) -> Option<usize>,
-    pub store: fn(&Rules, &mut [u8], usize, &Row),
+    pub find: Find,
+    pub store: fn(&Rules, Form, &mut [u8], usize, &Row),
     // Deciding.
     pub may_open: fn(&Row, &Request) -> Result<u8, Code>,
     pub at_limit: fn(&Row, u8) -> bool,
     pub place_to_cut: fn(&Row, u8) -> Option<u8>,
     pub place_to_take: fn(&Row, Option<u8>) -> Option<u8>,
+    pub realm_to_keep: fn(Form, &Request) -> Vec<u8>,
     pub take_policy: fn(&mut Row, &Request, bool) -> Result<(), Code>,
     pub terminate: fn(&mut Row, &Request) -> Result<(), Code>,
     // Writing the answer.
@@ -75,13 +84,17 @@ pub const DOCUMENT_01: Rules = Rules {
     enter,
     add,
     handle,
+    move_table,
     no_answer,
+    form_numbered: Form::numbered,
     table_fits,
     operator_fits,
     shares_fit,
-    share_is_full: |_, table, new| share_is_full(table, new),
+    share_is_full: |_, form, table, new| share_is_full(form, table, new),
     row_is_free,
     may_add,
+    row_may_move,
+    says_form_1,
     header_tests,
     walk_is_over,
     walk_tests,
@@ -91,14 +104,15 @@ pub const DOCUMENT_01: Rules = Rules {
     read_list,
     read_field,
     sums,
-    same_row: |held, written| held == written,
+    same_row: |_, held, written| held == written,
     conditions: CONDITIONS,
-    find: |_, table, operator, name| find(table, operator, name),
+    find: |_, form, table, operator, name| find(form, table, operator, name),
     store,
     may_open: deciding::may_open,
     at_limit: deciding::at_limit,
     place_to_cut: deciding::place_to_cut,
     place_to_take: deciding::place_to_take,
+    realm_to_keep: deciding::realm_to_keep,
     take_policy: deciding::take_policy,
     terminate: deciding::terminate,
     answer_flags,

@@ -2,12 +2,12 @@
 //! them; how they are recorded and how a program is judged by them.
 
 use crate::program::{Operation, Program, Room, Seen, perform};
-use crate::the_table::ROW;
+use crate::the_table::Form;
 
 /// A patch brings at most so many bytes.
 pub const LONGEST_PATCH: usize = 32_768;
 /// Up to this many bytes of table, every call has the table's digests.
-pub const SMALL_TABLE: usize = 16 * ROW;
+pub const SMALL_TABLE: usize = 16 * Form::Two.row();
 
 const PRIME: u64 = 2_147_483_647;
 pub const K1: u64 = 1_103_515_245;
@@ -62,16 +62,19 @@ pub enum Record {
     Call(Operation, Expected),
 }
 
+/// Tables are compared piece by piece, and only pieces that differ byte by byte.
+const PIECE: usize = 4_096;
+
 /// The stretches in which two tables of one length differ. Stretches with little
 /// between them are taken as one.
 pub fn runs(old: &[u8], new: &[u8]) -> Vec<(u32, Vec<u8>)> {
     let mut found: Vec<(usize, usize)> = Vec::new();
-    for (row, (was, is)) in old.chunks(ROW).zip(new.chunks(ROW)).enumerate() {
+    for (piece, (was, is)) in old.chunks(PIECE).zip(new.chunks(PIECE)).enumerate() {
         if was == is {
             continue;
         }
         for at in (0..was.len()).filter(|&i| was[i] != is[i]) {
-            let at = row * ROW + at;
+            let at = piece * PIECE + at;
             match found.last_mut() {
                 Some((start, end)) if at - *end < 9 && at - *start < LONGEST_PATCH => *end = at + 1,
                 _ => found.push((at, at + 1)),
@@ -82,11 +85,16 @@ pub fn runs(old: &[u8], new: &[u8]) -> Vec<(u32, Vec<u8>)> {
     found.into_iter().map(bytes).collect()
 }
 
-/// What a call has to give, from what the oracle gave.
+/// What a call has to give, from what the oracle gave. A move that succeeded has written
+/// its whole target, one that did not none of it.
 pub fn expect(operation: &Operation, seen: &Seen, old: &[u8], new: &[u8], mark: bool) -> Expected {
-    let length = seen.numbers[2] as usize;
+    let done = seen.numbers[0] == 0;
+    let length = match operation {
+        Operation::Move { target, .. } if done => target.length as usize,
+        _ => seen.numbers[2] as usize,
+    };
     let noticed = if seen.numbers[4] == 1 { 256 } else { 0 };
-    let cleared = *operation == Operation::Clear && seen.numbers[0] == 0;
+    let cleared = matches!(operation, Operation::Clear { .. }) && done;
     Expected {
         numbers: seen.numbers,
         answer: seen.answer_room[..length].to_vec(),
@@ -131,13 +139,21 @@ fn compare(operation: &Operation, seen: &Seen, expected: &Expected) -> Result<()
     if seen.numbers != expected.numbers {
         return Err("the numbers returned");
     }
-    if let Operation::Handle(asked) = operation {
-        if !room_holds(asked.answer_room, &seen.answer_room, &expected.answer) {
-            return Err("the answer room");
+    match operation {
+        Operation::Handle(asked) => {
+            if !room_holds(asked.answer_room, &seen.answer_room, &expected.answer) {
+                return Err("the answer room");
+            }
+            if !room_holds(asked.notice_room, &seen.notice_room, &expected.notice) {
+                return Err("the notice room");
+            }
         }
-        if !room_holds(asked.notice_room, &seen.notice_room, &expected.notice) {
-            return Err("the notice room");
+        Operation::Move { target, .. }
+            if !room_holds(*target, &seen.answer_room, &expected.answer) =>
+        {
+            return Err("the target room");
         }
+        _ => (),
     }
     Ok(())
 }
@@ -165,14 +181,15 @@ fn compare_table(table: &[u8], expected: &Expected) -> Result<(), &'static str> 
     }
 }
 
-/// Spoils what is expected of twelve calls, a different thing of each: the seven numbers, the
-/// answer, the notice, the table, and both digests. Whoever plays the script must report just these calls;
-/// a player that reports none of them can not be trusted with a script that is right. It says how
-/// many were spoiled.
+/// Spoils what is expected of fifteen calls, a different thing of each: of requests the seven
+/// numbers, the answer, the notice, the table, and both digests; of moves the number, the target, and
+/// a target that is expected to be written though the move is refused. Whoever plays the script must
+/// report just these calls; a player that reports none of them can not be trusted with a script that is
+/// right. It says how many were spoiled.
 pub fn spoil(records: &mut [Record]) -> usize {
     let mut spoiled = 0;
     let mut at = 0;
-    for kind in 0..12 {
+    for kind in 0..15 {
         while at < records.len() && !spoil_record(&mut records[at], kind) {
             at += 1;
         }
@@ -183,9 +200,25 @@ pub fn spoil(records: &mut [Record]) -> usize {
 }
 
 fn spoil_record(record: &mut Record, kind: usize) -> bool {
-    let Record::Call(Operation::Handle { .. }, expected) = record else {
-        return false;
-    };
+    match record {
+        Record::Call(Operation::Handle(_), expected) if kind < 12 => spoil_request(expected, kind),
+        Record::Call(Operation::Move { target, .. }, expected) => match kind {
+            12 => {
+                expected.numbers[0] += 1;
+                true
+            }
+            13 => spoil_last(&mut expected.answer),
+            14 if target.length > 0 && expected.answer.is_empty() => {
+                expected.answer = vec![target.fill(0) ^ 1];
+                true
+            }
+            _ => false,
+        },
+        _ => false,
+    }
+}
+
+fn spoil_request(expected: &mut Expected, kind: usize) -> bool {
     match kind {
         0..7 => expected.numbers[kind] += 1,
         7 => return spoil_last(&mut expected.answer),

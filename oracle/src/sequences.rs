@@ -1,49 +1,63 @@
 //! Long sequences for several subscribers on one table.
 
-use crate::cases::{digits, entries, garnish, text};
+use crate::cases::{digits, entries, garnish, more_policies, text};
 use crate::damages::odd_row;
 use crate::drafts::{Draft, DraftAvp};
 use crate::either_case::typed;
 use crate::generator::{add, enter, request};
+use crate::moves::move_to;
 use crate::random::Random;
-use crate::reading_a_message::{Name, PROXY_INFO, VISITED_NETWORK};
+use crate::reading_a_message::{Name, ORIGIN_REALM, PROXY_INFO, VISITED_NETWORK};
 use crate::recorder::Recorder;
-use crate::the_table::{BARRED, ROW, Row, decode, find, row_at};
+use crate::the_table::{BARRED, FORMS, Form, Row, decode, find, row_at};
 
 /// An operator and one of its names.
 type Subject = (u32, Vec<u8>);
 
 /// Enters two to four subscribers, of several operators and of few names, then sends
-/// requests for all of them in turn by chance. How often accesses are ended differs, so
-/// that some rows stay full.
+/// requests for all of them in turn by chance, all in one form. How often accesses are
+/// ended differs, so that some rows stay full. In the end the table is moved.
 pub fn sequence(recorder: &mut Recorder, random: &mut Random) {
+    let form = *random.pick(&FORMS);
+    let length = form.row();
     let count = random.from_to(2, 4);
-    let mut table = vec![0; ROW * (count + random.below(3))];
+    let mut table = vec![0; length * (count + random.below(3))];
     if random.once_in(3) {
-        table[..ROW].copy_from_slice(&odd_row(random));
-        table.extend(vec![0; ROW]);
+        table[..length].copy_from_slice(&odd_row(form, random));
+        table.extend(vec![0; length]);
     }
     recorder.set_table(&table);
     let subjects = subjects(count, random);
     let shares = shares_of(&subjects);
-    set_up(recorder, &subjects, &shares, random);
+    set_up(recorder, form, (&subjects, &shares), random);
+    requests(recorder, form, (&subjects, &shares), random);
+    move_to(recorder, form.other(), random);
+}
+
+fn requests(
+    recorder: &mut Recorder,
+    form: Form,
+    (subjects, shares): (&[Subject], &[u32]),
+    random: &mut Random,
+) {
     let ends = *random.pick(&[2, 4, 12]);
     for _ in 0..random.from_to(15, 70) {
-        let (operator, name) = random.pick(&subjects).clone();
+        let (operator, name) = random.pick(subjects).clone();
         if random.once_in(30) {
             let names = [name.clone(), digits(random)];
-            recorder.call(enter(operator, &shares, &names[random.below(2)]), false);
+            let again = enter(form, operator, shares, &names[random.below(2)]);
+            recorder.call(again, false);
         }
-        let index = find(&recorder.table, operator, &name);
-        let row = index.and_then(|i| decode(row_at(&recorder.table, i)));
+        let index = find(form, &recorder.table, operator, &name);
+        let row = index.and_then(|i| decode(form, row_at(form, &recorder.table, i)));
         let Some(row) = row.filter(|_| !recorder.is_full()) else {
             return;
         };
-        let (mut draft, wag) = next_request(&row, ends, random);
+        let (mut draft, wag) = next_request(form, &row, ends, random);
         if random.once_in(3) {
             garnish(&mut draft, random);
         }
-        recorder.call(request(operator, &draft, wag, random), false);
+        recorder.call(request(form, operator, &draft, wag, random), false);
     }
 }
 
@@ -69,24 +83,33 @@ fn shares_of(subjects: &[Subject]) -> Vec<u32> {
 }
 
 /// Enters subscribers with W-APNs; an entry is barred only now and then.
-fn set_up(recorder: &mut Recorder, subjects: &[Subject], shares: &[u32], random: &mut Random) {
+fn set_up(
+    recorder: &mut Recorder,
+    form: Form,
+    (subjects, shares): (&[Subject], &[u32]),
+    random: &mut Random,
+) {
     for (operator, name) in subjects {
         let operator = *operator;
-        recorder.call(enter(operator, shares, name), false);
+        recorder.call(enter(form, operator, shares, name), false);
         for entry in entries(random) {
             let barred = if random.once_in(8) { BARRED } else { 0 };
             let flags = entry.flags & !BARRED | barred;
-            recorder.call(add(operator, name, &entry.label, entry.limit, flags), false);
+            let new = add(form, operator, name, &entry.label, entry.limit, flags);
+            recorder.call(new, false);
         }
     }
 }
 
 /// The next request of a subscriber, and the WAG's word.
-fn next_request(row: &Row, ends: usize, random: &mut Random) -> (Draft, bool) {
+fn next_request(form: Form, row: &Row, ends: usize, random: &mut Random) -> (Draft, bool) {
     let host = [b'p', b'd', b'g', *random.pick(b"12345")];
     let (mut session, mut label) = new_access(row, random);
     if random.below(12) >= 2 + 8 / ends {
         let mut draft = Draft::open(&row.name, &session, &host, &label);
+        if let Some(realm) = draft.avp(ORIGIN_REALM) {
+            realm.value = text(random, 128);
+        }
         company(&mut draft, random);
         // The WAG's word has no say in an opening.
         return (draft, random.once_in(2));
@@ -102,7 +125,8 @@ fn next_request(row: &Row, ends: usize, random: &mut Random) -> (Draft, bool) {
     if random.once_in(ends) {
         return (Draft::termination(&row.name, &session, &host, &label), true);
     }
-    let draft = Draft::policy(&row.name, &session, &host, &text(random, 128));
+    let mut draft = Draft::policy(&row.name, &session, &host, &text(random, 128));
+    more_policies(&mut draft, random.below(form.policies()), random);
     (draft, !random.once_in(5))
 }
 

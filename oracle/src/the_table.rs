@@ -1,13 +1,13 @@
-//! The table: what a row holds, how it stands in bytes, when it is sound, and
-//! how a subscriber's row is found.
+//! The table: what a row holds, how it stands in bytes in each of the two forms, when
+//! it is sound, and how a subscriber's row is found.
 //!
 //! A row is judged by reading it into `Row`, writing that `Row` anew, and asking
 //! for the same bytes. So every unused byte, every sum and the bits of the places
-//! in use are tested at once; what remains are the conditions listed below.
+//! in use are tested at once; what remains are the conditions listed below. One `Row`
+//! serves both forms: in form 1 no access says a realm or more than one policy.
 
 use crate::rules::Rules;
 
-pub const ROW: usize = 4_608;
 pub const BLOCK: usize = 512;
 pub const MOST_ROWS: usize = 1_024;
 pub const PLACES: u8 = 8;
@@ -22,16 +22,76 @@ pub const LINE: usize = 20;
 pub const ENTRIES: usize = 32;
 pub const ENTRY: usize = 104;
 
-/// Offsets inside the block of a place.
+/// Offsets inside the first block of a place.
 pub const SESSION: usize = 8;
 pub const HOST: usize = 136;
 pub const POLICY: usize = 264;
+
+/// Offsets inside its second block, which form 2 alone has.
+pub const REALM: usize = 8;
+pub const SECOND_POLICY: usize = 136;
+pub const THIRD_POLICY: usize = 264;
 
 /// Both sums stand at the end of each block, the second sum first.
 pub const SUMS: usize = 510;
 
 /// No operator has a higher number (W8).
 pub const LAST_OPERATOR: u8 = 15;
+
+/// How a table stands in bytes (W5): in form 2 each place has a second block.
+#[derive(Clone, Copy, Debug, PartialEq, Eq, PartialOrd, Ord)]
+pub enum Form {
+    One,
+    Two,
+}
+
+pub const FORMS: [Form; 2] = [Form::One, Form::Two];
+
+impl Form {
+    /// The form that goes by this number; no other number has one.
+    pub fn numbered(number: u32) -> Option<Form> {
+        FORMS.into_iter().find(|form| form.number() == number)
+    }
+
+    pub const fn number(self) -> u32 {
+        match self {
+            Form::One => 1,
+            Form::Two => 2,
+        }
+    }
+
+    pub const fn other(self) -> Form {
+        match self {
+            Form::One => Form::Two,
+            Form::Two => Form::One,
+        }
+    }
+
+    /// How many bytes a place takes: its blocks are as many as the form's number.
+    pub const fn place(self) -> usize {
+        BLOCK * self.number() as usize
+    }
+
+    /// How many bytes a row takes: block 0, then the places one after another.
+    pub const fn row(self) -> usize {
+        BLOCK + self.place() * PLACES as usize
+    }
+
+    /// Where a place's first block starts in its row.
+    pub fn start(self, place: u8) -> usize {
+        BLOCK + self.place() * (usize::from(place) - 1)
+    }
+
+    /// How many policies an access can hold.
+    pub const fn policies(self) -> usize {
+        match self {
+            Form::One => 1,
+            Form::Two => MOST_POLICIES,
+        }
+    }
+}
+
+pub const MOST_POLICIES: usize = 3;
 
 pub const BARRED: u8 = 1;
 pub const MAY_ROAM: u8 = 2;
@@ -44,13 +104,17 @@ pub struct Entry {
     pub limit: u8,
 }
 
-/// An open tunnel. `entry` counts from 1.
+/// What an access holds for its first, second and third policy.
+pub type Policies = [Option<Vec<u8>>; MOST_POLICIES];
+
+/// An open tunnel. `entry` counts from 1. The realm is of no bytes where none is kept.
 #[derive(Clone, Debug, PartialEq, Eq)]
 pub struct Access {
     pub entry: u8,
     pub session: Vec<u8>,
     pub host: Vec<u8>,
-    pub policy: Option<Vec<u8>>,
+    pub realm: Vec<u8>,
+    pub policies: Policies,
 }
 
 /// One subscriber of one operator. `places[k]` is place k + 1; `line` holds place
@@ -119,8 +183,8 @@ pub fn sums(bytes: &[u8]) -> [u8; 2] {
 }
 
 /// Reads a row. `None` where a count or a length is beyond the field it speaks of.
-pub fn decode(bytes: &[u8]) -> Option<Row> {
-    if bytes.len() != ROW {
+pub fn decode(form: Form, bytes: &[u8]) -> Option<Row> {
+    if bytes.len() != form.row() {
         return None;
     }
     let (head, rest) = bytes.split_at(BLOCK);
@@ -143,9 +207,9 @@ pub fn decode(bytes: &[u8]) -> Option<Row> {
         .copied()
         .take_while(|&place| place != 0)
         .collect();
-    for (place, block) in row.places.iter_mut().zip(rest.chunks(BLOCK)) {
-        if block[0] == 2 {
-            *place = Some(decode_access(block)?);
+    for (place, blocks) in row.places.iter_mut().zip(rest.chunks(form.place())) {
+        if blocks[0] == 2 {
+            *place = Some(decode_access(blocks)?);
         }
     }
     Some(row)
@@ -159,14 +223,25 @@ fn decode_entry(bytes: &[u8]) -> Option<Entry> {
     })
 }
 
-fn decode_access(block: &[u8]) -> Option<Access> {
-    let policy = text(block, POLICY, block[5], 128)?;
-    Some(Access {
-        entry: block[1],
-        session: text(block, SESSION, block[2], 128)?,
-        host: text(block, HOST, block[3], 128)?,
-        policy: (block[4] != 0).then_some(policy),
-    })
+/// An access from the one or two blocks of its place.
+fn decode_access(blocks: &[u8]) -> Option<Access> {
+    let (first, second) = blocks.split_at(BLOCK);
+    let policy = text(first, POLICY, first[5], 128)?;
+    let mut access = Access {
+        entry: first[1],
+        session: text(first, SESSION, first[2], 128)?,
+        host: text(first, HOST, first[3], 128)?,
+        realm: Vec::new(),
+        policies: [(first[4] != 0).then_some(policy), None, None],
+    };
+    if !second.is_empty() {
+        access.realm = text(second, REALM, second[1], 128)?;
+        let policy = text(second, SECOND_POLICY, second[3], 128)?;
+        access.policies[1] = (second[3] != 0).then_some(policy);
+        let policy = text(second, THIRD_POLICY, second[4], 128)?;
+        access.policies[2] = (second[4] != 0).then_some(policy);
+    }
+    Some(access)
 }
 
 fn text(bytes: &[u8], start: usize, length: u8, most: u8) -> Option<Vec<u8>> {
@@ -174,14 +249,17 @@ fn text(bytes: &[u8], start: usize, length: u8, most: u8) -> Option<Vec<u8>> {
     (length <= most).then(|| bytes[start..end].to_vec())
 }
 
-/// Writes a row: its 4,608 bytes, zero where nothing is said, with all nine sums.
-pub fn encode(rules: &Rules, row: &Row) -> Vec<u8> {
-    let mut bytes = vec![0; ROW];
+/// Writes a row: all its bytes, zero where nothing is said, with the sums of every
+/// block. A free place has sums of zero.
+pub fn encode(rules: &Rules, form: Form, row: &Row) -> Vec<u8> {
+    let mut bytes = vec![0; form.row()];
     let (head, rest) = bytes.split_at_mut(BLOCK);
     encode_head(head, row);
-    for (place, block) in row.places.iter().zip(rest.chunks_mut(BLOCK)) {
+    for (place, blocks) in row.places.iter().zip(rest.chunks_mut(form.place())) {
         if let Some(access) = place {
-            encode_access(block, access);
+            let (first, second) = blocks.split_at_mut(BLOCK);
+            encode_first(first, access);
+            encode_second(second, access);
         }
     }
     for block in bytes.chunks_mut(BLOCK) {
@@ -208,18 +286,28 @@ fn encode_head(head: &mut [u8], row: &Row) {
     }
 }
 
-fn encode_access(block: &mut [u8], access: &Access) {
-    let policy = access.policy.as_deref().unwrap_or_default();
+fn encode_first(block: &mut [u8], access: &Access) {
+    let held = &access.policies[0];
+    let policy = held.as_deref().unwrap_or_default();
     let lengths = [access.session.len() as u8, access.host.len() as u8];
     put(block, 0, &[2, access.entry, lengths[0], lengths[1]]);
-    put(
-        block,
-        4,
-        &[u8::from(access.policy.is_some()), policy.len() as u8],
-    );
+    put(block, 4, &[u8::from(held.is_some()), policy.len() as u8]);
     put(block, SESSION, &access.session);
     put(block, HOST, &access.host);
     put(block, POLICY, policy);
+}
+
+/// In form 1 there is no second block, and nothing is written.
+fn encode_second(block: &mut [u8], access: &Access) {
+    let [_, second, third] = &access.policies;
+    let second = second.as_deref().unwrap_or_default();
+    let third = third.as_deref().unwrap_or_default();
+    let lengths = [access.realm.len(), 0, second.len(), third.len()];
+    put(block, 0, &[3]);
+    put(block, 1, &lengths.map(|length| length as u8));
+    put(block, REALM, &access.realm);
+    put(block, SECOND_POLICY, second);
+    put(block, THIRD_POLICY, third);
 }
 
 /// Writes `from` at `start`, as far as there is room.
@@ -240,6 +328,8 @@ pub const CONDITIONS: &[fn(&Row) -> bool] = &[
     limits_fit,
     texts_have_length,
     policies_not_empty,
+    no_second_without_a_first,
+    no_third_without_a_second,
     line_lists_places,
     sessions_differ,
     entries_exist,
@@ -289,8 +379,23 @@ fn texts_have_length(row: &Row) -> bool {
 }
 
 fn policies_not_empty(row: &Row) -> bool {
-    let mut policies = row.places.iter().flatten().flat_map(|a| &a.policy);
+    let accesses = row.places.iter().flatten();
+    let mut policies = accesses.flat_map(|a| a.policies.iter().flatten());
     policies.all(|policy| !policy.is_empty())
+}
+
+fn no_second_without_a_first(row: &Row) -> bool {
+    no_gap(row, 1)
+}
+
+fn no_third_without_a_second(row: &Row) -> bool {
+    no_gap(row, 2)
+}
+
+/// Where the policy with this index is held, the one before it is.
+fn no_gap(row: &Row, index: usize) -> bool {
+    let mut accesses = row.places.iter().flatten();
+    accesses.all(|a| a.policies[index].is_none() || a.policies[index - 1].is_some())
 }
 
 fn line_lists_places(row: &Row) -> bool {
@@ -323,16 +428,22 @@ fn all_differ<'a>(texts: impl Iterator<Item = &'a Vec<u8>>) -> bool {
 }
 
 /// The row, if its bytes are sound.
-pub fn sound(rules: &Rules, bytes: &[u8]) -> Option<Row> {
-    let row = decode(bytes)?;
+pub fn sound(rules: &Rules, form: Form, bytes: &[u8]) -> Option<Row> {
+    let row = decode(form, bytes)?;
     let kept = rules.conditions.iter().all(|condition| condition(&row));
-    (kept && (rules.same_row)(bytes, &encode(rules, &row))).then_some(row)
+    let written = encode(rules, form, &row);
+    (kept && (rules.same_row)(form, bytes, &written)).then_some(row)
+}
+
+/// The rows of a table, one after another.
+pub fn rows(form: Form, table: &[u8]) -> std::slice::ChunksExact<'_, u8> {
+    table.chunks_exact(form.row())
 }
 
 /// The index of the first row of this operator that bears this name, sound or not.
-pub fn find(table: &[u8], operator: u32, name: &[u8]) -> Option<usize> {
+pub fn find(form: Form, table: &[u8], operator: u32, name: &[u8]) -> Option<usize> {
     let matches = |row: &[u8]| is_of(row, operator) && bears(row, name);
-    table.chunks_exact(ROW).position(matches)
+    rows(form, table).position(matches)
 }
 
 pub fn is_of(row: &[u8], operator: u32) -> bool {
@@ -347,11 +458,16 @@ pub fn bears(row: &[u8], name: &[u8]) -> bool {
 }
 
 /// The bytes of the row with this index.
-pub fn row_at(table: &[u8], index: usize) -> &[u8] {
-    table.chunks_exact(ROW).nth(index).unwrap_or_default()
+pub fn row_at(form: Form, table: &[u8], index: usize) -> &[u8] {
+    rows(form, table).nth(index).unwrap_or_default()
+}
+
+/// A row may be taken only if all its bytes are zero.
+pub fn row_is_free(row: &[u8]) -> bool {
+    row.iter().all(|&byte| byte == 0)
 }
 
 /// Puts a row back in its place in the table.
-pub fn store(rules: &Rules, table: &mut [u8], index: usize, row: &Row) {
-    put(table, index * ROW, &encode(rules, row));
+pub fn store(rules: &Rules, form: Form, table: &mut [u8], index: usize, row: &Row) {
+    put(table, index * form.row(), &encode(rules, form, row));
 }

@@ -10,13 +10,16 @@ use oracle::drafts::Draft;
 use oracle::handling::Call;
 use oracle::random::Random;
 use oracle::rules::DOCUMENT_01;
-use oracle::set_up::{NewEntry, NewRow};
+use oracle::set_up::{Account, NewEntry, NewRow};
 use oracle::the_board::{
     ASKED, BoardRules, CONNECTED, CUT, Event, LONGEST, OFF, REQUEST_W7, Screen, TERMINATION,
     TYPE_0, TYPE_1,
 };
-use oracle::the_table::{ROW, Row, decode, encode, row_at, sound};
+use oracle::the_table::{Form, Row, decode, encode, row_at, rows, sound};
 use oracle::{Code, Outcome, SUCCESS};
+
+/// The board knows nothing of forms; the server's table has this one.
+const FORM: Form = Form::Two;
 
 /// A request as the board is told of it, and as it is sent.
 struct Asked {
@@ -46,6 +49,7 @@ impl Desk {
         let outcome = (DOCUMENT_01.handle)(
             &DOCUMENT_01,
             Call {
+                form: FORM.number(),
                 table: &mut self.table,
                 operator: 0,
                 host: b"aaa",
@@ -99,8 +103,8 @@ impl Desk {
 
     /// Every row that is sound, also one that no lookup finds.
     fn sound_rows(&self) -> Vec<Row> {
-        let rows = self.table.chunks_exact(ROW);
-        rows.filter_map(|bytes| sound(&DOCUMENT_01, bytes))
+        rows(FORM, &self.table)
+            .filter_map(|bytes| sound(&DOCUMENT_01, FORM, bytes))
             .collect()
     }
 
@@ -172,7 +176,7 @@ fn table(random: &mut Random) -> Vec<u8> {
     random.shuffle(&mut left);
     let mut table = Vec::new();
     for name in [b"1", b"2", b"3", b"1"] {
-        let mut row = sound_row(name, random);
+        let mut row = sound_row(FORM, name, random);
         row.entries.iter_mut().for_each(|e| e.flags &= 2);
         for place in 1..=8 {
             let taken = row.access(place).is_some() && random.once_in(2);
@@ -184,20 +188,19 @@ fn table(random: &mut Random) -> Vec<u8> {
                 None => drop(row.free(place)),
             }
         }
-        table.extend(encode(&DOCUMENT_01, &row));
+        table.extend(encode(&DOCUMENT_01, FORM, &row));
     }
-    let mut damaged = table[..ROW].to_vec();
+    let mut damaged = table[..FORM.row()].to_vec();
     damaged[2] = b'4';
     table.extend(damaged);
-    table.extend([0; ROW]);
+    table.extend([0; FORM.row()]);
     table
 }
 
 /// A board that agrees with the table: what does not stand there is off, asked or cut.
 fn board(table: &[u8], random: &mut Random) -> Vec<Screen> {
-    let rows: Vec<Row> = table
-        .chunks_exact(ROW)
-        .filter_map(|bytes| sound(&DOCUMENT_01, bytes))
+    let rows: Vec<Row> = rows(FORM, table)
+        .filter_map(|bytes| sound(&DOCUMENT_01, FORM, bytes))
         .collect();
     let mut sessions = pool();
     random.shuffle(&mut sessions);
@@ -266,13 +269,13 @@ fn asked(which: u32, name: &[u8], session: &[u8], label: &[u8]) -> Asked {
 /// A subscriber of operator 0, whose share is the whole table.
 fn enter(table: &mut [u8], name: &[u8]) -> u8 {
     let mut shares = [0; 16];
-    shares[0] = (table.len() / ROW) as u32;
+    shares[0] = (table.len() / FORM.row()) as u32;
     let new = NewRow {
         operator: 0,
         shares: &shares,
         name,
     };
-    (DOCUMENT_01.enter)(&DOCUMENT_01, table, &new)
+    (DOCUMENT_01.enter)(&DOCUMENT_01, FORM.number(), table, &new)
 }
 
 /// Entering and adding move no access.
@@ -285,7 +288,11 @@ fn set_up(table: &mut [u8], random: &mut Random) {
         limit: random.from_to(1, 8) as u8,
         flags: 0,
     };
-    (DOCUMENT_01.add)(&DOCUMENT_01, table, 0, &name, &new);
+    let account = Account {
+        operator: 0,
+        name: &name,
+    };
+    (DOCUMENT_01.add)(&DOCUMENT_01, FORM.number(), table, &account, &new);
 }
 
 /// Things that a run has to meet.
@@ -348,7 +355,8 @@ impl Ran {
 
     /// Rows 3 and 4 are the one that no lookup finds and the damaged one.
     fn note_rows(&mut self, desk: &Desk) {
-        let rows = [3, 4].map(|index| decode(row_at(&desk.table, index)).unwrap_or_default());
+        let rows =
+            [3, 4].map(|index| decode(FORM, row_at(FORM, &desk.table, index)).unwrap_or_default());
         for screen in &desk.board {
             let session = screen.named().unwrap_or_default();
             let [hidden, damaged] = rows.each_ref().map(|row| row.place_of(session).is_some());
@@ -496,7 +504,7 @@ fn the_run_tells_wrong_boards() {
 
 /// Accounts 1 and 2 with "board" of limit 2, and a board with three screens that are off.
 fn small_desk() -> Desk {
-    let mut table = vec![0; 2 * ROW];
+    let mut table = vec![0; 2 * FORM.row()];
     for name in [b"1", b"2"] {
         assert_eq!(enter(&mut table, name), 0);
         let new = NewEntry {
@@ -504,8 +512,9 @@ fn small_desk() -> Desk {
             limit: 2,
             flags: 0,
         };
+        let account = Account { operator: 0, name };
         assert_eq!(
-            (DOCUMENT_01.add)(&DOCUMENT_01, &mut table, 0, name, &new),
+            (DOCUMENT_01.add)(&DOCUMENT_01, FORM.number(), &mut table, &account, &new),
             0
         );
     }

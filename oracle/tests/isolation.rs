@@ -10,7 +10,9 @@ use oracle::random::Random;
 use oracle::rules::{DOCUMENT_01, Rules};
 use oracle::script::{Record, judge};
 use oracle::set_up::own_rows;
-use oracle::the_table::{CONDITIONS, OPERATOR, ROW, Row, bears, encode, is_of, sound};
+use oracle::the_table::{
+    CONDITIONS, FORMS, Form, OPERATOR, Row, bears, encode, is_of, rows, sound,
+};
 
 /// An operator's call; what it enters goes under the shares of the history.
 #[derive(Clone)]
@@ -21,6 +23,7 @@ enum Step {
 
 /// Two histories: the same calls of one operator, each among other calls of others.
 struct Pair {
+    form: Form,
     operator: u32,
     rows: usize,
     shares: [Vec<u32>; 2],
@@ -30,18 +33,21 @@ struct Pair {
 const NAMES: [&[u8]; 4] = [b"1", b"12", b"001010123456789", b"12a"];
 
 /// A call of this operator by chance, on few names, labels and sessions.
-fn step(operator: u32, random: &mut Random) -> Step {
+fn step(form: Form, operator: u32, random: &mut Random) -> Step {
     let name = *random.pick(&NAMES);
     let label: &[u8] = if random.once_in(2) { b"board" } else { b"yard" };
     let session = [*random.pick(b"abc")];
     let draft = match random.below(9) {
         0..3 => return Step::Enter(name.to_vec()),
-        3 | 4 => return Step::Other(add(operator, name, label, 1 + random.below(2) as u8, 2)),
+        3 | 4 => {
+            let limit = 1 + random.below(2) as u8;
+            return Step::Other(add(form, operator, name, label, limit, 2));
+        }
         5 => Draft::policy(name, &session, b"pdg", b"permit"),
         6 => Draft::termination(name, &session, b"pdg", label),
         _ => Draft::open(name, &session, b"pdg", label),
     };
-    Step::Other(request(operator, &draft, random.once_in(2), random))
+    Step::Other(request(form, operator, &draft, random.once_in(2), random))
 }
 
 /// Shares that have this one for the operator and this sum.
@@ -57,14 +63,14 @@ fn shares(operator: u32, own: u32, sum: u32, random: &mut Random) -> Vec<u32> {
 }
 
 /// The operator's calls, and those of others among them: three in a row at most.
-fn history(operator: u32, own: &[Step], random: &mut Random) -> Vec<(u32, Step)> {
+fn history(form: Form, operator: u32, own: &[Step], random: &mut Random) -> Vec<(u32, Step)> {
     let mut all = Vec::new();
     let others = random.below(4);
     for mine in own.iter().map(Some).chain([None]) {
         for _ in 0..random.below(others + 1) {
             let another = (operator + random.from_to(1, 2) as u32) % 16;
             let another = if random.once_in(9) { 16 } else { another };
-            all.push((another, step(another, random)));
+            all.push((another, step(form, another, random)));
         }
         all.extend(mine.map(|step| (operator, step.clone())));
     }
@@ -72,6 +78,7 @@ fn history(operator: u32, own: &[Step], random: &mut Random) -> Vec<(u32, Step)>
 }
 
 fn pair(random: &mut Random) -> Pair {
+    let form = *random.pick(&FORMS);
     let operator = random.below(16) as u32;
     let rows = random.from_to(1, 5);
     let over = usize::from(random.once_in(8));
@@ -79,13 +86,14 @@ fn pair(random: &mut Random) -> Pair {
     let half = sum as usize / 2 * random.below(3).min(1);
     let own = random.from_to(half, sum as usize) as u32;
     let mine: Vec<Step> = (0..random.from_to(1, 20))
-        .map(|_| step(operator, random))
+        .map(|_| step(form, operator, random))
         .collect();
     Pair {
+        form,
         operator,
         rows,
         shares: [(); 2].map(|()| shares(operator, own, sum, random)),
-        histories: [(); 2].map(|()| history(operator, &mine, random)),
+        histories: [(); 2].map(|()| history(form, operator, &mine, random)),
     }
 }
 
@@ -95,19 +103,20 @@ type Known = (Vec<Seen>, Vec<Vec<u8>>);
 /// Plays one history of a pair on a cleared table. The error says what a table that is
 /// reached from a cleared one must not show.
 fn play(rules: &Rules, pair: &Pair, which: usize) -> Result<Known, &'static str> {
-    let shares = &pair.shares[which];
-    let mut table = vec![0; pair.rows * ROW];
+    let (form, shares) = (pair.form, &pair.shares[which]);
+    let mut table = vec![0; pair.rows * form.row()];
     let mut told = Vec::new();
     for (operator, step) in &pair.histories[which] {
         let operation = match step {
-            Step::Enter(name) => enter(*operator, shares, name),
+            Step::Enter(name) => enter(form, *operator, shares, name),
             Step::Other(operation) => operation.clone(),
         };
         let seen = perform(&mut rules.clone(), &operation, &mut table);
         if matches!(step, Step::Enter(_)) && seen.numbers[0] == 11 {
             return Err("number 11");
         }
-        let over = |operator: u32| own_rows(&table, operator) > shares[operator as usize] as usize;
+        let over =
+            |operator: u32| own_rows(form, &table, operator) > shares[operator as usize] as usize;
         if (0..16).any(over) {
             return Err("rows over a share");
         }
@@ -116,7 +125,7 @@ fn play(rules: &Rules, pair: &Pair, which: usize) -> Result<Known, &'static str>
         }
     }
     let own = |row: &&[u8]| row[0] == 1 && is_of(row, pair.operator);
-    let rows = table.chunks_exact(ROW).filter(own).map(<[u8]>::to_vec);
+    let rows = rows(form, &table).filter(own).map(<[u8]>::to_vec);
     Ok((told, rows.collect()))
 }
 
@@ -143,32 +152,32 @@ fn no_operator_learns_of_another() {
 #[test]
 fn programs_that_tell_of_others_are_found() {
     let by_name = Rules {
-        find: |_, table, _, name| table.chunks_exact(ROW).position(|row| bears(row, name)),
+        find: |_, form, table, _, name| rows(form, table).position(|row| bears(row, name)),
         ..DOCUMENT_01
     };
     assert!(leak(&by_name, 62, 2_000).is_some());
     let all_rows_count = Rules {
-        share_is_full: |_, table, new| {
-            let used = table.chunks_exact(ROW).filter(|row| row[0] == 1).count();
+        share_is_full: |_, form, table, new| {
+            let used = rows(form, table).filter(|row| row[0] == 1).count();
             used >= new.shares[new.operator as usize] as usize
         },
         ..DOCUMENT_01
     };
     assert!(leak(&all_rows_count, 62, 2_000).is_some());
     let any_sum = Rules {
-        shares_fit: |_, shares| shares.len() == 16,
+        shares_fit: |_, _, shares| shares.len() == 16,
         ..DOCUMENT_01
     };
     assert_eq!(leak(&any_sum, 62, 2_000), Some("number 11"));
     let one_over = Rules {
-        share_is_full: |_, table, new| {
-            own_rows(table, new.operator) > new.shares[new.operator as usize] as usize
+        share_is_full: |_, form, table, new| {
+            own_rows(form, table, new.operator) > new.shares[new.operator as usize] as usize
         },
         ..DOCUMENT_01
     };
     assert!(leak(&one_over, 62, 2_000).is_some());
     let no_share = Rules {
-        share_is_full: |_, _, _| false,
+        share_is_full: |_, _, _, _| false,
         ..DOCUMENT_01
     };
     assert!(leak(&no_share, 62, 2_000).is_some());
@@ -207,13 +216,14 @@ fn run(operation: &Operation, table: &mut [u8]) -> Seen {
 fn shares_that_change_tell_of_others() {
     let mut shares = [vec![0; 16], vec![0; 16]];
     (shares[0][1], shares[1][0]) = (1, 1);
-    let mut table = vec![0; ROW];
-    assert_eq!(
-        run(&enter(0, &shares[1], b"1"), &mut table.clone()).numbers[0],
-        0
-    );
-    assert_eq!(run(&enter(1, &shares[0], b"1"), &mut table).numbers[0], 0);
-    assert_eq!(run(&enter(0, &shares[1], b"1"), &mut table).numbers[0], 11);
+    for form in FORMS {
+        let mut table = vec![0; form.row()];
+        let second = enter(form, 0, &shares[1], b"1");
+        assert_eq!(run(&second, &mut table.clone()).numbers[0], 0);
+        let first = enter(form, 1, &shares[0], b"1");
+        assert_eq!(run(&first, &mut table).numbers[0], 0);
+        assert_eq!(run(&second, &mut table).numbers[0], 11);
+    }
 }
 
 /// Shares that stay: 27 where the table has free rows, and none is kept from the other.
@@ -221,9 +231,10 @@ fn shares_that_change_tell_of_others() {
 fn a_full_share_leaves_the_others_theirs() {
     let mut shares = vec![0; 16];
     (shares[0], shares[3]) = (1, 2);
-    let mut table = vec![0; 3 * ROW];
+    let form = Form::Two;
+    let mut table = vec![0; 3 * form.row()];
     let mut number =
-        |operator, name: &[u8]| run(&enter(operator, &shares, name), &mut table).numbers[0];
+        |operator, name: &[u8]| run(&enter(form, operator, &shares, name), &mut table).numbers[0];
     assert_eq!(number(0, b"1"), 0);
     assert_eq!(number(0, b"2"), 27);
     assert_eq!(number(0, b"1"), 10);
@@ -233,8 +244,7 @@ fn a_full_share_leaves_the_others_theirs() {
     assert_eq!(number(5, b"1"), 27);
     assert_eq!(number(16, b"1"), 33);
     assert_eq!(
-        table
-            .chunks(ROW)
+        rows(form, &table)
             .map(|row| row[OPERATOR])
             .collect::<Vec<u8>>(),
         [0, 3, 3]
@@ -250,8 +260,10 @@ fn rows_of_operators_over_15_are_unsound() {
             name: b"1".to_vec(),
             ..Row::default()
         };
-        let bytes = encode(&DOCUMENT_01, &row);
-        assert_eq!(sound(&DOCUMENT_01, &bytes).is_some(), operator <= 15);
+        for form in FORMS {
+            let bytes = encode(&DOCUMENT_01, form, &row);
+            assert_eq!(sound(&DOCUMENT_01, form, &bytes).is_some(), operator <= 15);
+        }
         assert!(CONDITIONS[1..].iter().all(|condition| condition(&row)));
     }
 }
@@ -262,7 +274,7 @@ fn rows_of_operators_over_15_are_unsound() {
 #[test]
 fn tables_without_operators_are_operator_0s() {
     let mut before = Rules {
-        find: |_, table, _, name| table.chunks_exact(ROW).position(|row| bears(row, name)),
+        find: |_, form, table, _, name| rows(form, table).position(|row| bears(row, name)),
         ..DOCUMENT_01
     };
     let mut random = Random::new(64);
@@ -273,11 +285,15 @@ fn tables_without_operators_are_operator_0s() {
             judge(&mut DOCUMENT_01.clone(), &record, &mut table).unwrap();
             continue;
         };
-        let old: Vec<u8> = table.chunks(ROW).flat_map(without_operator).collect();
+        let Some(form) = Form::numbered(operation.form()) else {
+            continue;
+        };
+        let old = table.chunks(form.row());
+        let old: Vec<u8> = old.flat_map(|row| without_operator(form, row)).collect();
         let other = 1 + random.below(15) as u32;
         let (mine, others) = (
-            called_by(operation, 0, &old),
-            called_by(operation, other, &old),
+            called_by(operation, 0, form, &old),
+            called_by(operation, other, form, &old),
         );
         let [mut now, mut then, mut theirs] = [old.clone(), old.clone(), old.clone()];
         let seen = run(&mine, &mut now);
@@ -304,10 +320,10 @@ fn tables_without_operators_are_operator_0s() {
 }
 
 /// A row as it is without byte 19, its sums right again if they were right.
-fn without_operator(row: &[u8]) -> Vec<u8> {
+fn without_operator(form: Form, row: &[u8]) -> Vec<u8> {
     let mut bytes = row.to_vec();
-    if let Some(row) = sound(&DOCUMENT_01, row) {
-        return encode(&DOCUMENT_01, &Row { operator: 0, ..row });
+    if let Some(row) = sound(&DOCUMENT_01, form, row) {
+        return encode(&DOCUMENT_01, form, &Row { operator: 0, ..row });
     }
     if let Some(byte) = bytes.get_mut(OPERATOR) {
         *byte = 0;
@@ -316,14 +332,14 @@ fn without_operator(row: &[u8]) -> Vec<u8> {
 }
 
 /// The same call by another operator, who has all rows for its share.
-fn called_by(operation: &Operation, by: u32, table: &[u8]) -> Operation {
+fn called_by(operation: &Operation, by: u32, form: Form, table: &[u8]) -> Operation {
     let mut operation = operation.clone();
     match &mut operation {
-        Operation::Clear => (),
+        Operation::Clear { .. } | Operation::Move { .. } => (),
         Operation::Enter {
             operator, shares, ..
         } => {
-            (*operator, *shares) = (by, all_rows(table, by));
+            (*operator, *shares) = (by, all_rows(form, table, by));
         }
         Operation::Add { operator, .. } => *operator = by,
         Operation::Handle(asked) => asked.operator = by,

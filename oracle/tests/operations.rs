@@ -10,8 +10,8 @@ use oracle::random::Random;
 use oracle::reading_a_message::PROXY_INFO;
 use oracle::rules::DOCUMENT_01;
 use oracle::script::{Changes, Record, judge};
-use oracle::set_up::{NewEntry, NewRow};
-use oracle::the_table::{ROW, find, row_at, sound};
+use oracle::set_up::{Account, NewEntry, NewRow};
+use oracle::the_table::{FORMS, Form, find, row_at, sound};
 
 fn run(operation: &Operation, table: &mut [u8]) -> Seen {
     perform(&mut DOCUMENT_01.clone(), operation, table)
@@ -48,6 +48,9 @@ fn refusals_change_nothing() {
         }
         assert!(before == after, "{operation:?}");
         assert_eq!(seen.numbers[3..], [0; 4]);
+        if let Operation::Move { target, .. } = operation {
+            assert!(seen.answer_room == target.fresh());
+        }
         if let Operation::Handle(asked) = operation {
             assert!(seen.notice_room == asked.notice_room.fresh());
             let answer = asked.answer_room.fresh();
@@ -61,14 +64,18 @@ fn refusals_change_nothing() {
 #[test]
 fn sound_rows_stay_sound() {
     each_call(22, 4_000, |operation, _, before, after| {
-        if *operation == Operation::Clear || before.len() > 64 * ROW {
+        let Some(form) = Form::numbered(operation.form()) else {
+            return;
+        };
+        if is_clear(operation) || before.len() > 64 * form.row() {
             return;
         }
-        for (was, is) in before.chunks_exact(ROW).zip(after.chunks_exact(ROW)) {
+        let row = form.row();
+        for (was, is) in before.chunks_exact(row).zip(after.chunks_exact(row)) {
             if was != is {
                 let entered = was.iter().all(|&b| b == 0);
-                assert!(entered || sound(&DOCUMENT_01, was).is_some());
-                assert!(sound(&DOCUMENT_01, is).is_some(), "{operation:?}");
+                assert!(entered || sound(&DOCUMENT_01, form, was).is_some());
+                assert!(sound(&DOCUMENT_01, form, is).is_some(), "{operation:?}");
             }
         }
     });
@@ -77,10 +84,15 @@ fn sound_rows_stay_sound() {
 #[test]
 fn only_one_row_changes() {
     each_call(23, 3_000, |operation, _, before, after| {
-        let rows = before.chunks(ROW).zip(after.chunks(ROW));
+        let row = Form::numbered(operation.form()).map_or(1, Form::row);
+        let rows = before.chunks(row).zip(after.chunks(row));
         let changed = rows.filter(|(was, is)| was != is).count();
-        assert!(changed <= 1 || *operation == Operation::Clear);
+        assert!(changed <= 1 || is_clear(operation));
     });
+}
+
+fn is_clear(operation: &Operation) -> bool {
+    matches!(operation, Operation::Clear { .. })
 }
 
 const SIZES: [usize; 15] = [
@@ -93,8 +105,10 @@ fn no_size_stops_a_request() {
     let long = vec![b'7'; 3 << 20];
     for (size, other) in SIZES.iter().flat_map(|&a| SIZES.map(|b| (a, b))) {
         let (mut answer_room, mut notice_room) = (vec![1; other], vec![2; size]);
-        let mut table = vec![0xFF; ROW * (size % 3) + other % 2];
+        let form = FORMS[size % 2];
+        let mut table = vec![0xFF; form.row() * (size % 3) + other % 2];
         let call = Call {
+            form: form.number(),
             table: &mut table,
             operator: size as u32 % 16,
             host: &long[..size],
@@ -115,23 +129,27 @@ fn no_size_stops_a_request() {
 fn no_size_stops_a_set_up() {
     let rules = &DOCUMENT_01;
     let long = vec![b'7'; 3 << 20];
-    for size in SIZES {
-        let mut table = vec![0; ROW];
+    for (size, form) in SIZES
+        .into_iter()
+        .flat_map(|size| FORMS.map(|form| (size, form)))
+    {
+        let said = form.number();
+        let mut table = vec![0; form.row()];
         let name = &long[..size];
         let right = if (1..=15).contains(&size) { 0 } else { 9 };
-        let shares = &all_rows(&table, 3);
+        let shares = &all_rows(form, &table, 3);
         let subscriber = NewRow {
             operator: 3,
             shares,
             name,
         };
-        assert_eq!((rules.enter)(rules, &mut table, &subscriber), right);
+        assert_eq!((rules.enter)(rules, said, &mut table, &subscriber), right);
         let many = &vec![0; size + 17];
         let subscriber = NewRow {
             shares: many,
             ..subscriber
         };
-        assert_eq!((rules.enter)(rules, &mut table, &subscriber), 26);
+        assert_eq!((rules.enter)(rules, said, &mut table, &subscriber), 26);
         let label = name;
         let (limit, flags) = (size as u8, 0);
         let new = NewEntry {
@@ -139,9 +157,16 @@ fn no_size_stops_a_set_up() {
             limit,
             flags,
         };
-        assert_eq!((rules.add)(rules, &mut table, 3, &long, &new), 12);
-        let part = size.min(ROW - 1);
-        assert_eq!((rules.clear)(rules, &mut table[..part]), 1);
+        let nobody = Account {
+            operator: 3,
+            name: &long,
+        };
+        assert_eq!((rules.add)(rules, said, &mut table, &nobody, &new), 12);
+        let part = size.min(form.row() - 1);
+        assert_eq!((rules.clear)(rules, said, &mut table[..part]), 1);
+        let mut target = vec![7; size];
+        let number = (rules.move_table)(rules, &table, &mut target, form.other().number());
+        assert_eq!((number, target), (19, vec![7; size]));
     }
 }
 
@@ -164,7 +189,7 @@ fn the_longest_answer_fits() {
         realm,
         ..asked
     });
-    let seen = run(&operation, &mut [0; ROW]);
+    let seen = run(&operation, &mut [0; Form::One.row()]);
     let length = 20 + 136 + 24 + 12 + 136 + 136 + (4_096 - 20 - 136);
     assert_eq!(seen.numbers, [5005, 1, length, 0, 0, 0, 0]);
     assert_eq!(seen.answer_room[1..4], length.to_be_bytes()[1..]);
@@ -182,9 +207,10 @@ fn chance_does_not_stop_the_program() {
         message.extend(random.bytes(length));
         let size = (message.len() as u32).to_be_bytes();
         message[1..4].copy_from_slice(&size[1..]);
-        let mut table = random.bytes(ROW);
+        let form = *random.pick(&FORMS);
+        let mut table = random.bytes(form.row());
         let before = table.clone();
-        let seen = run(&ask(message), &mut table);
+        let seen = run(&ask(message).saying(form.number()), &mut table);
         assert_eq!(seen.numbers[1], 1);
         assert!(table == before);
     }
@@ -193,6 +219,7 @@ fn chance_does_not_stop_the_program() {
 fn ask(message: Vec<u8>) -> Operation {
     let seed = 3;
     Operation::Handle(Asked {
+        form: 1,
         operator: 0,
         host: b"h".to_vec(),
         realm: b"r".to_vec(),
@@ -212,14 +239,14 @@ fn ask(message: Vec<u8>) -> Operation {
 const SUBSCRIBERS: [(u32, &[u8]); 4] = [(0, b"001"), (7, b"001"), (0, b"0010"), (15, b"999")];
 
 /// A table with four subscribers, each with two W-APNs.
-fn four_subscribers() -> Vec<u8> {
-    let mut table = vec![0; 5 * ROW];
+fn four_subscribers(form: Form) -> Vec<u8> {
+    let mut table = vec![0; 5 * form.row()];
     let shares = [2, 0, 0, 0, 0, 0, 0, 1, 0, 0, 0, 0, 0, 0, 0, 1];
     for (operator, name) in SUBSCRIBERS {
         for operation in [
-            enter(operator, &shares, name),
-            add(operator, name, b"board", 2, 2),
-            add(operator, name, b"yard", 3, 0),
+            enter(form, operator, &shares, name),
+            add(form, operator, name, b"board", 2, 2),
+            add(form, operator, name, b"yard", 3, 0),
         ] {
             assert_eq!(run(&operation, &mut table).numbers[0], 0);
         }
@@ -228,7 +255,7 @@ fn four_subscribers() -> Vec<u8> {
 }
 
 /// Requests of one subscriber, some of which can not be read as far as the name.
-fn requests_of((operator, name): (u32, &[u8]), random: &mut Random) -> Vec<Operation> {
+fn requests_of(form: Form, (operator, name): (u32, &[u8]), random: &mut Random) -> Vec<Operation> {
     let one = |random: &mut Random| {
         let session = [*random.pick(b"abcdefgh")];
         let label: &[u8] = if random.once_in(2) { b"board" } else { b"yard" };
@@ -243,15 +270,15 @@ fn requests_of((operator, name): (u32, &[u8]), random: &mut Random) -> Vec<Opera
         if random.once_in(10) {
             draft.avps.truncate(random.below(10));
         }
-        request(operator, &draft, random.once_in(2), random)
+        request(form, operator, &draft, random.once_in(2), random)
     };
     (0..30).map(|_| one(random)).collect()
 }
 
 /// Handles lists in an order of chance that keeps each list's own order; gives each
 /// list's results, and the table.
-fn mixed(lists: &[Vec<Operation>], random: &mut Random) -> (Vec<Vec<Seen>>, Vec<u8>) {
-    let mut table = four_subscribers();
+fn mixed(form: Form, lists: &[Vec<Operation>], random: &mut Random) -> (Vec<Vec<Seen>>, Vec<u8>) {
+    let mut table = four_subscribers(form);
     let mut turns: Vec<usize> = Vec::new();
     for (turn, list) in lists.iter().enumerate() {
         turns.extend(vec![turn; list.len()]);
@@ -269,26 +296,27 @@ fn mixed(lists: &[Vec<Operation>], random: &mut Random) -> (Vec<Vec<Seen>>, Vec<
 #[test]
 fn order_between_subscribers_does_not_matter() {
     let mut random = Random::new(25);
-    for _ in 0..12 {
+    for turn in 0..16 {
+        let form = FORMS[turn % 2];
         let lists: Vec<_> = SUBSCRIBERS
-            .map(|subscriber| requests_of(subscriber, &mut random))
+            .map(|subscriber| requests_of(form, subscriber, &mut random))
             .into();
-        let first = mixed(&lists, &mut random);
+        let first = mixed(form, &lists, &mut random);
         for _ in 0..4 {
-            assert!(mixed(&lists, &mut random) == first);
+            assert!(mixed(form, &lists, &mut random) == first);
         }
-        alone(&lists, &first);
+        alone(form, &lists, &first);
     }
 }
 
 /// Each subscriber's requests alone give the same answers and the same row.
-fn alone(lists: &[Vec<Operation>], (results, table): &(Vec<Vec<Seen>>, Vec<u8>)) {
+fn alone(form: Form, lists: &[Vec<Operation>], (results, table): &(Vec<Vec<Seen>>, Vec<u8>)) {
     for (turn, (operator, name)) in SUBSCRIBERS.into_iter().enumerate() {
-        let mut own = four_subscribers();
+        let mut own = four_subscribers(form);
         let seen: Vec<Seen> = lists[turn].iter().map(|o| run(o, &mut own)).collect();
         assert!(seen == results[turn]);
-        let index = find(table, operator, name).unwrap();
-        assert!(row_at(&own, index) == row_at(table, index));
+        let index = find(form, table, operator, name).unwrap();
+        assert!(row_at(form, &own, index) == row_at(form, table, index));
     }
 }
 

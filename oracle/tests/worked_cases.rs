@@ -2,8 +2,8 @@
 
 use oracle::handling::Call;
 use oracle::rules::DOCUMENT_01;
-use oracle::set_up::{NewEntry, NewRow};
-use oracle::the_table::{ROW, sums};
+use oracle::set_up::{Account, NewEntry, NewRow};
+use oracle::the_table::{Form, sums};
 use oracle::{Outcome, experimental, plain};
 
 const NAME: &[u8] = b"001010123456789";
@@ -26,7 +26,7 @@ impl Bench {
     /// One row: "board" with limit 2 and no flags, "yard" with limit 1, barred.
     fn new() -> Bench {
         let rules = &DOCUMENT_01;
-        let mut table = vec![0; ROW];
+        let mut table = vec![0; Form::One.row()];
         let new = |label, limit, flags| NewEntry {
             label,
             limit,
@@ -37,9 +37,13 @@ impl Bench {
             shares: &[1, 0, 0, 0, 0, 0, 0, 0, 0, 0, 0, 0, 0, 0, 0, 0],
             name: NAME,
         };
-        assert_eq!((rules.enter)(rules, &mut table, &subscriber), 0);
+        assert_eq!((rules.enter)(rules, 1, &mut table, &subscriber), 0);
+        let account = Account {
+            operator: 0,
+            name: NAME,
+        };
         for entry in [new(b"board", 2, 0), new(b"yard", 1, 1)] {
-            assert_eq!((rules.add)(rules, &mut table, 0, NAME, &entry), 0);
+            assert_eq!((rules.add)(rules, 1, &mut table, &account, &entry), 0);
         }
         Bench {
             table,
@@ -52,6 +56,7 @@ impl Bench {
         self.answer = vec![0xAA; 5_120];
         self.notice = vec![0xBB; 256];
         let call = Call {
+            form: 1,
             table: &mut self.table,
             operator: 0,
             host: b"aaa",

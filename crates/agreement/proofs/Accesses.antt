@@ -13,10 +13,10 @@ use Rattle.octets.specs.Texts.{same}
 use Rattle.octets.proofs.Lists.{and-left, and-right, by-test, keep-none, same-eq, same-refl}
 use Rattle.message.specs.Codes.{Code}
 use Rattle.message.specs.ReadingAMessage.{Ask, tunnel, policy, termination}
-use Rattle.table.specs.TheTable.{Access, Subscriber, line}
+use Rattle.table.specs.TheTable.{Access, Policies, Subscriber, line}
 use Rattle.table.specs.Soundness.{onEntry}
 use Rattle.table.proofs.Good.{Good, goodAccess, standing}
-use Rattle.changes.specs.Changes.{freed, hold, leave, newAccess, opened, routed}
+use Rattle.changes.specs.Changes.{freed, hold, keptIn, leave, newAccess, opened, routed}
 use Rattle.rules.specs.Deciding.{entryNamed, none, placeOf, withSession}
 use Rattle.order.specs.ChecksInOrder.{Failure, check, decidingChecks, noneFails}
 use Rattle.order.specs.Demand2.{afterwards, cutFor, exceeds, firstAlone, onAsked, placeTaken, spared}
@@ -54,7 +54,7 @@ some-first f g (x ∷ xs) a others e h =
     let r : some g xs ≡ true = some-first f g xs a others q h in
     by-test (g x) (λ d. rw d) (λ d. rw (d, r)))
 
-module _ (s : Subscriber) (g : Good s) (f : Access → Bool) (a : Access) (others : List Access) (e : keep f (s .accesses) ≡ a ∷ others) (sid : List ℕ) where
+module _ {fm : ℕ} (s : Subscriber) (g : Good fm s) (f : Access → Bool) (a : Access) (others : List Access) (e : keep f (s .accesses) ≡ a ∷ others) (sid : List ℕ) where
   leaving : leave (a .place) (s .accesses) ≡ keep (λ (x : Access). not (same (x .session) (a .session))) (s .accesses)
   leaving = leaves-own f (s .accesses) a others (g .accesses-good .places-once) (g .accesses-good .sids-once) e
 
@@ -83,21 +83,21 @@ module _ (s : Subscriber) (g : Good s) (f : Access → Bool) (a : Access) (other
 
 -- A POLICY
 
-held-at : (sid : List ℕ) (k j : ℕ) (route : List ℕ) (xs : List Access) → some (at sid k) (map (hold j route) xs) ≡ some (at sid k) xs
+held-at : (sid : List ℕ) (k j : ℕ) (route : Policies) (xs : List Access) → some (at sid k) (map (hold j route) xs) ≡ some (at sid k) xs
 unfolding some hold pick
 held-at sid k j route [] = refl
 held-at sid k j route (x ∷ xs) = by-test (eqb (x .place) j) (λ e. rw (e, held-at sid k j route xs)) (λ e. rw (e, held-at sid k j route xs))
 
-pub routed-stays : (sid session route : List ℕ) (s : Subscriber) → Became sid false (s .accesses) ((afterwards (policy session route) s) .accesses)
+pub routed-stays : (form : ℕ) (sid session one two three : List ℕ) (s : Subscriber) → Became sid false (s .accesses) ((afterwards form (policy session one two three) s) .accesses)
 unfolding afterwards routed
-routed-stays sid session route s = unmoved sid (s .accesses) _ (λ k. held-at sid k _ route (s .accesses))
+routed-stays form sid session one two three s = unmoved sid (s .accesses) _ (λ k. held-at sid k _ _ (s .accesses))
 
 -- A TERMINATION
 
-pub ended-left : (sid session label : List ℕ) (s : Subscriber) → Good s → First (withSession session (onEntry (entryNamed label s) (s .accesses)))
-    → Became sid (same session sid) (s .accesses) ((afterwards (termination session label) s) .accesses)
+pub ended-left : {fm : ℕ} (form : ℕ) (sid session label : List ℕ) (s : Subscriber) → Good fm s → First (withSession session (onEntry (entryNamed label s) (s .accesses)))
+    → Became sid (same session sid) (s .accesses) ((afterwards form (termination session label) s) .accesses)
 unfolding afterwards withSession onEntry placeOf line firstOr
-ended-left sid session label s g (first a others e) =
+ended-left form sid session label s g (first a others e) =
     let one : keep (λ x. eqb (x .entry) (entryNamed label s) && same (x .session) session) (s .accesses) ≡ a ∷ others = sym (keep-twice _ _ (s .accesses)) ∙ e in
     let own : a .session ≡ session = same-eq (a .session) session (kept-first (λ (x : Access). same (x .session) session) _ a others e) in
     rw e (rw own at (one-left s g _ a others one sid))
@@ -120,9 +120,9 @@ pub record Opened (session : List ℕ) (place : ℕ) (cut before now' : List Acc
   pub spared-own : some (has session) cut ≡ false
   pub others : (sid : List ℕ) → same session sid ≡ false → Became sid (some (has sid) cut) before now'
 
-module _ (s : Subscriber) (g : Good s) (session host label : List ℕ) (visited wag : Bool) where
+module _ {fm : ℕ} (form : ℕ) (s : Subscriber) (g : Good fm s) (session host realm label : List ℕ) (visited wag : Bool) where
   abbrev asked : Ask
-  asked = tunnel session host label visited
+  asked = tunnel session host realm label visited
 
   module _ (h : noneFails (decidingChecks asked wag s) ≡ true) where
     new-there : some (has session) (s .accesses) ≡ false
@@ -151,11 +151,11 @@ module _ (s : Subscriber) (g : Good s) (session host label : List ℕ) (visited 
         ∙ below _ _ (some-imp (at session k) (has session) (s .accesses) (λ x p. and-left (has session x) _ p)) new-there
 
     -- the new access stands behind those that are left
-    behind : (sid : List ℕ) (k : ℕ) → some (at sid k) ((afterwards asked s) .accesses) ≡ some (at sid k) ((spared asked s) .accesses) || (same session sid && eqb (placeTaken asked s) k)
+    behind : (sid : List ℕ) (k : ℕ) → some (at sid k) ((afterwards form asked s) .accesses) ≡ some (at sid k) ((spared asked s) .accesses) || (same session sid && eqb (placeTaken asked s) k)
     unfolding afterwards opened newAccess placeTaken
     behind sid k = some-append (at sid k) ((spared asked s) .accesses) _ ∙ ap (λ (b : Bool). some (at sid k) ((spared asked s) .accesses) || b) (some-one (at sid k) _)
 
-    pub opens : Opened session (placeTaken asked s) (cutFor asked s) (s .accesses) ((afterwards asked s) .accesses)
+    pub opens : Opened session (placeTaken asked s) (cutFor asked s) (s .accesses) ((afterwards form asked s) .accesses)
     opens =
         record {
           fresh = new-there;
@@ -164,11 +164,11 @@ module _ (s : Subscriber) (g : Good s) (session host label : List ℕ) (visited 
           others = λ sid ne. with-others sid ne (spared-became sid);
         }
       where
-        as-spared : (sid : List ℕ) → same session sid ≡ false → (k : ℕ) → some (at sid k) ((afterwards asked s) .accesses) ≡ some (at sid k) ((spared asked s) .accesses)
+        as-spared : (sid : List ℕ) → same session sid ≡ false → (k : ℕ) → some (at sid k) ((afterwards form asked s) .accesses) ≡ some (at sid k) ((spared asked s) .accesses)
         as-spared sid ne k = behind sid k ∙ rw ne (or-false _)
 
         with-others : (sid : List ℕ) → same session sid ≡ false → Became sid (some (has sid) (cutFor asked s)) (s .accesses) ((spared asked s) .accesses)
-            → Became sid (some (has sid) (cutFor asked s)) (s .accesses) ((afterwards asked s) .accesses)
+            → Became sid (some (has sid) (cutFor asked s)) (s .accesses) ((afterwards form asked s) .accesses)
         with-others sid ne b =
             record { stood = b .stood; left = λ q k. as-spared sid ne k ∙ b .left q k; rest = λ q k. as-spared sid ne k ∙ b .rest q k }
 
@@ -178,11 +178,11 @@ unfolding every
 last-passes f [] y h = and-left (f y) _ h
 last-passes f (x ∷ xs) y h = last-passes f xs y (and-right (f x) _ h)
 
-pub place-taken : (session host label : List ℕ) (visited : Bool) (s : Subscriber) → Good (afterwards (tunnel session host label visited) s)
-    → within 1 8 (placeTaken (tunnel session host label visited) s) ≡ true
+pub place-taken : (form : ℕ) (session host realm label : List ℕ) (visited : Bool) (s : Subscriber) → Good form (afterwards form (tunnel session host realm label visited) s)
+    → within 1 8 (placeTaken (tunnel session host realm label visited) s) ≡ true
 unfolding afterwards opened newAccess placeTaken
-place-taken session host label visited s g =
-    let a : List Access = (spared (tunnel session host label visited) s) .accesses in
-    let n : Access = newAccess a (entryNamed label s) session host in
-    let fits : goodAccess (length ((afterwards (tunnel session host label visited) s) .entries)) n ≡ true = last-passes _ a n (g .accesses-good .each) in
+place-taken form session host realm label visited s g =
+    let a : List Access = (spared (tunnel session host realm label visited) s) .accesses in
+    let n : Access = newAccess a (entryNamed label s) (record { session = session; host = host; realm = keptIn form realm }) in
+    let fits : goodAccess form (length ((afterwards form (tunnel session host realm label visited) s) .entries)) n ≡ true = last-passes _ a n (g .accesses-good .each) in
     (standing _ n fits) .place-in

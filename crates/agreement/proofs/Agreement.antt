@@ -10,8 +10,9 @@ use Rattle.octets.specs.Choice.{pick}
 use Rattle.octets.specs.Lists.{every, keep}
 use Rattle.octets.proofs.Lists.{and-left, and-right, both, by-test, every-of}
 use Rattle.message.specs.ReadingAMessage.{Ask, Reading, refused, request, read}
+use Rattle.table.specs.TheTable.{Table}
 use Rattle.setup.specs.SetUp.{clear}
-use Rattle.rules.specs.Calls.{Call, Reply, handle}
+use Rattle.rules.specs.Calls.{Call, Reply, handle, mostPolicies}
 use Rattle.order.specs.Demand2.{requestIn, succeeds}
 use Rattle.order.specs.OpenedFirst.{sessionCut}
 use Rattle.order.proofs.Checks.{refused-changes-nothing, success-exactly}
@@ -82,7 +83,7 @@ module _ (q : Ask) (r : Reply) where
 
 -- ONE CALL
 
-agrees-moved : (t u : List ℕ) (f : Screen → Screen)
+agrees-moved : (t u : Table) (f : Screen → Screen)
     → ((s : Screen) → Truthful t s → standsOnce t (sessionOf s) ≡ true → standsOnce u (sessionOf s) ≡ true → Truthful u (f s))
     → (board : List Screen) → eachOnce t board ≡ true → eachOnce u board ≡ true → Agrees t board → Agrees u (map f board)
 unfolding Each eachOnce every
@@ -97,12 +98,12 @@ unfolding every
 every-same f g i [] = refl
 every-same f g i (s ∷ board) = rw (i s, every-same f g i board)
 
-once-moved : (u : List ℕ) (f : Screen → Screen) → ((s : Screen) → sessionOf (f s) ≡ sessionOf s) → (board : List Screen) → eachOnce u (map f board) ≡ eachOnce u board
+once-moved : (u : Table) (f : Screen → Screen) → ((s : Screen) → sessionOf (f s) ≡ sessionOf s) → (board : List Screen) → eachOnce u (map f board) ≡ eachOnce u board
 unfolding eachOnce
 once-moved u f i board = every-same (λ s. standsOnce u (sessionOf s)) f (λ s. ap (standsOnce u) (i s)) board
 
-module _ (t : List ℕ) (c : Call) (way : Way) (board : List Screen) (h : right board ≡ true) where
-  abbrev left : List ℕ
+module _ (t : Table) (c : Call) (way : Way) (board : List Screen) (h : right board ≡ true) where
+  abbrev left : Table
   left = (handle t c) .table
 
   abbrev told-back : Reply
@@ -132,14 +133,14 @@ module _ (t : List ℕ) (c : Call) (way : Way) (board : List Screen) (h : right 
       let stays : left ≡ t = (refused-changes-nothing t c code) .table in
       fared (q .ask) (λ s i a b. rw stays (refused-true t way (q .ask) told-back s code ((refused-changes-nothing t c code) .cut) i))
 
-  successful : succeeds t c ≡ true → Fared (fedBy way (read (c .message)) told-back board)
+  successful : succeeds t c ≡ true → Fared (fedBy way (read (mostPolicies (t .form)) (c .message)) told-back board)
   unfolding fedBy
   successful won =
       rw (was-read t c won)
       (fared ((requestIn c) .ask) (λ s i a b. done-true t left c ((requestIn c) .ask) told-back (done t c won) way s i a b))
 
-  fares : Fared (fedBy way (read (c .message)) told-back board)
-  fares = by-test (succeeds t c) (λ won. successful won) (λ failed. unsuccessful failed (read (c .message)))
+  fares : Fared (fedBy way (read (mostPolicies (t .form)) (c .message)) told-back board)
+  fares = by-test (succeeds t c) (λ won. successful won) (λ failed. unsuccessful failed (read (mostPolicies (t .form)) (c .message)))
 
 pub agrees-after-call : AgreesAfterCall
 unfolding after
@@ -166,7 +167,7 @@ agrees-throughout m (f ∷ fs) h once r =
 
 -- TO BEGIN WITH
 
-dark-true : (t : List ℕ) (s : Screen) → leb (s .state) 3 && not (isConnected s) ≡ true → not (stands t (sessionOf s)) ≡ true → Truthful t s
+dark-true : (t : Table) (s : Screen) → leb (s .state) 3 && not (isConnected s) ≡ true → not (stands t (sessionOf s)) ≡ true → Truthful t s
 dark-true t s a b =
     let off : isConnected s ≡ false = not-true (isConnected s) (and-right (leb (s .state) 3) _ a) in
     let nowhere : stands t (sessionOf s) ≡ false = not-true (stands t (sessionOf s)) b in
@@ -186,11 +187,11 @@ dark-agrees t (s ∷ board) a b = (
 pub cleared-agrees : ClearedAgrees
 cleared-agrees t board h d =
     dark-agrees ((clear t) .table) board d
-    (every-of _ (λ s. ap not (ap (λ (u : List ℕ). stands u (sessionOf s)) (cleared-zero t h) ∙ none-in-zeros (length t) (sessionOf s))) board)
+    (every-of _ (λ s. ap not (ap (λ (u : Table). stands u (sessionOf s)) (cleared-zero t h) ∙ none-in-zeros (t .form) (length (t .bytes)) (sessionOf s))) board)
 
 -- THE COUNT
 
-connected-stands : (t : List ℕ) (s : Screen) → Truthful t s → isConnected s ≡ stands t (sessionOf s)
+connected-stands : (t : Table) (s : Screen) → Truthful t s → isConnected s ≡ stands t (sessionOf s)
 unfolding connectedAt
 connected-stands t s r =
     by-test (isConnected s)
@@ -198,7 +199,7 @@ connected-stands t s r =
     e ∙ sym (stands-at t (sessionOf s) (s .place) (sym (r .exactly (s .place)) ∙ own)))
     (λ e. e ∙ sym (at-none t (sessionOf s) (λ k. sym (r .exactly k) ∙ unlit s e k)))
 
-same-screens : (t : List ℕ) (board : List Screen) → Agrees t board → keep isConnected board ≡ keep (λ s. stands t (sessionOf s)) board
+same-screens : (t : Table) (board : List Screen) → Agrees t board → keep isConnected board ≡ keep (λ s. stands t (sessionOf s)) board
 unfolding Each keep
 same-screens t [] r = refl
 same-screens t (s ∷ board) r =

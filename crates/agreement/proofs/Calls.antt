@@ -1,5 +1,5 @@
 -- A call that succeeds, as far as the board is concerned: the row that it replaced, and what its reply tells.
-use mathlib.Core.Path.{_≡_, refl, sym, _∙_}
+use mathlib.Core.Path.{_≡_, refl, sym, ap, _∙_}
 use mathlib.Core.Bool.{Bool, true, false}
 use mathlib.Core.List.{List, [], _∷_}
 use Prim.Native.Nat.{ℕ, _/_, _<_}
@@ -8,10 +8,12 @@ use Rattle.octets.specs.Choice.{pick}
 use Rattle.octets.proofs.Lists.{by-test}
 use Rattle.message.specs.Codes.{plain, numberOf, kindOf}
 use Rattle.message.specs.ReadingAMessage.{Ask, tunnel, read, request}
-use Rattle.table.specs.TheTable.{Access, Subscriber, isRowOf, lookup, row, rowAt, rowLength, readRow}
+use Rattle.table.specs.TheTable.{Access, Subscriber, Table, formOf, isRowOf, lookup, row, rowAt, rowBytes, width, readRow}
 use Rattle.table.specs.Soundness.{onEntry, sound}
+use Rattle.table.proofs.Bytes.{length-row}
+use Rattle.table.proofs.Rows.{row-form, row-with, whole-rows}
 use Rattle.table.proofs.Good.{Good, Standing}
-use Rattle.rules.specs.Calls.{account, Call, Reply, handle, reply, resultOf}
+use Rattle.rules.specs.Calls.{account, Call, Reply, handle, mostPolicies, reply, resultOf}
 use Rattle.order.specs.ChecksInOrder.{decidingChecks, noneFails}
 use Rattle.order.specs.Demand2.{afterwards, cutFor, exceeds, firstAlone, found, onAsked, placeTaken, requestIn, succeeds}
 use Rattle.order.specs.OpenedFirst.{sessionCut}
@@ -25,28 +27,31 @@ use Rattle.agreement.proofs.Tables.{Replaced, replaced}
 -- A CALL THAT SUCCEEDS
 
 -- from table t to table u, asking q, with reply r
-pub record Done (t u : List ℕ) (c : Call) (q : Ask) (r : Reply) : Type 0 where
+pub record Done (t u : Table) (c : Call) (q : Ask) (r : Reply) : Type 0 where
   pub i : ℕ
   pub rows-changed : Replaced t u i
   pub was-sound : sound (rowAt t i) ≡ true
   pub is-sound : sound (rowAt u i) ≡ true
-  pub says : readRow (rowAt u i) ≡ afterwards q (readRow (rowAt t i))
+  pub form-after : formOf (rowAt u i) ≡ t .form
+  pub says : readRow (rowAt u i) ≡ afterwards (t .form) q (readRow (rowAt t i))
   pub passes : noneFails (decidingChecks q (c .wag) (readRow (rowAt t i))) ≡ true
   pub replied : r ≡ reply c (plain 2001) (placeTaken q (readRow (rowAt t i))) (cutFor q (readRow (rowAt t i)))
 
-module _ (t : List ℕ) (c : Call) (s : succeeds t c ≡ true) where
-  row-in : (i : ℕ) → found t c ≡ row i → i < length t / rowLength
+module _ (t : Table) (c : Call) (s : succeeds t c ≡ true) where
+  row-in : (i : ℕ) → found t c ≡ row i → i < length (t .bytes) / width t
   unfolding found lookup
   row-in i e = in-table (isRowOf (account c (requestIn c))) t i e
 
   done-won : Won t c → Done t ((handle t c) .table) c ((requestIn c) .ask) ((handle t c) .reply)
   done-won (won i o a h) =
       let w = success-replaces-row t c i s (o .at) in
+      let full : length (rowBytes (t .form) (afterwards (t .form) ((requestIn c) .ask) (readRow (rowAt t i)))) ≡ width t = length-row (t .form) _ in
       record {
         i = i;
         rows-changed = rw (w .table) (replaced t i _ (rows-there t c a) (row-in i (o .at)));
         was-sound = w .was-sound;
         is-sound = w .is-sound;
+        form-after = ap formOf (ap (λ (u : Table). rowAt u i) (w .table) ∙ row-with (length (t .bytes) / width t) t (whole-rows t (rows-there t c a)) i (row-in i (o .at)) _ full) ∙ row-form _ (t .form) full;
         says = w .says;
         passes = sym (o .none) ∙ h;
         replied = rw (o .before) at (success-reply t c s);
@@ -55,11 +60,11 @@ module _ (t : List ℕ) (c : Call) (s : succeeds t c ≡ true) where
   pub done : Done t ((handle t c) .table) c ((requestIn c) .ask) ((handle t c) .reply)
   done = done-won (won-went t c s (went t c))
 
-  read-won : Won t c → read (c .message) ≡ request (requestIn c)
+  read-won : Won t c → read (mostPolicies (t .form)) (c .message) ≡ request (requestIn c)
   unfolding read requestIn pick
   read-won (won i o a h) = rw (o .was-read)
 
-  pub was-read : read (c .message) ≡ request (requestIn c)
+  pub was-read : read (mostPolicies (t .form)) (c .message) ≡ request (requestIn c)
   was-read = read-won (won-went t c s (went t c))
 
 -- WHAT ITS REPLY TELLS
@@ -96,11 +101,11 @@ pub data CutTold (cut : List Access) (r : Reply) : Type 0 where
 pub none-told : (c : Call) (place : ℕ) (q : Ask) (s : Subscriber) → cutFor q s ≡ [] → CutTold (cutFor q s) (reply c (plain 2001) place (cutFor q s))
 none-told c place q s e = rw e (no-cut refl (no-cut-told c place))
 
-module _ (c : Call) (place : ℕ) (session host label : List ℕ) (visited wag : Bool) (s : Subscriber) (g : Good s) where
+module _ {fm : ℕ} (c : Call) (place : ℕ) (session host realm label : List ℕ) (visited wag : Bool) (s : Subscriber) (g : Good fm s) where
   abbrev asked : Ask
-  asked = tunnel session host label visited
+  asked = tunnel session host realm label visited
 
-  one-told : (a : Access) (n : ℕ) → Standing n a → cutFor asked s ≡ a ∷ [] → CutTold (cutFor asked s) (reply c (plain 2001) place (cutFor asked s))
+  one-told : (a : Access) (n : ℕ) → Standing fm n a → cutFor asked s ≡ a ∷ [] → CutTold (cutFor asked s) (reply c (plain 2001) place (cutFor asked s))
   one-told a n fits e = rw e (one-cut a refl (cut-told c place a) (session-told c place n a fits))
 
   first-told : exceeds asked s ≡ true → First (onAsked asked s) → CutTold (cutFor asked s) (reply c (plain 2001) place (cutFor asked s))

@@ -10,7 +10,7 @@ use Rattle.octets.specs.Texts.{same}
 use Rattle.octets.proofs.Choice.{by-pick}
 use Rattle.octets.proofs.Lists.{by-test, same-eq, same-refl}
 use Rattle.message.specs.ReadingAMessage.{Ask, tunnel, policy, termination}
-use Rattle.table.specs.TheTable.{Access, Subscriber, rowAt, readRow}
+use Rattle.table.specs.TheTable.{Access, Subscriber, Table, formOf, rowAt, readRow}
 use Rattle.table.proofs.Good.{Good}
 use Rattle.table.proofs.Sound.{says-good}
 use Rattle.rules.specs.Calls.{Call, Reply}
@@ -80,7 +80,7 @@ module _ (q : Ask) (r : Reply) (no-cut : r .result .cut ≡ 0) (hushed : quiet (
 
 -- TRUTHFUL AGAIN
 
-module _ (t u : List ℕ) (s v : Screen) (own : sessionOf v ≡ sessionOf s) where
+module _ (t u : Table) (s v : Screen) (own : sessionOf v ≡ sessionOf s) where
   still-true : Truthful t s → Alike s v → ((k : ℕ) → standsAt u (sessionOf s) k ≡ standsAt t (sessionOf s) k) → Truthful u v
   still-true r a e =
       record {
@@ -103,7 +103,7 @@ quiet-failure which code kind place h =
     (λ e. rw (e, h, and-false (eqb kind 1)))
     (λ e. rw (e, h, and-false (eqb kind 1), and-false (eqb which 2)))
 
-pub refused-true : (t : List ℕ) (way : Way) (q : Ask) (r : Reply) (s : Screen) → eqb (r .result .code) 2001 ≡ false → r .result .cut ≡ 0 → Truthful t s → Truthful t (through way q r s)
+pub refused-true : (t : Table) (way : Way) (q : Ask) (r : Reply) (s : Screen) → eqb (r .result .code) 2001 ≡ false → r .result .cut ≡ 0 → Truthful t s → Truthful t (through way q r s)
 refused-true t way q r s h none i =
     still-true t t s _ (session-through way q r s) i
     (alike-through q r none (quiet-failure (kindAsked q) _ _ _ h) way s (i .one-of-four)) (λ k. refl)
@@ -129,7 +129,7 @@ notice-own cut r (one-cut a e n f) s four h =
 
 -- A CALL THAT SUCCEEDS
 
-module _ (t u : List ℕ) (c : Call) (q : Ask) (r : Reply) (d : Done t u c q r) where
+module _ (t u : Table) (c : Call) (q : Ask) (r : Reply) (d : Done t u c q r) where
   abbrev sub : Subscriber
   sub = readRow (rowAt t (d .i))
 
@@ -142,7 +142,7 @@ module _ (t u : List ℕ) (c : Call) (q : Ask) (r : Reply) (d : Done t u c q r) 
   place-is : r .result .place ≡ placeTaken q sub
   place-is = ap (λ (x : Reply). x .result .place) (d .replied) ∙ place-told c _ (cutFor q sub)
 
-  turned-by : (sid : List ℕ) (gone : Bool) → Became sid gone (sub .accesses) ((afterwards q sub) .accesses) → Turned t u sid gone
+  turned-by : (sid : List ℕ) (gone : Bool) → Became sid gone (sub .accesses) ((afterwards (t .form) q sub) .accesses) → Turned t u sid gone
   turned-by sid gone b =
       turned t u (d .i) (d .rows-changed) (d .was-sound) (d .is-sound) sid gone
       (rw (d .says) b)
@@ -153,25 +153,25 @@ module _ (t u : List ℕ) (c : Call) (q : Ask) (r : Reply) (d : Done t u c q r) 
   fed-success s = rw code-is
 
 -- a routing policy: nothing moves
-pub policy-true : (t u : List ℕ) (c : Call) (session route : List ℕ) (r : Reply) → Done t u c (policy session route) r
-    → (way : Way) (s : Screen) → Truthful t s → Truthful u (through way (policy session route) r s)
+pub policy-true : (t u : Table) (c : Call) (session one two three : List ℕ) (r : Reply) → Done t u c (policy session one two three) r
+    → (way : Way) (s : Screen) → Truthful t s → Truthful u (through way (policy session one two three) r s)
 unfolding kindAsked resultSays quiet cutFor exceeds pick
-policy-true t u c session route r d way s i =
+policy-true t u c session one two three r d way s i =
     let uncut : r .result .cut ≡ 0 = ap (λ (x : Reply). x .result .cut) (d .replied) ∙ no-cut-told c _ in
-    still-true t u s _ (session-through way (policy session route) r s) i
-    (alike-through (policy session route) r uncut refl way s (i .one-of-four))
-    ((turned-by t u c (policy session route) r d (sessionOf s) false (routed-stays (sessionOf s) session route _)) .rest refl)
+    still-true t u s _ (session-through way (policy session one two three) r s) i
+    (alike-through (policy session one two three) r uncut refl way s (i .one-of-four))
+    ((turned-by t u c (policy session one two three) r d (sessionOf s) false (routed-stays (t .form) (sessionOf s) session one two three _)) .rest refl)
 
 -- a termination: its screen goes off
-module _ (t u : List ℕ) (c : Call) (session label : List ℕ) (r : Reply) (d : Done t u c (termination session label) r) where
+module _ (t u : Table) (c : Call) (session label : List ℕ) (r : Reply) (d : Done t u c (termination session label) r) where
   abbrev ending : Ask
   ending = termination session label
 
   ended-turned : (sid : List ℕ) → Turned t u sid (same session sid)
   ended-turned sid =
-      let g : Good (readRow (rowAt t (d .i))) = says-good (rowAt t (d .i)) (d .was-sound) in
+      let g : Good (formOf (rowAt t (d .i))) (readRow (rowAt t (d .i))) = says-good (rowAt t (d .i)) (d .was-sound) in
       turned-by t u c ending r d sid (same session sid)
-      (ended-left sid session label _ g (ended-one c 0 _ g session label (c .wag) (d .passes)))
+      (ended-left (t .form) sid session label _ g (ended-one c 0 _ g session label (c .wag) (d .passes)))
 
   uncut : r .result .cut ≡ 0
   unfolding cutFor exceeds pick
@@ -200,24 +200,26 @@ module _ (t u : List ℕ) (c : Call) (session label : List ℕ) (r : Reply) (d :
       rw stays (still-true t u s s refl i (alike-self s (i .one-of-four)) ((ended-turned (sessionOf s)) .rest (same-comm session (sessionOf s) ∙ other))))
 
 -- an opening: its screen is connected, and that of the cut is marked
-module _ (t u : List ℕ) (c : Call) (session host label : List ℕ) (visited : Bool) (r : Reply) (d : Done t u c (tunnel session host label visited) r) where
+module _ (t u : Table) (c : Call) (session host realm label : List ℕ) (visited : Bool) (r : Reply) (d : Done t u c (tunnel session host realm label visited) r) where
   abbrev opening : Ask
-  opening = tunnel session host label visited
+  opening = tunnel session host realm label visited
 
   abbrev says-before : Subscriber
   says-before = readRow (rowAt t (d .i))
 
-  good-before : Good says-before
+  good-before : Good (formOf (rowAt t (d .i))) says-before
   good-before = says-good (rowAt t (d .i)) (d .was-sound)
 
   place-fits : within 1 8 (placeTaken opening says-before) ≡ true
-  place-fits = place-taken session host label visited says-before (rw (d .says) at (says-good (rowAt u (d .i)) (d .is-sound)))
+  place-fits =
+      place-taken (t .form) session host realm label visited says-before
+      (rw (d .form-after, d .says) at (says-good (rowAt u (d .i)) (d .is-sound)))
 
-  row-opened : Opened session (placeTaken opening says-before) (cutFor opening says-before) (says-before .accesses) ((afterwards opening says-before) .accesses)
-  row-opened = opens-row says-before good-before session host label visited (c .wag) (d .passes)
+  row-opened : Opened session (placeTaken opening says-before) (cutFor opening says-before) (says-before .accesses) ((afterwards (t .form) opening says-before) .accesses)
+  row-opened = opens-row (t .form) says-before good-before session host realm label visited (c .wag) (d .passes)
 
   cut-told : CutTold (cutFor opening says-before) r
-  cut-told = rw (d .replied) (cut-is-told c _ session host label visited (c .wag) says-before good-before (d .passes))
+  cut-told = rw (d .replied) (cut-is-told c _ session host realm label visited (c .wag) says-before good-before (d .passes))
 
   -- what its screen is told
   asks-by : (s : Screen) → requested opening s ≡ told session asks s
@@ -285,8 +287,8 @@ module _ (t u : List ℕ) (c : Call) (session host label : List ℕ) (visited : 
       (λ other. other-true s other way i before)
 
 -- any of them
-pub done-true : (t u : List ℕ) (c : Call) (q : Ask) (r : Reply) → Done t u c q r
+pub done-true : (t u : Table) (c : Call) (q : Ask) (r : Reply) → Done t u c q r
     → (way : Way) (s : Screen) → Truthful t s → standsOnce t (sessionOf s) ≡ true → standsOnce u (sessionOf s) ≡ true → Truthful u (through way q r s)
-done-true t u c (tunnel session host label visited) r d way s i before now' = open-true t u c session host label visited r d way s i before now'
-done-true t u c (policy session route) r d way s i before now' = policy-true t u c session route r d way s i
+done-true t u c (tunnel session host realm label visited) r d way s i before now' = open-true t u c session host realm label visited r d way s i before now'
+done-true t u c (policy session one two three) r d way s i before now' = policy-true t u c session one two three r d way s i
 done-true t u c (termination session label) r d way s i before now' = end-true t u c session label r d way s i before

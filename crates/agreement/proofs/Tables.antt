@@ -10,8 +10,9 @@ use Rattle.octets.specs.Lists.{keep}
 use Rattle.octets.specs.Texts.{pieces, zeros}
 use Rattle.octets.proofs.Lists.{and-left, and-right, both, by-test}
 use Rattle.octets.proofs.Pieces.{drop-zeros, length-pieces}
-use Rattle.table.specs.TheTable.{Access, Subscriber, block, readRow, rowAt, rowBytes, rowLength, rows, tableNumber, withRow}
-use Rattle.table.specs.Soundness.{hasForm, headForm, sound}
+use Rattle.table.specs.TheTable.{Access, Subscriber, Table, head, readRow, rowAt, rowBytes, rowLength, rows, tableNumber, width, withRow}
+use Rattle.table.specs.Answers.{lent}
+use Rattle.table.specs.Soundness.{hasForm, headForm, isRow, sound}
 use Rattle.table.proofs.Bytes.{length-row}
 use Rattle.table.proofs.Rows.{length-withRow, nth-row, rows-with, whole-rows}
 use Rattle.agreement.specs.TheBoardAgrees.{some, standsIn, standsInAt, stands, standsAt, standsOnce}
@@ -20,27 +21,29 @@ use Rattle.agreement.proofs.Accesses.{Became, Opened, at, has}
 
 -- A ROW REPLACED
 
-pub record Replaced (t u : List ℕ) (i : ℕ) : Type 0 where
+pub record Replaced (t u : Table) (i : ℕ) : Type 0 where
   pub there : i < length (rows t)
   pub there-after : i < length (rows u)
   pub was : getD (rows t) i [] ≡ rowAt t i
   pub is : getD (rows u) i [] ≡ rowAt u i
   pub rest : others (rows u) i ≡ others (rows t) i
 
-pub replaced : (t : List ℕ) (i : ℕ) (s : Subscriber) → tableNumber t ≡ 0 → i < length t / rowLength → Replaced t (withRow t i (rowBytes s)) i
-unfolding rows
+pub replaced : (t : Table) (i : ℕ) (s : Subscriber) → tableNumber t ≡ 0 → i < length (t .bytes) / width t → Replaced t (withRow t i (rowBytes (t .form) s)) i
+unfolding rows withRow
 replaced t i s good l =
-    let n : ℕ = length t / rowLength in
-    let u : List ℕ = withRow t i (rowBytes s) in
-    let size : length t ≡ rowLength * n = whole-rows t good in
-    let kept : length u ≡ length t = length-withRow n t size i l (rowBytes s) (length-row s) in
-    let same-count : length u / rowLength ≡ n = ap (λ (m : ℕ). m / rowLength) kept in
+    let n : ℕ = length (t .bytes) / width t in
+    let r : List ℕ = rowBytes (t .form) s in
+    let u : Table = withRow t i r in
+    let full : length r ≡ width t = length-row (t .form) s in
+    let size : length (t .bytes) ≡ width t * n = whole-rows t good in
+    let kept : length (u .bytes) ≡ length (t .bytes) = length-withRow n t size i l r full in
+    let same-count : length (u .bytes) / width t ≡ n = ap (λ (m : ℕ). m / width t) kept in
     record {
-      there = rw (length-pieces rowLength n t) l;
-      there-after = rw (same-count, length-pieces rowLength n u) l;
+      there = rw (length-pieces (width t) n (t .bytes)) l;
+      there-after = rw (same-count, length-pieces (width t) n (u .bytes)) l;
       was = nth-row n t size i l;
       is = rw same-count (nth-row n u (kept ∙ size) i l);
-      rest = rw (same-count, rows-with n t size i l (rowBytes s) (length-row s)) (others-set (pieces rowLength n t) i (rowBytes s));
+      rest = rw (same-count, rows-with n t size i l r full) (others-set (pieces (width t) n (t .bytes)) i r);
     }
 
 -- WHERE A SESSION-ID STANDS
@@ -64,25 +67,25 @@ row-at-none session r h =
     (λ e. rw e (some-any (at session) (has session) _ (access-at-none session) (λ k. rw e at (h k))))
     (λ e. rw e)
 
-pub at-none : (t session : List ℕ) → ((k : ℕ) → standsAt t session k ≡ false) → stands t session ≡ false
+pub at-none : (t : Table) (session : List ℕ) → ((k : ℕ) → standsAt t session k ≡ false) → stands t session ≡ false
 unfolding standsAt stands
 at-none t session h = some-any (standsInAt session) (standsIn session) (rows t) (row-at-none session) h
 
-pub stands-at : (t session : List ℕ) (k : ℕ) → standsAt t session k ≡ true → stands t session ≡ true
+pub stands-at : (t : Table) (session : List ℕ) (k : ℕ) → standsAt t session k ≡ true → stands t session ≡ true
 unfolding standsAt stands
 stands-at t session k h = some-imp (standsInAt session k) (standsIn session) (rows t) (at-in session k) h
 
 -- NOTHING STANDS IN ZEROS
 
 -- a sound row begins with 1
-begins-1 : (r : List ℕ) → sound r ≡ true → eqb (getD (block r 0) 0 0) 1 ≡ true
+begins-1 : (r : List ℕ) → sound r ≡ true → eqb (getD (head r) 0 0) 1 ≡ true
 unfolding sound hasForm headForm
 begins-1 r h =
     let form : hasForm r ≡ true = and-left (hasForm r) _ h in
-    let head : headForm (block r 0) ≡ true = and-left (headForm (block r 0)) _ (and-right (eqb (length r) rowLength) _ form) in
-    and-left (eqb (getD (block r 0) 0 0) 1) _ head
+    let begins : headForm (head r) ≡ true = and-left (headForm (head r)) _ (and-right (isRow r) _ form) in
+    and-left (eqb (getD (head r) 0 0) 1) _ begins
 
-first-zero : (n m : ℕ) → eqb (getD (block (take n (zeros m)) 0) 0 0) 1 ≡ false
+first-zero : (n m : ℕ) → eqb (getD (head (take n (zeros m))) 0 0) 1 ≡ false
 unfolding zeros
 first-zero zero m = refl
 first-zero (suc n) zero = refl
@@ -99,9 +102,9 @@ unfolding some pieces
 none-in-pieces session w zero m = refl
 none-in-pieces session w (suc n) m = rw (none-in-row session w m, drop-zeros w m) (none-in-pieces session w n (m - w))
 
-pub none-in-zeros : (n : ℕ) (session : List ℕ) → stands (zeros n) session ≡ false
+pub none-in-zeros : (fm n : ℕ) (session : List ℕ) → stands (lent fm (zeros n)) session ≡ false
 unfolding stands rows
-none-in-zeros n session = none-in-pieces session rowLength (length (zeros n) / rowLength) n
+none-in-zeros fm n session = none-in-pieces session (rowLength fm) (length (zeros n) / rowLength fm) n
 
 -- in a sound row, by its accesses
 in-sound : (session r : List ℕ) → sound r ≡ true → standsIn session r ≡ some (has session) ((readRow r) .accesses)
@@ -112,7 +115,7 @@ at-sound : (session : List ℕ) (k : ℕ) (r : List ℕ) → sound r ≡ true �
 unfolding standsInAt
 at-sound session k r h = rw h
 
-module _ (t u : List ℕ) (i : ℕ) (c : Replaced t u i) (was-sound : sound (rowAt t i) ≡ true) (is-sound : sound (rowAt u i) ≡ true) where
+module _ (t u : Table) (i : ℕ) (c : Replaced t u i) (was-sound : sound (rowAt t i) ≡ true) (is-sound : sound (rowAt u i) ≡ true) where
   abbrev before : List Access
   before = (readRow (rowAt t i)) .accesses
 
@@ -151,15 +154,15 @@ module _ (t u : List ℕ) (i : ℕ) (c : Replaced t u i) (was-sound : sound (row
 
 -- WHAT BECAME OF A SESSION-ID IN THE TABLE
 
-pub record Turned (t u : List ℕ) (session : List ℕ) (gone : Bool) : Type 0 where
+pub record Turned (t u : Table) (session : List ℕ) (gone : Bool) : Type 0 where
   pub left : gone ≡ true → standsOnce t session ≡ true → (k : ℕ) → standsAt u session k ≡ false
   pub rest : gone ≡ false → (k : ℕ) → standsAt u session k ≡ standsAt t session k
 
-pub record New (t u : List ℕ) (session : List ℕ) (place : ℕ) : Type 0 where
+pub record New (t u : Table) (session : List ℕ) (place : ℕ) : Type 0 where
   pub nowhere : (k : ℕ) → standsAt t session k ≡ false
   pub there : (k : ℕ) → standsAt u session k ≡ eqb place k
 
-module _ (t u : List ℕ) (i : ℕ) (c : Replaced t u i) (was-sound : sound (rowAt t i) ≡ true) (is-sound : sound (rowAt u i) ≡ true) where
+module _ (t u : Table) (i : ℕ) (c : Replaced t u i) (was-sound : sound (rowAt t i) ≡ true) (is-sound : sound (rowAt u i) ≡ true) where
   pub turned : (session : List ℕ) (gone : Bool) → Became session gone ((readRow (rowAt t i)) .accesses) ((readRow (rowAt u i)) .accesses) → Turned t u session gone
   turned session gone b =
       record {

@@ -1,4 +1,5 @@
 -- Server and board together (request W7 of document 02): a screen shows connected at place k exactly if its Session-Id stands at place k in a sound row.
+-- It holds of tables of either form (W5).
 use mathlib.Core.Path.{_≡_}
 use mathlib.Core.Bool.{Bool, true, false, _&&_, _||_, not}
 use mathlib.Core.List.{List, [], _∷_}
@@ -9,10 +10,10 @@ use Rattle.octets.specs.Choice.{pick}
 use Rattle.octets.specs.Lists.{every, keep}
 use Rattle.octets.specs.Texts.{same}
 use Rattle.message.specs.ReadingAMessage.{Ask, tunnel, policy, termination, Reading, refused, request, read}
-use Rattle.table.specs.TheTable.{Access, rows, readRow}
+use Rattle.table.specs.TheTable.{Access, Table, rows, readRow}
 use Rattle.table.specs.Soundness.{sound}
 use Rattle.setup.specs.SetUp.{clear}
-use Rattle.rules.specs.Calls.{Call, Result, Reply, handle}
+use Rattle.rules.specs.Calls.{Call, Result, Reply, handle, mostPolicies}
 use Rattle.order.specs.OpenedFirst.{sessionCut}
 use Rattle.screen.specs.TheBoard.{Screen, sessionOf, right, isConnected, countConnected, feedRequest, feedResult, feedNotice}
 
@@ -37,14 +38,14 @@ unfoldable pub standsInAt : (session : List ℕ) → (k : ℕ) → (r : List ℕ
 standsInAt session k r = sound r && some (λ (a : Access). same (a .session) session && eqb (a .place) k) ((readRow r) .accesses)
 
 -- In some row of the table, whether a lookup finds that row or not.
-unfoldable pub stands : (t : List ℕ) → (session : List ℕ) → Bool
+unfoldable pub stands : (t : Table) → (session : List ℕ) → Bool
 stands t session = some (standsIn session) (rows t)
 
-unfoldable pub standsAt : (t : List ℕ) → (session : List ℕ) → (k : ℕ) → Bool
+unfoldable pub standsAt : (t : Table) → (session : List ℕ) → (k : ℕ) → Bool
 standsAt t session k = some (standsInAt session k) (rows t)
 
 -- In no two rows at once. In one sound row no Session-Id stands twice.
-unfoldable pub standsOnce : (t : List ℕ) → (session : List ℕ) → Bool
+unfoldable pub standsOnce : (t : Table) → (session : List ℕ) → Bool
 standsOnce t session = leb (length (keep (standsIn session) (rows t))) 1
 
 -- AGREEMENT
@@ -53,28 +54,28 @@ unfoldable pub connectedAt : (k : ℕ) → Screen → Bool
 connectedAt k s = isConnected s && eqb (s .place) k
 
 -- A screen is truthful if its state is one of the four and it shows connected at a place exactly if its Session-Id stands there.
-pub record Truthful (t : List ℕ) (s : Screen) : Type 0 where
+pub record Truthful (t : Table) (s : Screen) : Type 0 where
   pub one-of-four : leb (s .state) 3 ≡ true
   pub exactly : (k : ℕ) → connectedAt k s ≡ standsAt t (sessionOf s) k
 
-abbrev pub Agrees : (t : List ℕ) → List Screen → Type 0
+abbrev pub Agrees : (t : Table) → List Screen → Type 0
 Agrees t board = Each (Truthful t) board
 
 -- The board can not tell two accounts apart that hold one Session-Id: no Session-Id of the board is held so.
-unfoldable pub eachOnce : (t : List ℕ) → List Screen → Bool
+unfoldable pub eachOnce : (t : Table) → List Screen → Bool
 eachOnce t board = every (λ s. standsOnce t (sessionOf s)) board
 
 -- WHAT IS FED OF A CALL
 
 -- The request's kind in the board's numbers, and its Session-Id.
 unfoldable pub kindAsked : Ask → ℕ
-kindAsked (tunnel session host label visited) = 0
-kindAsked (policy session route) = 1
+kindAsked (tunnel session host realm label visited) = 0
+kindAsked (policy session first second third) = 1
 kindAsked (termination session label) = 2
 
 unfoldable pub sessionAsked : Ask → List ℕ
-sessionAsked (tunnel session host label visited) = session
-sessionAsked (policy session route) = session
+sessionAsked (tunnel session host realm label visited) = session
+sessionAsked (policy session first second third) = session
 sessionAsked (termination session label) = session
 
 unfoldable pub withRequest : Ask → List Screen → List Screen
@@ -115,16 +116,16 @@ pub record Fed : Type 0 where
   pub call : Call
   pub way : Way
 
--- The table and the board at a moment, and after a call.
+-- The table and the board at a moment, and after a call. The message is read as for a table of that form.
 pub record Moment : Type 0 where
-  pub table : List ℕ
+  pub table : Table
   pub board : List Screen
 
 unfoldable pub after : Moment → Fed → Moment
 after m f =
     record {
       table = (handle (m .table) (f .call)) .table;
-      board = fedBy (f .way) (read (f .call .message)) ((handle (m .table) (f .call)) .reply) (m .board);
+      board = fedBy (f .way) (read (mostPolicies (m .table .form)) (f .call .message)) ((handle (m .table) (f .call)) .reply) (m .board);
     }
 
 unfoldable pub afterAll : Moment → List Fed → Moment
@@ -156,14 +157,14 @@ unfoldable pub dark : List Screen → Bool
 dark board = every (λ s. leb (s .state) 3 && not (isConnected s)) board
 
 abbrev pub DarkAgrees : Type 0
-DarkAgrees = (t : List ℕ) (board : List Screen) → dark board ≡ true → every (λ s. not (stands t (sessionOf s))) board ≡ true → Agrees t board
+DarkAgrees = (t : Table) (board : List Screen) → dark board ≡ true → every (λ s. not (stands t (sessionOf s))) board ≡ true → Agrees t board
 
 -- So it is with a table that was cleared.
 abbrev pub ClearedAgrees : Type 0
-ClearedAgrees = (t : List ℕ) (board : List Screen) → (clear t) .number ≡ 0 → dark board ≡ true → Agrees ((clear t) .table) board
+ClearedAgrees = (t : Table) (board : List Screen) → (clear t) .number ≡ 0 → dark board ≡ true → Agrees ((clear t) .table) board
 
 -- The number of connected screens is then that of the board's Session-Ids that stand.
 abbrev pub CountsWhatStands : Type 0
 CountsWhatStands =
-    (t : List ℕ) (board : List Screen) → right board ≡ true → Agrees t board
+    (t : Table) (board : List Screen) → right board ≡ true → Agrees t board
     → (countConnected board) .screens ≡ length (keep (λ s. stands t (sessionOf s)) board)

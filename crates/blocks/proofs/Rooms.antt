@@ -12,7 +12,7 @@ use Rattle.octets.proofs.Texts.{zero-cons}
 use Rattle.table.specs.Soundness.{zeroBehind}
 use Rattle.octets.proofs.Pieces.{drop-take}
 
-zero-append : (s t : List ℕ) → allZero (s ++ t) ≡ allZero s && allZero t
+pub zero-append : (s t : List ℕ) → allZero (s ++ t) ≡ allZero s && allZero t
 unfolding allZero Rattle.octets.specs.Texts.same Rattle.octets.specs.Texts.zeros
 zero-append [] t = refl
 zero-append (x ∷ s) t =

@@ -2,15 +2,15 @@
 ghost use mathlib.Core.Path.{_≡_};
 ghost use mathlib.Core.Bool.{true, false, not, _&&_};
 ghost use mathlib.Core.List.{[]};
-ghost use Prim.Native.Nat.{_+_, _-_, _*_, _/_, _<_, _≤_};
-ghost use lib.ListN.{length, getD, take, drop};
+ghost use Prim.Native.Nat.{_+_, _<_, _≤_};
+ghost use lib.ListN.{length, getD, drop};
 ghost use lib.Dec.{eqb, leb};
 ghost use Rattle.octets.specs.Choice.{pick, within};
-ghost use Rattle.octets.specs.Texts.{part, same, allZero};
-ghost use Rattle.table.specs.TheTable.{places, readEntries, sums};
+ghost use Rattle.octets.specs.Texts.{part, allZero};
+ghost use Rattle.table.specs.TheTable.{readEntries};
 ghost use Rattle.octets.specs.Lists.{every, distinct, sumOf, upTo0};
-ghost use Rattle.table.specs.Soundness.{zeroBehind, isDigit, isName, headForm, entryForm, entriesForm, lowerCase, sameLabel, labels, limits, accessForm};
-ghost use Rattle.blocks.specs.RowTests.{accessSound};
+ghost use Rattle.table.specs.Soundness.{zeroBehind, isDigit, isName, headForm, entryForm, entriesForm, lowerCase, sameLabel, labels, limits, accessForm, secondForm, onlyBehind, sumsAgree};
+ghost use Rattle.blocks.specs.RowTests.{accessSound, secondSound};
 
 // WHAT THE TESTS SHARE
 
@@ -34,7 +34,7 @@ fn zero_behind(room: &[u8], n: usize) -> bool
 // Bytes 510 and 511 of a block are the second and first sum of the bytes before them.
 pub fn block_sums_agree(b: &[u8]) -> bool
     requires { ⌜ length (now b) ≡ 512 ⌝ }
-    ensures { λ r. ⌜ r ≡ same (part (now (b .entry)) 510 2) (sums (take 510 (now (b .entry)))) ⌝ }
+    ensures { λ r. ⌜ r ≡ sumsAgree (now (b .entry)) ⌝ }
 {
     let s = table::sums_of(b);
     let second = s.second;
@@ -247,7 +247,7 @@ pub fn labels_differ(room: &[u8], n: usize) -> bool
     true
 }
 
-// A PLACE IN USE
+// A PLACE IN USE: its first block
 
 // Byte 4 is 1 exactly if byte 5, the policy's length, is 1 or more.
 pub fn policy_marked(mark: u8, size: u8) -> bool
@@ -320,4 +320,80 @@ pub fn access_sound(b: &[u8], n: u8) -> bool
         return false;
     }
     block_sums_agree(b)
+}
+
+// A PLACE IN USE: its second block, which form 1 has not
+
+// A text of n bytes only behind one that has some.
+pub fn only_behind(n: u8, before: u8) -> bool
+    ensures { λ r. ⌜ r ≡ onlyBehind n before ⌝ }
+{
+    if n < 1 {
+        return true;
+    }
+    1 <= before
+}
+
+fn second_lengths(c: &[u8]) -> bool
+    requires { ⌜ length (now c) ≡ 512 ⌝ }
+    ensures { λ r. ⌜ r ≡ eqb (getD (now (c .entry)) 0 0) 3 && (leb (getD (now (c .entry)) 1 0) 128 && (leb (getD (now (c .entry)) 3 0) 128 && leb (getD (now (c .entry)) 4 0) 128)) ⌝ }
+{
+    if c[0] != 3 {
+        return false;
+    }
+    if 128 < c[1] {
+        return false;
+    }
+    if 128 < c[3] {
+        return false;
+    }
+    c[4] <= 128
+}
+
+// Zeros behind realm, second and third policy, and behind the three: the last two are one stretch.
+fn second_rooms(c: &[u8]) -> bool
+    requires { ⌜ (length (now c) ≡ 512) × (getD (now c) 1 0 ≤ 128) × (getD (now c) 3 0 ≤ 128) × (getD (now c) 4 0 ≤ 128) ⌝ }
+    ensures { λ r. ⌜ r ≡ zeroBehind (getD (now (c .entry)) 1 0) (part (now (c .entry)) 8 128) && (zeroBehind (getD (now (c .entry)) 3 0) (part (now (c .entry)) 136 128) && (zeroBehind (getD (now (c .entry)) 4 0) (part (now (c .entry)) 264 128) && allZero (part (now (c .entry)) 392 118))) ⌝ }
+{
+    if !zero_behind(&c[8..136], octets::long(c[1])) {
+        return false;
+    }
+    if !zero_behind(&c[136..264], octets::long(c[3])) {
+        return false;
+    }
+    let from = 264 + octets::long(c[4]);
+    octets::all_zero(&c[from..510])
+}
+
+pub fn second_form(c: &[u8]) -> bool
+    requires { ⌜ length (now c) ≡ 512 ⌝ }
+    ensures { λ r. ⌜ r ≡ secondForm (now (c .entry)) ⌝ }
+{
+    if !second_lengths(c) {
+        return false;
+    }
+    if c[2] != 0 {
+        return false;
+    }
+    if !octets::all_zero(&c[5..8]) {
+        return false;
+    }
+    second_rooms(c)
+}
+
+// Where the first policy has `first` bytes.
+pub fn second_sound(c: &[u8], first: u8) -> bool
+    requires { ⌜ length (now c) ≡ 512 ⌝ }
+    ensures { λ r. ⌜ r ≡ secondSound (now (c .entry)) first ⌝ }
+{
+    if !second_form(c) {
+        return false;
+    }
+    if !only_behind(c[3], first) {
+        return false;
+    }
+    if !only_behind(c[4], c[3]) {
+        return false;
+    }
+    block_sums_agree(c)
 }

@@ -136,8 +136,8 @@ on-places : (l : List ℕ) → every (within 1 8) l ≡ true → every (isOn pla
 unfolding places
 on-places l h = every-imp (within 1 8) _ (λ x w. in-counted 1 8 x (within-low 1 8 x w) (omega (arith, within-high 1 8 x w))) l h
 
-pub ones-accesses : (a : List Access) (n : ℕ) → every (goodAccess n) a ≡ true → distinct eqb (line a) ≡ true → ones (usedBits (line a)) ≡ length a
+pub ones-accesses : (fm : ℕ) (a : List Access) (n : ℕ) → every (goodAccess fm n) a ≡ true → distinct eqb (line a) ≡ true → ones (usedBits (line a)) ≡ length a
 unfolding usedBits
-ones-accesses a n g d =
-    let on : every (isOn places) (line a) ≡ true = on-places (line a) (each-place n a g) in
+ones-accesses fm a n g d =
+    let on : every (isOn places) (line a) ≡ true = on-places (line a) (each-place fm n a g) in
     omega (arith, ones-bits (map (isOn (line a)) places), trues-keep a places, keep-split (vacant a) places, vacant-exact a places (places-eight .0) d on)

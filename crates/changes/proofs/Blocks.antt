@@ -14,8 +14,9 @@ use lib.Pow.{pow-lt}
 use Rattle.octets.specs.Choice.{pick}
 use Rattle.octets.specs.Lists.{counted, every, isOn, keep}
 use Rattle.octets.specs.Texts.{filled, part, put, zeros}
-use Rattle.table.specs.TheTable.{Entry, accessBytes, entryBytes, fromBits, held, places, sealed, sums, usedBits}
-use Rattle.changes.specs.Writes.{closedUp, entriesWith, headWith, openedBytes, policyWith}
+use Rattle.table.specs.TheTable.{Entry, entryBytes, firstBytes, fromBits, held, places, sealed, secondBytes, sums, usedBits}
+use Rattle.changes.specs.Changes.{noPolicies}
+use Rattle.changes.specs.Writes.{closedUp, entriesWith, fresh, headWith, othersWith, policyWith}
 use Rattle.octets.proofs.Lists.{by-test, keep-snoc, kept}
 use Rattle.octets.proofs.Texts.{length-filled, length-part, length-put, length-zeros}
 use Rattle.table.proofs.Bytes.{fill, length-entry}
@@ -246,6 +247,10 @@ pub zeros-four : zeros 4 ≡ 0 ∷ 0 ∷ 0 ∷ 0 ∷ []
 unfolding zeros
 zeros-four = refl
 
+pub zeros-six : zeros 6 ≡ 0 ∷ 0 ∷ 0 ∷ 0 ∷ 0 ∷ 0 ∷ []
+unfolding zeros
+zeros-six = refl
+
 pub zeros-three : zeros 3 ≡ 0 ∷ 0 ∷ 0 ∷ []
 unfolding zeros
 zeros-three = refl
@@ -281,10 +286,10 @@ access-zeros =
     ∙ ap (λ (t : List ℕ). zeros 128 ++ t) (zeros-split 128 120
     ∙ ap (λ (t : List ℕ). zeros 128 ++ t) (zeros-split 118 2)))))
 
-pub access-put : (n : ℕ) (s h : List ℕ) → length s ≤ 128 → length h ≤ 128
-    → sealed (take 510 (put (put (put (zeros 512) 0 (2 ∷ n ∷ length s ∷ length h ∷ [])) 8 s) 136 h)) ≡ openedBytes n s h
-unfolding openedBytes accessBytes held
-access-put n s h ls lh =
+pub first-put : (n : ℕ) (s h : List ℕ) → length s ≤ 128 → length h ≤ 128
+    → sealed (take 510 (put (put (put (zeros 512) 0 (2 ∷ n ∷ length s ∷ length h ∷ [])) 8 s) 136 h)) ≡ firstBytes (fresh n (record { session = s; host = h; realm = [] }))
+unfolding fresh noPolicies firstBytes held
+first-put n s h ls lh =
     let a : List ℕ = 2 ∷ n ∷ length s ∷ length h ∷ [] in
     let o : List ℕ = 2 ∷ n ∷ length s ∷ length h ∷ 0 ∷ 0 ∷ 0 ∷ 0 ∷ [] in
     let fs : List ℕ = filled s 128 in
@@ -309,6 +314,36 @@ access-put n s h ls lh =
     ∙ ap sealed t0
     ∙ ap (λ (t : List ℕ). sealed (o ++ (fs ++ (fh ++ (t ++ zeros 118))))) (sym (filled-none 128))
 
+pub second-put : (r : List ℕ) → length r ≤ 128
+    → sealed (take 510 (put (put (zeros 512) 0 (3 ∷ length r ∷ [])) 8 r)) ≡ secondBytes (fresh 0 (record { session = []; host = []; realm = r }))
+unfolding fresh noPolicies secondBytes
+second-put r lr =
+    let a : List ℕ = 3 ∷ length r ∷ [] in
+    let o : List ℕ = 3 ∷ length r ∷ 0 ∷ 0 ∷ 0 ∷ 0 ∷ 0 ∷ 0 ∷ [] in
+    let fr : List ℕ = filled r 128 in
+    let e : List ℕ = zeros 128 ++ (zeros 128 ++ (zeros 118 ++ zeros 2)) in
+    let z : zeros 512 ≡ zeros 2 ++ (zeros 6 ++ (zeros 128 ++ e)) =
+    zeros-split 2 510
+    ∙ ap (λ (t : List ℕ). zeros 2 ++ t) (zeros-split 6 504
+    ∙ ap (λ (t : List ℕ). zeros 6 ++ t) (zeros-split 128 376
+    ∙ ap (λ (t : List ℕ). zeros 128 ++ t) (zeros-split 128 248
+    ∙ ap (λ (t : List ℕ). zeros 128 ++ t) (zeros-split 128 120
+    ∙ ap (λ (t : List ℕ). zeros 128 ++ t) (zeros-split 118 2))))) in
+    let p0 : put (zeros 512) 0 a ≡ o ++ (zeros 128 ++ e) =
+    ap (λ (t : List ℕ). put t 0 a) z
+    ∙ put-over [] (zeros 2) a (zeros 6 ++ (zeros 128 ++ e)) 0 refl (length-zeros 2)
+    ∙ ap (λ (t : List ℕ). a ++ (t ++ (zeros 128 ++ e))) zeros-six in
+    let p1 : put (put (zeros 512) 0 a) 8 r ≡ o ++ (fr ++ e) = ap (λ (t : List ℕ). put t 8 r) p0 ∙ put-room o r e 8 128 refl lr in
+    let t0 : take 510 (o ++ (fr ++ e)) ≡ o ++ (fr ++ (zeros 128 ++ (zeros 128 ++ zeros 118))) =
+    take-past 8 502 o (fr ++ e) refl
+    ∙ ap (λ (t : List ℕ). o ++ t) (take-past 128 374 fr e (length-filled r 128)
+    ∙ ap (λ (t : List ℕ). fr ++ t) (take-past 128 246 (zeros 128) (zeros 128 ++ (zeros 118 ++ zeros 2)) (length-zeros 128)
+    ∙ ap (λ (t : List ℕ). zeros 128 ++ t) (take-past 128 118 (zeros 128) (zeros 118 ++ zeros 2) (length-zeros 128)
+    ∙ ap (λ (t : List ℕ). zeros 128 ++ t) (take-at (zeros 118) (zeros 2) 118 (length-zeros 118))))) in
+    ap (λ (t : List ℕ). sealed (take 510 t)) p1
+    ∙ ap sealed t0
+    ∙ (λ i. sealed (o ++ (fr ++ (sym (filled-none 128) i ++ (sym (filled-none 128) i ++ zeros 118)))))
+
 -- ANOTHER POLICY
 
 cut-6 : (b : List ℕ) → drop 6 b ≡ part b 6 258 ++ (part b 264 128 ++ drop 392 b)
@@ -316,12 +351,12 @@ cut-6 b =
     sym (take-append-drop 258 (drop 6 b))
     ∙ ap (λ (t : List ℕ). part b 6 258 ++ t) (drop-drop 258 6 b ∙ sym (take-append-drop 128 (drop 264 b)) ∙ ap (λ (t : List ℕ). part b 264 128 ++ t) (drop-drop 128 264 b))
 
-set-two : (b : List ℕ) (x y : ℕ) → length b ≡ 512 → set (set b 4 x) 5 y ≡ take 4 b ++ (x ∷ y ∷ drop 6 b)
-set-two b x y h =
-    let q : set b 4 x ≡ (take 4 b ++ (x ∷ [])) ++ (getD b 5 0 ∷ drop 6 b) =
-    set-split b 4 x (omega arith) ∙ ap (λ (t : List ℕ). take 4 b ++ (x ∷ t)) (drop-cons b 5 0 (omega arith)) ∙ sym (append-assoc (take 4 b) (x ∷ []) (getD b 5 0 ∷ drop 6 b)) in
-    let l : length (take 4 b ++ (x ∷ [])) ≡ 5 = length-append (take 4 b) (x ∷ []) ∙ omega (arith, length-take-le 4 b (omega arith)) in
-    ap (λ (t : List ℕ). set t 5 y) q ∙ set-at (take 4 b ++ (x ∷ [])) (getD b 5 0) (drop 6 b) y 5 l ∙ append-assoc (take 4 b) (x ∷ []) (y ∷ drop 6 b)
+set-pair : (b : List ℕ) (i x y : ℕ) → suc (suc i) ≤ length b → set (set b i x) (suc i) y ≡ take i b ++ (x ∷ y ∷ drop (suc (suc i)) b)
+set-pair b i x y h =
+    let q : set b i x ≡ (take i b ++ (x ∷ [])) ++ (getD b (suc i) 0 ∷ drop (suc (suc i)) b) =
+    set-split b i x (omega arith) ∙ ap (λ (t : List ℕ). take i b ++ (x ∷ t)) (drop-cons b (suc i) 0 (omega arith)) ∙ sym (append-assoc (take i b) (x ∷ []) (getD b (suc i) 0 ∷ drop (suc (suc i)) b)) in
+    let l : length (take i b ++ (x ∷ [])) ≡ suc i = length-append (take i b) (x ∷ []) ∙ omega (arith, length-take-le i b (omega arith)) in
+    ap (λ (t : List ℕ). set t (suc i) y) q ∙ set-at (take i b ++ (x ∷ [])) (getD b (suc i) 0) (drop (suc (suc i)) b) y (suc i) l ∙ append-assoc (take i b) (x ∷ []) (y ∷ drop (suc (suc i)) b)
 
 pub policy-put : (b pol : List ℕ) → length b ≡ 512 → length pol ≤ 128
     → sealed (take 510 (put (put (set (set b 4 1) 5 (length pol)) 264 (zeros 128)) 264 pol)) ≡ policyWith b pol
@@ -333,7 +368,7 @@ policy-put b pol h l =
     let ld : length d ≡ 260 = ap (λ (i : ℕ). suc (suc i)) (length-part b 6 258 (omega arith)) in
     let lad : length (a ++ d) ≡ 264 = length-append a d ∙ omega arith in
     let p0 : set (set b 4 1) 5 (length pol) ≡ (a ++ d) ++ (part b 264 128 ++ drop 392 b) =
-    set-two b 1 (length pol) h ∙ ap (λ (t : List ℕ). a ++ (1 ∷ length pol ∷ t)) (cut-6 b) ∙ sym (append-assoc a d (part b 264 128 ++ drop 392 b)) in
+    set-pair b 4 1 (length pol) (omega arith) ∙ ap (λ (t : List ℕ). a ++ (1 ∷ length pol ∷ t)) (cut-6 b) ∙ sym (append-assoc a d (part b 264 128 ++ drop 392 b)) in
     let p1 : put (set (set b 4 1) 5 (length pol)) 264 (zeros 128) ≡ (a ++ d) ++ (zeros 128 ++ drop 392 b) =
     ap (λ (t : List ℕ). put t 264 (zeros 128)) p0 ∙ put-over (a ++ d) (part b 264 128) (zeros 128) (drop 392 b) 264 lad (length-part b 264 128 (omega arith) ∙ sym (length-zeros 128)) in
     let p2 : put (put (set (set b 4 1) 5 (length pol)) 264 (zeros 128)) 264 pol ≡ a ++ (d ++ (filled pol 128 ++ drop 392 b)) =
@@ -342,6 +377,43 @@ policy-put b pol h l =
     ∙ ap sealed (take-past 4 506 a (d ++ (filled pol 128 ++ drop 392 b)) la
     ∙ ap (λ (t : List ℕ). a ++ t) (take-past 260 246 d (filled pol 128 ++ drop 392 b) ld
     ∙ ap (λ (t : List ℕ). d ++ t) (take-past 128 118 (filled pol 128) (drop 392 b) (length-filled pol 128))))
+
+-- THE OTHER POLICIES
+
+cut-5 : (b : List ℕ) → drop 5 b ≡ part b 5 131 ++ (part b 136 256 ++ drop 392 b)
+cut-5 b =
+    sym (take-append-drop 131 (drop 5 b))
+    ∙ ap (λ (t : List ℕ). part b 5 131 ++ t) (drop-drop 131 5 b ∙ sym (take-append-drop 256 (drop 136 b)) ∙ ap (λ (t : List ℕ). part b 136 256 ++ t) (drop-drop 256 136 b))
+
+pub others-put : (b u v : List ℕ) → length b ≡ 512 → length u ≤ 128 → length v ≤ 128
+    → sealed (take 510 (put (put (put (set (set b 3 (length u)) 4 (length v)) 136 (zeros 256)) 136 u) 264 v)) ≡ othersWith b u v
+unfolding othersWith
+others-put b u v h lu lv =
+    let a : List ℕ = take 3 b in
+    let la : length a ≡ 3 = length-take-le 3 b (omega arith) in
+    let d : List ℕ = length u ∷ length v ∷ part b 5 131 in
+    let ld : length d ≡ 133 = ap (λ (i : ℕ). suc (suc i)) (length-part b 5 131 (omega arith)) in
+    let lad : length (a ++ d) ≡ 136 = length-append a d ∙ omega arith in
+    let fu : List ℕ = filled u 128 in
+    let fv : List ℕ = filled v 128 in
+    let ladu : length ((a ++ d) ++ fu) ≡ 264 = length-append (a ++ d) fu ∙ omega (arith, length-filled u 128) in
+    let p0 : set (set b 3 (length u)) 4 (length v) ≡ (a ++ d) ++ (part b 136 256 ++ drop 392 b) =
+    set-pair b 3 (length u) (length v) (omega arith) ∙ ap (λ (t : List ℕ). a ++ (length u ∷ length v ∷ t)) (cut-5 b) ∙ sym (append-assoc a d (part b 136 256 ++ drop 392 b)) in
+    let p1 : put (set (set b 3 (length u)) 4 (length v)) 136 (zeros 256) ≡ (a ++ d) ++ (zeros 128 ++ (zeros 128 ++ drop 392 b)) =
+    ap (λ (t : List ℕ). put t 136 (zeros 256)) p0
+    ∙ put-over (a ++ d) (part b 136 256) (zeros 256) (drop 392 b) 136 lad (length-part b 136 256 (omega arith) ∙ sym (length-zeros 256))
+    ∙ ap (λ (t : List ℕ). (a ++ d) ++ (t ++ drop 392 b)) (zeros-split 128 128)
+    ∙ ap (λ (t : List ℕ). (a ++ d) ++ t) (append-assoc (zeros 128) (zeros 128) (drop 392 b)) in
+    let p2 : put (put (set (set b 3 (length u)) 4 (length v)) 136 (zeros 256)) 136 u ≡ ((a ++ d) ++ fu) ++ (zeros 128 ++ drop 392 b) =
+    ap (λ (t : List ℕ). put t 136 u) p1 ∙ put-room (a ++ d) u (zeros 128 ++ drop 392 b) 136 128 lad lu ∙ sym (append-assoc (a ++ d) fu (zeros 128 ++ drop 392 b)) in
+    let p3 : put (put (put (set (set b 3 (length u)) 4 (length v)) 136 (zeros 256)) 136 u) 264 v ≡ a ++ (d ++ (fu ++ (fv ++ drop 392 b))) =
+    ap (λ (t : List ℕ). put t 264 v) p2 ∙ put-room ((a ++ d) ++ fu) v (drop 392 b) 264 128 ladu lv
+    ∙ append-assoc (a ++ d) fu (fv ++ drop 392 b) ∙ append-assoc a d (fu ++ (fv ++ drop 392 b)) in
+    ap (λ (t : List ℕ). sealed (take 510 t)) p3
+    ∙ ap sealed (take-past 3 507 a (d ++ (fu ++ (fv ++ drop 392 b))) la
+    ∙ ap (λ (t : List ℕ). a ++ t) (take-past 133 374 d (fu ++ (fv ++ drop 392 b)) ld
+    ∙ ap (λ (t : List ℕ). d ++ t) (take-past 128 246 fu (fv ++ drop 392 b) (length-filled u 128)
+    ∙ ap (λ (t : List ℕ). fu ++ t) (take-past 128 118 fv (drop 392 b) (length-filled v 128)))))
 
 -- AN ENTRY
 

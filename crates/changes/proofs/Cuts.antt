@@ -2,7 +2,7 @@
 use mathlib.Core.Path.{_≡_, sym, ap, _∙_}
 use mathlib.Core.Bool.{true}
 use mathlib.Core.List.{List, [], _∷_, _++_, append-assoc}
-use Prim.Native.Nat.{ℕ, zero, suc, _+_, _-_, _*_, _≤_, _<_, _^_}
+use Prim.Native.Nat.{ℕ, _+_, _-_, _*_, _≤_, _<_, _^_}
 use native.Mathlib.Omega.{arith}
 use lib.Count.{ones}
 use lib.Dec.{eqb}
@@ -13,50 +13,46 @@ use Rattle.octets.specs.Texts.{filled, part, put, zeros}
 use Rattle.octets.proofs.Lists.{keep-split}
 use Rattle.octets.proofs.Texts.{length-put, length-zeros}
 use Rattle.table.specs.Soundness.{sound}
-use Rattle.table.specs.TheTable.{Access, Subscriber, accessBytes, headBytes, line, orderLine, readRow, rowBytes, rowLength, usedBits}
-use Rattle.table.proofs.Bytes.{length-access, length-head, read-row}
+use Rattle.table.specs.TheTable.{Access, Subscriber, formOf, headBytes, line, orderLine, placeLength, placeStart, readRow, rowBytes, usedBits}
+use Rattle.table.proofs.Bytes.{length-head, read-row}
 use Rattle.table.proofs.Sound.{row-is, says-good}
-use Rattle.changes.specs.Changes.{freed, leave, lowestFree, newAccess, opened, withAccesses}
+use Rattle.changes.specs.Changes.{Opening, freed, leave, lowestFree, newAccess, opened, withAccesses}
 use Rattle.changes.specs.Writes.{closedUp, headWith, lowestClear, openedBytes}
 use Rattle.changes.proofs.Keep.{good-freed, sound-freed}
-use Rattle.changes.proofs.Puts.{freed-puts, opened-puts, putBlock}
-use Rattle.changes.proofs.Rows.{at-most, bit-in, bit-out, bits-fit, closed-is, find-at, head-of, head-stays, in-8, line-more, lowest-in, lowest-is, order-is, place-in, put-block, row-size, some-clear}
-use Rattle.changes.proofs.Stays.{line-snoc}
+use Rattle.changes.proofs.Puts.{freed-puts, opened-puts, putHead, putPiece, putPlace}
+use Rattle.changes.proofs.Rows.{Measured, at-most, bit-in, bit-out, bits-fit, closed-is, find-at, head-of, head-stays, in-8, length-opened, line-more, line-new, lowest-in, lowest-is, new-place, opened-new, order-is, place-in, place-inside, put-place, row-size, some-clear}
 use Rattle.changes.proofs.Steps.{head-line, ones-byte, row-bits}
 use Rattle.octets.proofs.Pieces.{drop-past, take-past}
 
--- what block 0 was does not matter to the blocks behind it
-behind-head : (h d o : List ℕ) (p : ℕ) → length h ≡ 512 → 1 ≤ p → drop 512 (putBlock (h ++ d) p o) ≡ putBlock d (p - 1) o
-behind-head h d o zero l g = absurd (omega arith)
-behind-head h d o (suc i) l g =
-    let q : suc i - 1 ≡ i = omega arith in
-    let u : 512 * suc i ≡ 512 + 512 * i = omega arith in
-    let v : 512 + 512 * i + 512 ≡ 512 + (512 * i + 512) = omega arith in
-    rw (q, u, v, take-past 512 (512 * i) h d l, drop-past 512 (512 * i + 512) h d l, append-assoc)
-    (drop-at h (putBlock d i o) 512 l)
+-- what block 0 was does not matter to the places behind it
+behind-head : (fm : ℕ) (h d o : List ℕ) (p : ℕ) → length h ≡ 512 → drop 512 (putPlace fm (h ++ d) p o) ≡ putPiece (placeLength fm) d (p - 1) o
+behind-head fm h d o p l =
+    let v : 512 + 512 * fm * (p - 1) + 512 * fm ≡ 512 + (512 * fm * (p - 1) + 512 * fm) = omega arith in
+    rw (v, take-past 512 (512 * fm * (p - 1)) h d l, drop-past 512 (512 * fm * (p - 1) + 512 * fm) h d l, append-assoc)
+    (drop-at h (putPiece (placeLength fm) d (p - 1) o) 512 l)
 
-over-head : (y h o : List ℕ) (p : ℕ) → length h ≡ 512 → 512 ≤ length y → 1 ≤ p → drop 512 (putBlock (h ++ drop 512 y) p o) ≡ drop 512 (putBlock y p o)
-over-head y h o p l m g =
-    behind-head h (drop 512 y) o p l g
-    ∙ sym (behind-head (take 512 y) (drop 512 y) o p (length-take-le 512 y m) g)
-    ∙ ap (λ (t : List ℕ). drop 512 (putBlock t p o)) (take-append-drop 512 y)
+over-head : (fm : ℕ) (y h o : List ℕ) (p : ℕ) → length h ≡ 512 → 512 ≤ length y → drop 512 (putPlace fm (h ++ drop 512 y) p o) ≡ drop 512 (putPlace fm y p o)
+over-head fm y h o p l m =
+    behind-head fm h (drop 512 y) o p l
+    ∙ sym (behind-head fm (take 512 y) (drop 512 y) o p (length-take-le 512 y m))
+    ∙ ap (λ (t : List ℕ). drop 512 (putPlace fm t p o)) (take-append-drop 512 y)
 
 module _ (r : List ℕ) (k : ℕ) (h : sound r ≡ true) (o : isOn (orderLine r) k ≡ true) where
   -- the row between
   abbrev cut : List ℕ
-  cut = rowBytes (freed k (readRow r))
+  cut = rowBytes (formOf r) (freed k (readRow r))
 
   cut-sound : sound cut ≡ true
   cut-sound = sound-freed k r h
 
   cut-says : readRow cut ≡ freed k (readRow r)
-  cut-says = read-row _ (good-freed k (readRow r) (says-good r h))
+  cut-says = read-row (formOf r) _ (good-freed k (readRow r) (says-good r h))
 
   pub cut-fewer : length ((freed k (readRow r)) .accesses) < 8
   unfolding freed leave
   cut-fewer =
       let a : List Access = (readRow r) .accesses in
-      let f = find-at k a (ap (λ (l : List ℕ). isOn l k) (order-is r) ∙ o) in
+      let f = find-at (formOf r) k a (ap (λ (l : List ℕ). isOn l k) (order-is r) ∙ o) in
       omega (arith, keep-split (λ (x : Access). eqb (x .place) k) a, ap length (f .on), at-most r h)
 
   cut-room : length ((readRow cut) .accesses) < 8
@@ -64,7 +60,7 @@ module _ (r : List ℕ) (k : ℕ) (h : sound r ≡ true) (o : isOn (orderLine r)
 
   cut-bits : getD r 17 0 - 2 ^ (k - 1) ≡ getD cut 17 0
   unfolding freed
-  cut-bits = omega (arith, bit-in r k h o, row-bits (freed k (readRow r)))
+  cut-bits = omega (arith, bit-in r k h o, row-bits (formOf r) (freed k (readRow r)))
 
   pub cut-clear : getD r 17 0 - 2 ^ (k - 1) < 255
   cut-clear = rw cut-bits (some-clear cut cut-sound cut-room)
@@ -86,38 +82,43 @@ module _ (r : List ℕ) (k : ℕ) (h : sound r ≡ true) (o : isOn (orderLine r)
   pub cut-fits : getD r 17 0 - 2 ^ (k - 1) + 2 ^ (lowestFree ((freed k (readRow r)) .accesses) - 1) < 256
   cut-fits = rw cut-bit (bits-fit _)
 
-  pub cut-law : (n : ℕ) (sid host : List ℕ) (p m : ℕ) → p ≡ lowestFree ((freed k (readRow r)) .accesses) → m ≡ length ((freed k (readRow r)) .accesses)
-      → putBlock (put (put r (512 * k) (zeros 512)) (512 * p) (openedBytes n sid host)) 0
-      (headWith (take 512 (put (put r (512 * k) (zeros 512)) (512 * p) (openedBytes n sid host))) (getD r 17 0 - 2 ^ (k - 1) + 2 ^ (p - 1)) (set (closedUp (part r 20 8) k) m p))
-      ≡ rowBytes (opened n sid host (freed k (readRow r)))
-  unfolding opened freed newAccess headWith openedBytes accessBytes
-  cut-law n sid host p m ep em =
+  pub cut-law : (n : ℕ) (q : Opening) (p m : ℕ) → p ≡ lowestFree ((freed k (readRow r)) .accesses) → m ≡ length ((freed k (readRow r)) .accesses)
+      → putHead (put (put r (placeStart (formOf r) k) (zeros (placeLength (formOf r)))) (placeStart (formOf r) p) (openedBytes (formOf r) n q))
+      (headWith (take 512 (put (put r (placeStart (formOf r) k) (zeros (placeLength (formOf r)))) (placeStart (formOf r) p) (openedBytes (formOf r) n q))) (getD r 17 0 - 2 ^ (k - 1) + 2 ^ (p - 1)) (set (closedUp (part r 20 8) k) m p))
+      ≡ rowBytes (formOf r) (opened n q (freed k (readRow r)))
+  unfolding opened freed headWith
+  cut-law n q p m ep em =
+      let fm : ℕ = formOf r in
       let s : Subscriber = readRow r in
       let a : List Access = leave k (s .accesses) in
-      let y : Access = newAccess a n sid host in
+      let y : Access = newAccess a n q in
       let b : List Access = a ++ (y ∷ []) in
-      let new : List ℕ = openedBytes n sid host in
-      let ln : length new ≡ 512 = length-access y in
+      let new : List ℕ = openedBytes fm n q in
+      let ln : length new ≡ placeLength fm = length-opened fm n q in
+      let free : List ℕ = zeros (placeLength fm) in
       let w : (1 ≤ k) × (k ≤ 8) = place-in r h k o in
       let v : (1 ≤ lowestFree a) × (lowestFree a ≤ 8) = rw cut-says at (lowest-in cut cut-sound cut-room) in
-      let z : List ℕ = put r (512 * k) (zeros 512) in
-      let lz : length z ≡ rowLength = length-put r (512 * k) (zeros 512) (omega (arith, length-zeros 512, row-size r h)) ∙ row-size r h in
-      let u : List ℕ = put z (512 * p) new in
+      let g : Measured r = row-size r h in
+      let z : List ℕ = put r (placeStart fm k) free in
+      let lz : length z ≡ length r = length-put r (placeStart fm k) free (omega (arith, length-zeros (placeLength fm), place-inside r k g (w .0) (w .1))) in
+      let u : List ℕ = put z (placeStart fm p) new in
       let e1 : take 512 u ≡ headBytes s =
-      head-stays z p new (omega (arith, v .0)) (omega (arith, v .1)) lz ∙ head-stays r k (zeros 512) (w .0) (w .1) (row-size r h) ∙ head-of r h in
+      head-stays fm z p new (omega (arith, place-inside r p g (omega (arith, v .0)) (omega (arith, v .1)))) ∙ head-stays fm r k free (omega (arith, place-inside r k g (w .0) (w .1))) ∙ head-of r h in
       let e2 : getD r 17 0 - 2 ^ (k - 1) + 2 ^ (p - 1) ≡ usedBits (line b) =
-      ap (λ (i : ℕ). getD r 17 0 - 2 ^ (k - 1) + 2 ^ (i - 1)) ep ∙ cut-bit ∙ ap usedBits (sym (line-snoc a y)) in
-      let e3 : set (closedUp (part r 20 8) k) m p ≡ filled (line b) 8 = ap (λ (t : List ℕ). set t m p) (closed-is r k h o) ∙ line-more a y m p cut-fewer ep em in
+      ap (λ (i : ℕ). getD r 17 0 - 2 ^ (k - 1) + 2 ^ (i - 1)) ep ∙ cut-bit ∙ ap usedBits (sym (line-new a n q)) in
+      let e3 : set (closedUp (part r 20 8) k) m p ≡ filled (line b) 8 = ap (λ (t : List ℕ). set t m p) (closed-is r k h o) ∙ line-more a y m p cut-fewer (ep ∙ sym (new-place a n q)) em in
       let head : headWith (take 512 u) (getD r 17 0 - 2 ^ (k - 1) + 2 ^ (p - 1)) (set (closedUp (part r 20 8) k) m p) ≡ headBytes (withAccesses b s) =
       ap (λ (t : List ℕ). headWith t (getD r 17 0 - 2 ^ (k - 1) + 2 ^ (p - 1)) (set (closedUp (part r 20 8) k) m p)) e1
       ∙ ap (λ (t : ℕ). headWith (headBytes s) t (set (closedUp (part r 20 8) k) m p)) e2
       ∙ ap (λ (t : List ℕ). headWith (headBytes s) (usedBits (line b)) t) e3
       ∙ sym (head-line s b) in
-      let ez : z ≡ putBlock (rowBytes s) k (zeros 512) = put-block r k (zeros 512) (length-zeros 512) ∙ ap (λ (t : List ℕ). putBlock t k (zeros 512)) (row-is r h) in
-      let eu : u ≡ putBlock z (lowestFree a) new = put-block z p new ln ∙ ap (λ (i : ℕ). putBlock z i new) ep in
-      let ec : cut ≡ headBytes (freed k s) ++ drop 512 z = freed-puts k s (in-8 k (w .0) (w .1)) ∙ ap (λ (t : List ℕ). headBytes (freed k s) ++ drop 512 t) (sym ez) in
-      let rest : drop 512 u ≡ drop 512 (putBlock cut (lowestFree a) new) =
+      let ez : z ≡ putPlace fm (rowBytes fm s) k free = put-place fm r k free (length-zeros (placeLength fm)) ∙ ap (λ (t : List ℕ). putPlace fm t k free) (row-is r h) in
+      let eu : u ≡ putPlace fm z (lowestFree a) new = put-place fm z p new ln ∙ ap (λ (i : ℕ). putPlace fm z i new) ep in
+      let ec : cut ≡ headBytes (freed k s) ++ drop 512 z = freed-puts fm k s (in-8 k (w .0) (w .1)) ∙ ap (λ (t : List ℕ). headBytes (freed k s) ++ drop 512 t) (sym ez) in
+      let rest : drop 512 u ≡ drop 512 (putPlace fm cut (lowestFree a) new) =
       ap (drop 512) eu
-      ∙ sym (over-head z (headBytes (freed k s)) new (lowestFree a) (length-head (freed k s)) (omega arith) (v .0))
-      ∙ ap (λ (t : List ℕ). drop 512 (putBlock t (lowestFree a) new)) (sym ec) in
-      (λ i. head i ++ rest i) ∙ sym (opened-puts n sid host (freed k s) cut-fewer)
+      ∙ sym (over-head fm z (headBytes (freed k s)) new (lowestFree a) (length-head (freed k s)) (omega (arith, g .size)))
+      ∙ ap (λ (t : List ℕ). drop 512 (putPlace fm t (lowestFree a) new)) (sym ec) in
+      (λ i. head i ++ rest i)
+      ∙ ap (λ (t : List ℕ). headBytes (withAccesses b s) ++ drop 512 (putPlace fm cut (lowestFree a) t)) (opened-new fm a n q)
+      ∙ sym (opened-puts fm n q (freed k s) cut-fewer)

@@ -1,64 +1,65 @@
 -- What code reads in a sound row, and the row that each change leaves, as code leaves it.
 use mathlib.Core.Path.{_≡_, refl, sym, ap, _∙_}
 use mathlib.Core.Bool.{true, false, not}
-use mathlib.Core.List.{List, [], _∷_, _++_, map, append-assoc}
-use Prim.Native.Nat.{ℕ, zero, suc, _+_, _-_, _*_, _≤_, _<_, _^_}
+use mathlib.Core.List.{List, [], _∷_, _++_, map, append-assoc, append-nil}
+use Prim.Native.Nat.{ℕ, zero, suc, _+_, _-_, _*_, _/_, _≤_, _<_, _^_}
 use native.Mathlib.Omega.{arith}
-use lib.Dec.{eqb}
+use lib.Dec.{eqb, ltb}
 use lib.Pow.{pow-pos}
-use lib.ListN.{length, take, drop, getD, set, length-append, length-drop, length-map, take-append-drop}
-use lib.Seq.{drop-append-le, drop-at, take-append-le, take-at, take-take, length-take-le}
+use lib.ListN.{length, take, drop, getD, set, length-append, length-drop, length-map, drop-of-length-le, take-append-drop}
+use lib.Seq.{drop-append-le, drop-at, drop-drop, take-append-le, take-all, take-at, take-take, length-take-le}
 use Rattle.octets.specs.Choice.{pick, within}
 use Rattle.octets.specs.Lists.{counted, every, isOn, keep}
 use Rattle.octets.specs.Texts.{filled, part, put, zeros}
 use Rattle.octets.proofs.Lists.{by-test, eqb-comm, keep-length, on-cons, on-none, within-high, within-low}
 use Rattle.octets.proofs.Texts.{back-put, length-filled, length-part, length-zeros}
 use Rattle.table.specs.Soundness.{sound}
-use Rattle.table.specs.TheTable.{Access, Entry, Subscriber, accessBytes, block, entriesBytes, entryBytes, fromBits, headBytes, held, line, orderLine, placeBytes, places, placesBytes, readRow, rowAt, rowBytes, rowLength, sealed, sumsFrom, usedBits, withRow}
-use Rattle.table.proofs.Bytes.{block-place, length-access, length-entry, length-head, length-row, length-sealed}
-use Rattle.table.proofs.Form.{every-on, line-read}
-use Rattle.table.proofs.Good.{at-most-eight}
-use Rattle.table.proofs.Rows.{lent-row}
+use Rattle.table.specs.Answers.{lent}
+use Rattle.table.specs.TheTable.{Access, Entry, Policies, Subscriber, accessBytes, firstBytes, formOf, isForm, place, placeLength, placeStart, secondBlock, secondBytes, entriesBytes, entryBytes, fromBits, headBytes, held, line, orderLine, placeBytes, places, placesBytes, readRow, rowAt, rowBytes, rowLength, sealed, sumsFrom, usedBits, withRow}
+use Rattle.table.proofs.Bytes.{access-one, access-two, first-of, form-of, length-access, length-first, length-entry, length-head, length-row, length-sealed, length-second, place-is, second-of}
+use Rattle.table.proofs.Form.{Sized, every-on, line-read, place-ends}
+use Rattle.table.proofs.Good.{at-most-eight, by-form}
+use Rattle.table.proofs.Rows.{lent-length, lent-row}
 use Rattle.table.proofs.Sound.{clauses, row-is, says-good}
-use Rattle.changes.specs.Changes.{freed, hold, leave, lowestFree, newAccess, opened, routed, withAccesses, named, withEntry}
-use Rattle.changes.specs.Writes.{closedUp, entriesWith, headWith, lowestClear, openedBytes, policyWith}
+use Rattle.changes.specs.Changes.{Opening, freed, hold, keptIn, leave, lowestFree, newAccess, opened, routed, withAccesses, named, withEntry}
+use Rattle.changes.specs.Writes.{closedUp, entriesWith, fresh, headWith, lowestClear, openedBytes, othersWith, policyWith, routedBytes}
 use Rattle.changes.proofs.Bits.{bits-bound, is-vacant, lowest-clear}
 use Rattle.changes.proofs.Blocks.{bits-with, bits-without, closed-filled, filled-more, filled-none, put-over, put-room, zeros-split, zeros-two}
-use Rattle.changes.proofs.Puts.{freed-puts, onPlace, opened-puts, putBlock, routed-puts}
+use Rattle.changes.proofs.Puts.{freed-puts, onPlace, opened-puts, putHead, putPlace, routed-puts}
 use Rattle.changes.proofs.Stays.{free-place, line-snoc}
 use Rattle.changes.proofs.Sums.{block-agrees}
-use Rattle.changes.proofs.Steps.{access-policy, free-byte, head-line, keep-map, room-entry, row-bits}
+use Rattle.changes.proofs.Steps.{first-policy, free-byte, head-line, keep-map, room-entry, row-bits, second-policies}
 use Rattle.octets.proofs.Pieces.{drop-past, getD-past, take-past}
 
 -- THE FIRST BYTES OF A ROW
 
 -- what stands behind the order line
-abbrev behind : Subscriber → List ℕ
-behind s =
+abbrev behind : (form : ℕ) → Subscriber → List ℕ
+behind fm s =
     (zeros 4 ++ (filled (entriesBytes (s .entries)) 416 ++ zeros 62))
     ++ (sumsFrom 0 0 (1 ∷ length (s .name) ∷ filled (s .name) 15
     ++ (usedBits (line (s .accesses)) ∷ length (s .entries) ∷ s .operator ∷ filled (line (s .accesses)) 8
     ++ (zeros 4 ++ (filled (entriesBytes (s .entries)) 416 ++ zeros 62))))
-    ++ placesBytes (s .accesses) places)
+    ++ placesBytes fm (s .accesses) places)
 
-row-shape : (s : Subscriber)
-    → rowBytes s ≡ 1 ∷ length (s .name) ∷ filled (s .name) 15
-    ++ (usedBits (line (s .accesses)) ∷ length (s .entries) ∷ s .operator ∷ filled (line (s .accesses)) 8 ++ behind s)
+row-shape : (fm : ℕ) (s : Subscriber)
+    → rowBytes fm s ≡ 1 ∷ length (s .name) ∷ filled (s .name) 15
+    ++ (usedBits (line (s .accesses)) ∷ length (s .entries) ∷ s .operator ∷ filled (line (s .accesses)) 8 ++ behind fm s)
 unfolding rowBytes headBytes sealed
-row-shape s = simp append-assoc
+row-shape fm s = simp append-assoc
 
-row-count : (s : Subscriber) → getD (rowBytes s) 18 0 ≡ length (s .entries)
-row-count s = ap (λ (t : List ℕ). getD t 18 0) (row-shape s) ∙ getD-past 15 1 (filled (s .name) 15) _ (length-filled _ 15)
+row-count : (fm : ℕ) (s : Subscriber) → getD (rowBytes fm s) 18 0 ≡ length (s .entries)
+row-count fm s = ap (λ (t : List ℕ). getD t 18 0) (row-shape fm s) ∙ getD-past 15 1 (filled (s .name) 15) _ (length-filled _ 15)
 
-row-line : (s : Subscriber) → part (rowBytes s) 20 8 ≡ filled (line (s .accesses)) 8
-row-line s =
-    ap (λ (t : List ℕ). part t 20 8) (row-shape s)
+row-line : (fm : ℕ) (s : Subscriber) → part (rowBytes fm s) 20 8 ≡ filled (line (s .accesses)) 8
+row-line fm s =
+    ap (λ (t : List ℕ). part t 20 8) (row-shape fm s)
     ∙ ap (take 8) (drop-past 15 3 (filled (s .name) 15) _ (length-filled _ 15))
-    ∙ take-at (filled (line (s .accesses)) 8) (behind s) 8 (length-filled _ 8)
+    ∙ take-at (filled (line (s .accesses)) 8) (behind fm s) 8 (length-filled _ 8)
 
-row-head : (s : Subscriber) → take 512 (rowBytes s) ≡ headBytes s
+row-head : (fm : ℕ) (s : Subscriber) → take 512 (rowBytes fm s) ≡ headBytes s
 unfolding rowBytes
-row-head s = take-at (headBytes s) (placesBytes (s .accesses) places) 512 (length-head s)
+row-head fm s = take-at (headBytes s) (placesBytes fm (s .accesses) places) 512 (length-head s)
 
 -- the order line within block 0
 part-first : (x y : List ℕ) → 28 ≤ length x → part (x ++ y) 20 8 ≡ part x 20 8
@@ -67,27 +68,45 @@ part-first x y h =
 
 head-order : (s : Subscriber) → part (headBytes s) 20 8 ≡ filled (line (s .accesses)) 8
 unfolding rowBytes
-head-order s = sym (part-first (headBytes s) (placesBytes (s .accesses) places) (rw length-head (omega arith))) ∙ row-line s
+head-order s = sym (part-first (headBytes s) (placesBytes 1 (s .accesses) places) (rw length-head (omega arith))) ∙ row-line 1 s
 
-row-rest : (s : Subscriber) → drop 512 (rowBytes s) ≡ placesBytes (s .accesses) places
+row-rest : (fm : ℕ) (s : Subscriber) → drop 512 (rowBytes fm s) ≡ placesBytes fm (s .accesses) places
 unfolding rowBytes
-row-rest s = drop-at (headBytes s) (placesBytes (s .accesses) places) 512 (length-head s)
+row-rest fm s = drop-at (headBytes s) (placesBytes fm (s .accesses) places) 512 (length-head s)
 
-pub row-size : (r : List ℕ) → sound r ≡ true → length r ≡ rowLength
-row-size r h = (clauses r h) .size
+pub row-sized : (r : List ℕ) → sound r ≡ true → Sized r
+row-sized r h = (clauses r h) .row
+
+-- the size of a row as the code counts it
+pub record Measured (r : List ℕ) : Type 0 where
+  pub size : length r ≡ 512 + 4096 * formOf r
+  pub least : 1 ≤ formOf r
+  pub most : formOf r ≤ 2
+
+pub measured : (r : List ℕ) → Sized r → Measured r
+unfolding rowLength isForm
+measured r z = record { size = omega (arith, z .size); least = within-low 1 2 (formOf r) (z .form); most = within-high 1 2 (formOf r) (z .form) }
+
+pub row-size : (r : List ℕ) → sound r ≡ true → Measured r
+row-size r h = measured r (row-sized r h)
+
+-- where a place stands
+pub place-inside : (r : List ℕ) (k : ℕ) → Measured r → 1 ≤ k → k ≤ 8 → placeStart (formOf r) k + placeLength (formOf r) ≤ length r
+unfolding rowLength
+place-inside r k m lo hi = omega (arith, m .size, place-ends (formOf r) k lo hi)
 
 module _ (r : List ℕ) (h : sound r ≡ true) where
   pub head-of : take 512 r ≡ headBytes (readRow r)
-  head-of = ap (take 512) (row-is r h) ∙ row-head (readRow r)
+  head-of = ap (take 512) (row-is r h) ∙ row-head (formOf r) (readRow r)
 
   pub count-of : getD r 18 0 ≡ length ((readRow r) .entries)
-  count-of = ap (λ (t : List ℕ). getD t 18 0) (row-is r h) ∙ row-count (readRow r)
+  count-of = ap (λ (t : List ℕ). getD t 18 0) (row-is r h) ∙ row-count (formOf r) (readRow r)
 
   pub line-of : part r 20 8 ≡ filled (line ((readRow r) .accesses)) 8
-  line-of = ap (λ (t : List ℕ). part t 20 8) (row-is r h) ∙ row-line (readRow r)
+  line-of = ap (λ (t : List ℕ). part t 20 8) (row-is r h) ∙ row-line (formOf r) (readRow r)
 
   pub bits-of : getD r 17 0 ≡ usedBits (line ((readRow r) .accesses))
-  bits-of = ap (λ (t : List ℕ). getD t 17 0) (row-is r h) ∙ row-bits (readRow r)
+  bits-of = ap (λ (t : List ℕ). getD t 17 0) (row-is r h) ∙ row-bits (formOf r) (readRow r)
 
   pub at-most : length ((readRow r) .accesses) ≤ 8
   at-most = at-most-eight ((readRow r) .entries) ((readRow r) .accesses) ((says-good r h) .entries-good) ((says-good r h) .accesses-good)
@@ -101,18 +120,36 @@ pub order-is : (r : List ℕ) → line ((readRow r) .accesses) ≡ orderLine r
 unfolding readRow
 order-is r = line-read r (orderLine r)
 
--- A BLOCK OF A ROW
+-- A PLACE OF A ROW
 
-pub put-block : (r : List ℕ) (k : ℕ) (b : List ℕ) → length b ≡ 512 → put r (512 * k) b ≡ putBlock r k b
+pub put-place : (fm : ℕ) (r : List ℕ) (k : ℕ) (b : List ℕ) → length b ≡ placeLength fm → put r (placeStart fm k) b ≡ putPlace fm r k b
 unfolding put
-put-block r k b h = rw h
+put-place fm r k b h = rw h
 
--- block 0 stays as it is where another is written
-pub head-stays : (r : List ℕ) (k : ℕ) (b : List ℕ) → 1 ≤ k → k ≤ 8 → length r ≡ rowLength → take 512 (put r (512 * k) b) ≡ take 512 r
+-- the length of a place as the code counts it, and the part that is lent for one: n bytes from a on
+pub place-long : (r : List ℕ) → Measured r → (length r - 512) / 8 ≡ placeLength (formOf r)
+place-long r m = omega (arith, m .size)
+
+pub lent-place : (r : List ℕ) (k a n : ℕ) → a ≡ placeStart (formOf r) k → n ≡ placeLength (formOf r) → take (a + n - a) (drop a r) ≡ place r k
+unfolding place
+lent-place r k a n ea en = let q : a + n - a ≡ 512 * formOf r = omega arith in rw (q, ea)
+
+-- its length tells the form
+part-form : (s : List ℕ) (fm a n : ℕ) → a + n ≤ length s → n ≡ placeLength fm → length (take (a + n - a) (drop a s)) / 512 ≡ fm
+part-form s fm a n h e = omega (arith, lent-length s a n h)
+
+pub room-of : (s : List ℕ) (fm a n : ℕ) → a + n ≤ length s → n ≡ placeLength fm → 1 ≤ fm → fm ≤ 2
+    → (length (take (a + n - a) (drop a s)) ≡ placeLength (length (take (a + n - a) (drop a s)) / 512)) × (1 ≤ length (take (a + n - a) (drop a s)) / 512) × (length (take (a + n - a) (drop a s)) / 512 ≤ 2)
+room-of s fm a n h e lo hi =
+    let l : length (take (a + n - a) (drop a s)) ≡ n = lent-length s a n h in
+    (omega arith, omega arith, omega arith)
+
+-- block 0 stays as it is where a place is written
+pub head-stays : (fm : ℕ) (r : List ℕ) (k : ℕ) (b : List ℕ) → placeStart fm k ≤ length r → take 512 (put r (placeStart fm k) b) ≡ take 512 r
 unfolding put
-head-stays r k b lo hi h =
-    let l : length (take (512 * k) r) ≡ 512 * k = length-take-le (512 * k) r (omega arith) in
-    take-append-le 512 (take (512 * k) r) (b ++ drop (512 * k + length b) r) (omega arith) ∙ take-take 512 (512 * k) r (omega arith)
+head-stays fm r k b h =
+    let l : length (take (512 + 512 * fm * (k - 1)) r) ≡ 512 + 512 * fm * (k - 1) = length-take-le (512 + 512 * fm * (k - 1)) r h in
+    take-append-le 512 (take (512 + 512 * fm * (k - 1)) r) (b ++ drop (512 + 512 * fm * (k - 1) + length b) r) (omega arith) ∙ take-take 512 (512 + 512 * fm * (k - 1)) r (omega arith)
 
 -- the sums of block 0 agree, whatever was written behind it
 head-sealed : (s : Subscriber) (u : List ℕ) → u ≡ headBytes s → u ≡ sealed (take 510 u)
@@ -154,26 +191,28 @@ closed-is r k h o =
     ∙ ap (λ (t : List ℕ). filled t 8) (sym (line-leave k a))
 
 pub free-law : (r : List ℕ) (k : ℕ) → sound r ≡ true → isOn (orderLine r) k ≡ true
-    → putBlock (put r (512 * k) (zeros 512)) 0 (headWith (take 512 (put r (512 * k) (zeros 512))) (getD r 17 0 - 2 ^ (k - 1)) (closedUp (part r 20 8) k))
-    ≡ rowBytes (freed k (readRow r))
+    → putHead (put r (placeStart (formOf r) k) (zeros (placeLength (formOf r)))) (headWith (take 512 (put r (placeStart (formOf r) k) (zeros (placeLength (formOf r))))) (getD r 17 0 - 2 ^ (k - 1)) (closedUp (part r 20 8) k))
+    ≡ rowBytes (formOf r) (freed k (readRow r))
 unfolding freed headWith
 free-law r k h o =
+    let fm : ℕ = formOf r in
     let s : Subscriber = readRow r in
     let a : List Access = s .accesses in
     let w : (1 ≤ k) × (k ≤ 8) = place-in r h k o in
-    let z : List ℕ = put r (512 * k) (zeros 512) in
-    let e1 : take 512 z ≡ headBytes s = head-stays r k (zeros 512) (w .0) (w .1) (row-size r h) ∙ head-of r h in
+    let n : List ℕ = zeros (placeLength fm) in
+    let z : List ℕ = put r (placeStart fm k) n in
+    let e1 : take 512 z ≡ headBytes s = head-stays fm r k n (omega (arith, place-inside r k (row-size r h) (w .0) (w .1))) ∙ head-of r h in
     let e2 : getD r 17 0 - 2 ^ (k - 1) ≡ usedBits (line (leave k a)) = omega (arith, bit-in r k h o) in
     let e3 : closedUp (part r 20 8) k ≡ filled (line (leave k a)) 8 = closed-is r k h o in
-    let ez : z ≡ putBlock (rowBytes s) k (zeros 512) = put-block r k (zeros 512) (length-zeros 512) ∙ ap (λ (t : List ℕ). putBlock t k (zeros 512)) (row-is r h) in
+    let ez : z ≡ putPlace fm (rowBytes fm s) k n = put-place fm r k n (length-zeros (placeLength fm)) ∙ ap (λ (t : List ℕ). putPlace fm t k n) (row-is r h) in
     let head : headWith (take 512 z) (getD r 17 0 - 2 ^ (k - 1)) (closedUp (part r 20 8) k) ≡ headBytes (freed k s) =
     ap (λ (t : List ℕ). headWith t (getD r 17 0 - 2 ^ (k - 1)) (closedUp (part r 20 8) k)) e1
     ∙ ap (λ (t : ℕ). headWith (headBytes s) t (closedUp (part r 20 8) k)) e2
     ∙ ap (λ (t : List ℕ). headWith (headBytes s) (usedBits (line (leave k a))) t) e3
     ∙ sym (head-line s (leave k a)) in
-    ap (λ (t : List ℕ). putBlock z 0 t) head
-    ∙ ap (λ (t : List ℕ). putBlock t 0 (headBytes (freed k s))) ez
-    ∙ sym (freed-puts k s (in-8 k (w .0) (w .1)))
+    ap (λ (t : List ℕ). putHead z t) head
+    ∙ ap (λ (t : List ℕ). putHead t (headBytes (freed k s))) ez
+    ∙ sym (freed-puts fm k s (in-8 k (w .0) (w .1)))
 
 -- A NEW ACCESS
 
@@ -189,6 +228,23 @@ line-more a y m p lt ep em =
     ∙ filled-more (line a) 8 p (omega (arith, length-line a))
     ∙ ap (λ (i : ℕ). filled (line a ++ (i ∷ [])) 8) ep
     ∙ ap (λ (t : List ℕ). filled t 8) (sym (line-snoc a y))
+
+-- the new access, and its bytes, which do not depend on its place
+pub new-place : (a : List Access) (n : ℕ) (o : Opening) → (newAccess a n o) .place ≡ lowestFree a
+unfolding newAccess
+new-place a n o = refl
+
+pub line-new : (a : List Access) (n : ℕ) (o : Opening) → line (a ++ (newAccess a n o ∷ [])) ≡ line a ++ (lowestFree a ∷ [])
+unfolding newAccess
+line-new a n o = line-snoc a (newAccess a n o)
+
+pub opened-new : (fm : ℕ) (a : List Access) (n : ℕ) (o : Opening) → openedBytes fm n o ≡ accessBytes fm (newAccess a n o)
+unfolding openedBytes fresh newAccess accessBytes firstBytes secondBytes
+opened-new fm a n o = refl
+
+pub length-opened : (fm n : ℕ) (o : Opening) → length (openedBytes fm n o) ≡ placeLength fm
+unfolding openedBytes
+length-opened fm n o = length-access fm _
 
 module _ (r : List ℕ) (h : sound r ≡ true) (lt : length ((readRow r) .accesses) < 8) where
   pub lowest-in : (1 ≤ lowestFree ((readRow r) .accesses)) × (lowestFree ((readRow r) .accesses) ≤ 8)
@@ -212,60 +268,103 @@ module _ (r : List ℕ) (h : sound r ≡ true) (lt : length ((readRow r) .access
   pub lowest-is : lowestClear (getD r 17 0) ≡ lowestFree ((readRow r) .accesses)
   lowest-is = omega (arith, lowest-clear (getD r 17 0) some-clear, free-byte r h lt)
 
-  pub open-law : (n : ℕ) (sid host : List ℕ) (p m : ℕ) → p ≡ lowestFree ((readRow r) .accesses) → m ≡ length ((readRow r) .accesses)
-      → putBlock (put r (512 * p) (openedBytes n sid host)) 0
-      (headWith (take 512 (put r (512 * p) (openedBytes n sid host))) (getD r 17 0 + 2 ^ (p - 1)) (set (part (take 512 (put r (512 * p) (openedBytes n sid host))) 20 8) m p))
-      ≡ rowBytes (opened n sid host (readRow r))
-  unfolding opened newAccess headWith openedBytes accessBytes
-  open-law n sid host p m ep em =
+  pub open-law : (n : ℕ) (o : Opening) (p m : ℕ) → p ≡ lowestFree ((readRow r) .accesses) → m ≡ length ((readRow r) .accesses)
+      → putHead (put r (placeStart (formOf r) p) (openedBytes (formOf r) n o))
+      (headWith (take 512 (put r (placeStart (formOf r) p) (openedBytes (formOf r) n o))) (getD r 17 0 + 2 ^ (p - 1)) (set (part (take 512 (put r (placeStart (formOf r) p) (openedBytes (formOf r) n o))) 20 8) m p))
+      ≡ rowBytes (formOf r) (opened n o (readRow r))
+  unfolding opened headWith
+  open-law n o p m ep em =
+      let fm : ℕ = formOf r in
       let s : Subscriber = readRow r in
       let a : List Access = s .accesses in
-      let y : Access = newAccess a n sid host in
-      let o : List ℕ = openedBytes n sid host in
-      let lo : length o ≡ 512 = length-access y in
-      let z : List ℕ = put r (512 * p) o in
-      let e1 : take 512 z ≡ take 512 r = head-stays r p o (omega (arith, lowest-in .0)) (omega (arith, lowest-in .1)) (row-size r h) in
+      let y : Access = newAccess a n o in
+      let b : List ℕ = openedBytes fm n o in
+      let lo : length b ≡ placeLength fm = length-opened fm n o in
+      let z : List ℕ = put r (placeStart fm p) b in
+      let e1 : take 512 z ≡ take 512 r = head-stays fm r p b (omega (arith, place-inside r p (row-size r h) (omega (arith, lowest-in .0)) (omega (arith, lowest-in .1)))) in
       let e2 : getD r 17 0 + 2 ^ (p - 1) ≡ usedBits (line (a ++ (y ∷ []))) =
-      ap (λ (i : ℕ). getD r 17 0 + 2 ^ (i - 1)) ep ∙ bit-out ∙ ap usedBits (sym (line-snoc a y)) in
+      ap (λ (i : ℕ). getD r 17 0 + 2 ^ (i - 1)) ep ∙ bit-out ∙ ap usedBits (sym (line-new a n o)) in
       let el : part (take 512 r) 20 8 ≡ filled (line a) 8 = ap (λ (t : List ℕ). part t 20 8) (head-of r h) ∙ head-order s in
       let e3 : set (part (take 512 z) 20 8) m p ≡ filled (line (a ++ (y ∷ []))) 8 =
-      ap (λ (t : List ℕ). set (part t 20 8) m p) e1 ∙ ap (λ (t : List ℕ). set t m p) el ∙ line-more a y m p lt ep em in
+      ap (λ (t : List ℕ). set (part t 20 8) m p) e1 ∙ ap (λ (t : List ℕ). set t m p) el ∙ line-more a y m p lt (ep ∙ sym (new-place a n o)) em in
       let head : headWith (take 512 z) (getD r 17 0 + 2 ^ (p - 1)) (set (part (take 512 z) 20 8) m p) ≡ headBytes (withAccesses (a ++ (y ∷ [])) s) =
       ap (λ (t : List ℕ). headWith t (getD r 17 0 + 2 ^ (p - 1)) (set (part (take 512 z) 20 8) m p)) (e1 ∙ head-of r h)
       ∙ ap (λ (t : ℕ). headWith (headBytes s) t (set (part (take 512 z) 20 8) m p)) e2
       ∙ ap (λ (t : List ℕ). headWith (headBytes s) (usedBits (line (a ++ (y ∷ [])))) t) e3
       ∙ sym (head-line s (a ++ (y ∷ []))) in
-      let ez : z ≡ putBlock (rowBytes s) (lowestFree a) o =
-      put-block r p o lo ∙ ap (λ (i : ℕ). putBlock r i o) ep ∙ ap (λ (t : List ℕ). putBlock t (lowestFree a) o) (row-is r h) in
-      ap (λ (t : List ℕ). putBlock z 0 t) head
-      ∙ ap (λ (t : List ℕ). putBlock t 0 (headBytes (withAccesses (a ++ (y ∷ [])) s))) ez
-      ∙ sym (opened-puts n sid host s lt)
+      let ez : z ≡ putPlace fm (rowBytes fm s) (lowestFree a) b =
+      put-place fm r p b lo ∙ ap (λ (i : ℕ). putPlace fm r i b) ep ∙ ap (λ (t : List ℕ). putPlace fm t (lowestFree a) b) (row-is r h) in
+      ap (λ (t : List ℕ). putHead z t) head
+      ∙ ap (λ (t : List ℕ). putHead t (headBytes (withAccesses (a ++ (y ∷ [])) s))) ez
+      ∙ ap (λ (t : List ℕ). putHead (putPlace fm (rowBytes fm s) (lowestFree a) t) (headBytes (withAccesses (a ++ (y ∷ [])) s))) (opened-new fm a n o)
+      ∙ sym (opened-puts fm n o s lt)
 
-pub length-opened : (n : ℕ) (sid host : List ℕ) → length (openedBytes n sid host) ≡ 512
-unfolding openedBytes
-length-opened n sid host = length-access _
+-- what is written for it, block by block
+pub opened-one : (f n : ℕ) (s h r p q : List ℕ) → f ≡ 1 → length p ≡ 512 → q ≡ firstBytes (fresh n (record { session = s; host = h; realm = [] }))
+    → q ++ drop 512 p ≡ openedBytes f n (record { session = s; host = h; realm = keptIn f r })
+unfolding openedBytes keptIn pick
+opened-one f n s h r p q e l w =
+    rw (e, w, drop-of-length-le p {i = 512} (omega arith))
+    (append-nil (firstBytes (fresh n (record { session = s; host = h; realm = [] }))) ∙ sym (access-one (fresh n (record { session = s; host = h; realm = [] }))))
+
+pub opened-two : (f n : ℕ) (s h r p q c : List ℕ) → f ≡ 2 → length p ≡ 1024 → q ≡ firstBytes (fresh n (record { session = s; host = h; realm = [] }))
+    → c ≡ secondBytes (fresh 0 (record { session = []; host = []; realm = r }))
+    → take 512 (q ++ drop 512 p) ++ (c ++ drop 512 (drop 512 (q ++ drop 512 p))) ≡ openedBytes f n (record { session = s; host = h; realm = keptIn f r })
+unfolding openedBytes keptIn pick fresh firstBytes secondBytes
+opened-two f n s h r p q c e l w v =
+    let a : Access = fresh n (record { session = s; host = h; realm = r }) in
+    let lq : length q ≡ 512 = ap length w ∙ length-first a in
+    let d : drop 512 (drop 512 p) ≡ [] = drop-drop 512 512 p ∙ drop-of-length-le p {i = 1024} (omega arith) in
+    rw (e, take-at q (drop 512 p) 512 lq, drop-at q (drop 512 p) 512 lq, d)
+    (ap (λ (t : List ℕ). q ++ t) (append-nil c) ∙ (λ i. w i ++ v i) ∙ sym (access-two a))
+
+-- the place has come back with a new access in it
+pub came-back : (v : List ℕ) (fm p a n e : ℕ) (s h r b : List ℕ) → a ≡ placeStart fm p → n ≡ placeLength fm → a + n ≤ length v
+    → b ≡ openedBytes (length (take (a + n - a) (drop a v)) / 512) e (record { session = s; host = h; realm = keptIn (length (take (a + n - a) (drop a v)) / 512) r })
+    → take a v ++ (b ++ drop (a + n - a) (drop a v)) ≡ put v (placeStart fm p) (openedBytes fm e (record { session = s; host = h; realm = keptIn fm r }))
+came-back v fm p a n e s h r b ea en l w =
+    let o : ℕ → List ℕ = λ f. openedBytes f e (record { session = s; host = h; realm = keptIn f r }) in
+    back-put v a (a + n) b (o fm) (length-opened fm e _ ∙ omega arith) (w ∙ ap o (part-form v fm a n l en)) ∙ ap (λ (x : ℕ). put v x (o fm)) ea
 
 -- ANOTHER POLICY
 
+pub routed-short : (p q : List ℕ) (pol : Policies) → length p ≡ 512 → q ≡ policyWith (take 512 p) (pol .first) → q ++ drop 512 p ≡ routedBytes p pol
+unfolding routedBytes pick
+routed-short p q pol l w =
+    let t : ltb 512 (length p) ≡ false = rw l refl in
+    rw (t, w, drop-of-length-le p {i = 512} (omega arith))
+
+pub routed-long : (p q c : List ℕ) (pol : Policies) → length p ≡ 1024 → length q ≡ 512 → q ≡ policyWith (take 512 p) (pol .first)
+    → c ≡ othersWith (take 512 (drop 512 (q ++ drop 512 p))) (pol .second) (pol .third)
+    → take 512 (q ++ drop 512 p) ++ (c ++ drop 512 (drop 512 (q ++ drop 512 p))) ≡ routedBytes p pol
+unfolding routedBytes pick
+routed-long p q c pol l lq w v =
+    let t : ltb 512 (length p) ≡ true = rw l refl in
+    let d : drop 512 (drop 512 p) ≡ [] = drop-drop 512 512 p ∙ drop-of-length-le p {i = 1024} (omega arith) in
+    let y : drop 512 (q ++ drop 512 p) ≡ drop 512 p = drop-at q (drop 512 p) 512 lq in
+    let x : take 512 (drop 512 p) ≡ drop 512 p = take-all 512 (drop 512 p) (rw length-drop (omega arith)) in
+    rw (t, take-at q (drop 512 p) 512 lq, y, d)
+    (ap (λ (u : List ℕ). q ++ u) (append-nil c) ∙ (λ i. w i ++ v i) ∙ ap (λ (u : List ℕ). policyWith (take 512 p) (pol .first) ++ othersWith u (pol .second) (pol .third)) (ap (take 512) y ∙ x))
+
 -- the access at a place
-pub record At (k : ℕ) (a : List Access) : Type 0 where
+pub record At (fm k : ℕ) (a : List Access) : Type 0 where
   pub found : Access
   pub others : List Access
   pub on : onPlace k a ≡ found ∷ others
-  pub bytes : placeBytes a k ≡ accessBytes found
+  pub bytes : placeBytes fm a k ≡ accessBytes fm found
   pub here : eqb (found .place) k ≡ true
 
-at-more : (k : ℕ) (x : Access) (a : List Access) → eqb (x .place) k ≡ false → At k a → At k (x ∷ a)
+at-more : (fm k : ℕ) (x : Access) (a : List Access) → eqb (x .place) k ≡ false → At fm k a → At fm k (x ∷ a)
 unfolding keep placeBytes pick
-at-more k x a e f = record { found = f .found; others = f .others; on = rw e (f .on); bytes = rw e (f .bytes); here = f .here }
+at-more fm k x a e f = record { found = f .found; others = f .others; on = rw e (f .on); bytes = rw e (f .bytes); here = f .here }
 
-pub find-at : (k : ℕ) (a : List Access) → isOn (line a) k ≡ true → At k a
+pub find-at : (fm k : ℕ) (a : List Access) → isOn (line a) k ≡ true → At fm k a
 unfolding keep placeBytes pick line
-find-at k [] o = let z : true ≡ false = sym o ∙ on-none k in absurd (let y : _≡_ {A = ℕ} 0 1 = cc in omega arith)
-find-at k (x ∷ a) o =
+find-at fm k [] o = let z : true ≡ false = sym o ∙ on-none k in absurd (let y : _≡_ {A = ℕ} 0 1 = cc in omega arith)
+find-at fm k (x ∷ a) o =
     by-test (eqb (x .place) k)
     (λ e. record { found = x; others = onPlace k a; on = rw e; bytes = rw e; here = e })
-    (λ e. at-more k x a e (find-at k a (sym (on-cons (x .place) (line a) k (eqb-comm k (x .place) ∙ e)) ∙ o)))
+    (λ e. at-more fm k x a e (find-at fm k a (sym (on-cons (x .place) (line a) k (eqb-comm k (x .place) ∙ e)) ∙ o)))
 
 held-one : (pol : List ℕ) → 1 ≤ length pol → held pol ≡ 1
 unfolding held
@@ -280,30 +379,54 @@ length-policy b pol h =
     let l3 : length (part b 392 118) ≡ 118 = length-part b 392 118 (omega arith) in
     length-sealed _ ∙ simp (length-append, l1, l2, l3, length-filled)
 
-policy-is : (k : ℕ) (pol : List ℕ) (x : Access) → 1 ≤ length pol → eqb (x .place) k ≡ true → accessBytes (hold k pol x) ≡ policyWith (accessBytes x) pol
+policy-is : (k : ℕ) (pol : Policies) (x : Access) → 1 ≤ length (pol .first) → eqb (x .place) k ≡ true → firstBytes (hold k pol x) ≡ policyWith (firstBytes x) (pol .first)
 unfolding hold pick policyWith
-policy-is k pol x h e = rw e (access-policy x pol ∙ ap (λ (i : ℕ). sealed (take 4 (accessBytes x) ++ (i ∷ length pol ∷ part (accessBytes x) 6 258 ++ (filled pol 128 ++ part (accessBytes x) 392 118)))) (held-one pol h))
+policy-is k pol x h e = rw e (first-policy x pol ∙ ap (λ (i : ℕ). sealed (take 4 (firstBytes x) ++ (i ∷ length (pol .first) ∷ part (firstBytes x) 6 258 ++ (filled (pol .first) 128 ++ part (firstBytes x) 392 118)))) (held-one (pol .first) h))
 
-pub route-law : (r : List ℕ) (k : ℕ) (pol : List ℕ) → sound r ≡ true → isOn (orderLine r) k ≡ true → 1 ≤ length pol
-    → put r (512 * k) (policyWith (part r (512 * k) 512) pol) ≡ rowBytes (routed k pol (readRow r))
+others-are : (k : ℕ) (pol : Policies) (x : Access) → eqb (x .place) k ≡ true → secondBytes (hold k pol x) ≡ othersWith (secondBytes x) (pol .second) (pol .third)
+unfolding hold pick othersWith
+others-are k pol x e = rw e (second-policies x pol)
+
+-- the place of the access with these policies
+routed-one : (k : ℕ) (pol : Policies) (x : Access) → 1 ≤ length (pol .first) → eqb (x .place) k ≡ true → accessBytes 1 (hold k pol x) ≡ routedBytes (accessBytes 1 x) pol
+unfolding routedBytes pick isForm within
+routed-one k pol x h e =
+    let p : accessBytes 1 x ≡ firstBytes x = access-one x in
+    let l : ltb 512 (length (accessBytes 1 x)) ≡ false = rw (length-access 1 x) refl in
+    rw (l, first-of 1 x refl) (access-one (hold k pol x) ∙ policy-is k pol x h e ∙ sym (append-nil (policyWith (firstBytes x) (pol .first))))
+
+routed-two : (k : ℕ) (pol : Policies) (x : Access) → 1 ≤ length (pol .first) → eqb (x .place) k ≡ true → accessBytes 2 (hold k pol x) ≡ routedBytes (accessBytes 2 x) pol
+unfolding routedBytes pick isForm within
+routed-two k pol x h e =
+    let l : ltb 512 (length (accessBytes 2 x)) ≡ true = rw (length-access 2 x) refl in
+    let c : secondBlock (accessBytes 2 x) ≡ secondBytes x = second-of 2 x refl ∙ take-all 512 (secondBytes x) (omega (arith, length-second x)) in
+    rw (l, first-of 2 x refl, c) (access-two (hold k pol x) ∙ (λ i. policy-is k pol x h e i ++ others-are k pol x e i))
+
+routed-is : (fm k : ℕ) (pol : Policies) (x : Access) → isForm fm ≡ true → 1 ≤ length (pol .first) → eqb (x .place) k ≡ true → accessBytes fm (hold k pol x) ≡ routedBytes (accessBytes fm x) pol
+routed-is fm k pol x f h e =
+    by-form (λ g. accessBytes g (hold k pol x) ≡ routedBytes (accessBytes g x) pol) fm f (routed-one k pol x h e) (routed-two k pol x h e)
+
+pub route-law : (r : List ℕ) (k : ℕ) (pol : Policies) → sound r ≡ true → isOn (orderLine r) k ≡ true → 1 ≤ length (pol .first)
+    → put r (placeStart (formOf r) k) (routedBytes (place r k) pol) ≡ rowBytes (formOf r) (routed k pol (readRow r))
 route-law r k pol h o lp =
+    let fm : ℕ = formOf r in
     let s : Subscriber = readRow r in
     let a : List Access = s .accesses in
     let w : (1 ≤ k) × (k ≤ 8) = place-in r h k o in
-    let f : At k a = find-at k a (ap (λ (l : List ℕ). isOn l k) (order-is r) ∙ o) in
+    let f : At fm k a = find-at fm k a (ap (λ (l : List ℕ). isOn l k) (order-is r) ∙ o) in
     let x : Access = f .found in
-    let b : part r (512 * k) 512 ≡ accessBytes x = ap (λ (t : List ℕ). block t k) (row-is r h) ∙ block-place s k (in-8 k (w .0) (w .1)) ∙ f .bytes in
-    let p : List ℕ = policyWith (part r (512 * k) 512) pol in
-    let lb : length (part r (512 * k) 512) ≡ 512 = ap length b ∙ length-access x in
-    let ep : p ≡ accessBytes (hold k pol x) = ap (λ (t : List ℕ). policyWith t pol) b ∙ sym (policy-is k pol x lp (f .here)) in
-    let z : List ℕ = put r (512 * k) p in
-    let ez : z ≡ putBlock (rowBytes s) k (accessBytes (hold k pol x)) =
-    put-block r k p (length-policy _ pol lb) ∙ ap (λ (t : List ℕ). putBlock t k p) (row-is r h) ∙ ap (λ (t : List ℕ). putBlock (rowBytes s) k t) ep in
-    let eh : take 512 z ≡ headBytes s = head-stays r k p (w .0) (w .1) (row-size r h) ∙ head-of r h in
+    let b : place r k ≡ accessBytes fm x = ap (λ (t : List ℕ). place t k) (row-is r h) ∙ place-is fm s k (in-8 k (w .0) (w .1)) ∙ f .bytes in
+    let p : List ℕ = routedBytes (place r k) pol in
+    let ep : p ≡ accessBytes fm (hold k pol x) = ap (λ (t : List ℕ). routedBytes t pol) b ∙ sym (routed-is fm k pol x (row-sized r h .form) lp (f .here)) in
+    let lb : length p ≡ placeLength fm = ap length ep ∙ length-access fm (hold k pol x) in
+    let z : List ℕ = put r (placeStart fm k) p in
+    let ez : z ≡ putPlace fm (rowBytes fm s) k (accessBytes fm (hold k pol x)) =
+    put-place fm r k p lb ∙ ap (λ (t : List ℕ). putPlace fm t k p) (row-is r h) ∙ ap (λ (t : List ℕ). putPlace fm (rowBytes fm s) k t) ep in
+    let eh : take 512 z ≡ headBytes s = head-stays fm r k p (omega (arith, place-inside r k (row-size r h) (w .0) (w .1))) ∙ head-of r h in
     sym (take-append-drop 512 z)
     ∙ ap (λ (t : List ℕ). t ++ drop 512 z) eh
-    ∙ ap (λ (t : List ℕ). putBlock t 0 (headBytes s)) ez
-    ∙ sym (routed-puts k pol s x (f .others) (in-8 k (w .0) (w .1)) (f .on))
+    ∙ ap (λ (t : List ℕ). putHead t (headBytes s)) ez
+    ∙ sym (routed-puts fm k pol s x (f .others) (in-8 k (w .0) (w .1)) (f .on))
 
 -- ONE ENTRY MORE
 
@@ -352,9 +475,9 @@ unfolding headBytes withEntry
 entry-end s e p q =
     λ i. sealed (1 ∷ length (s .name) ∷ filled (s .name) 15 ++ (usedBits (line (s .accesses)) ∷ p i ∷ s .operator ∷ filled (line (s .accesses)) 8 ++ (zeros 4 ++ (q i ++ zeros 62))))
 
-row-entry : (s : Subscriber) (e : Entry) → headBytes (withEntry e s) ++ placesBytes (s .accesses) places ≡ rowBytes (withEntry e s)
+row-entry : (fm : ℕ) (s : Subscriber) (e : Entry) → headBytes (withEntry e s) ++ placesBytes fm (s .accesses) places ≡ rowBytes fm (withEntry e s)
 unfolding rowBytes withEntry
-row-entry s e = refl
+row-entry fm s e = refl
 
 module _ (s : Subscriber) (e : Entry) (lt : length (s .entries) < 4) where
   room-put : filled (entriesBytes (s .entries ++ (e ∷ []))) 416 ≡ put (filled (entriesBytes (s .entries)) 416) (104 * length (s .entries)) (entryBytes e)
@@ -387,15 +510,15 @@ module _ (s : Subscriber) (e : Entry) (lt : length (s .entries) < 4) where
       ∙ entry-end s e count (sym room-put)
 
 pub entry-law : (r : List ℕ) (e : Entry) → sound r ≡ true → length ((readRow r) .entries) < 4
-    → entriesWith (take 512 r) (getD r 18 0) e ++ drop 512 r ≡ rowBytes (withEntry e (readRow r))
+    → entriesWith (take 512 r) (getD r 18 0) e ++ drop 512 r ≡ rowBytes (formOf r) (withEntry e (readRow r))
 entry-law r e h lt =
     let s : Subscriber = readRow r in
     ap (λ (t : List ℕ). entriesWith t (getD r 18 0) e ++ drop 512 r) (head-of r h)
     ∙ ap (λ (i : ℕ). entriesWith (headBytes s) i e ++ drop 512 r) (count-of r h)
     ∙ ap (λ (t : List ℕ). entriesWith (headBytes s) (length (s .entries)) e ++ drop 512 t) (row-is r h)
-    ∙ ap (λ (t : List ℕ). entriesWith (headBytes s) (length (s .entries)) e ++ t) (row-rest s)
-    ∙ ap (λ (t : List ℕ). t ++ placesBytes (s .accesses) places) (head-entry s e lt)
-    ∙ row-entry s e
+    ∙ ap (λ (t : List ℕ). entriesWith (headBytes s) (length (s .entries)) e ++ t) (row-rest (formOf r) s)
+    ∙ ap (λ (t : List ℕ). t ++ placesBytes (formOf r) (s .accesses) places) (head-entry s e lt)
+    ∙ row-entry (formOf r) s e
 
 -- A NEW ROW
 
@@ -403,14 +526,14 @@ no-zeros : [] ≡ zeros 0
 unfolding zeros
 no-zeros = refl
 
-places-none : (b n : ℕ) → placesBytes [] (counted b n) ≡ zeros (512 * n)
+places-none : (fm b n : ℕ) → placesBytes fm [] (counted b n) ≡ zeros (placeLength fm * n)
 unfolding placesBytes placeBytes counted
-places-none b zero = no-zeros
-places-none b (suc n) = let q : 512 * suc n ≡ 512 + 512 * n = omega arith in rw (q, places-none (suc b) n) (sym (zeros-split 512 (512 * n)))
+places-none fm b zero = let q : 512 * fm * 0 ≡ 0 = omega arith in rw q no-zeros
+places-none fm b (suc n) = let q : 512 * fm * suc n ≡ 512 * fm + 512 * fm * n = omega arith in rw (q, places-none fm (suc b) n) (sym (zeros-split (512 * fm) (512 * fm * n)))
 
-places-zero : zeros 4096 ≡ placesBytes [] places
+places-zero : (fm : ℕ) → zeros (placeLength fm * 8) ≡ placesBytes fm [] places
 unfolding places
-places-zero = sym (places-none 1 8)
+places-zero fm = sym (places-none fm 1 8)
 
 none-used : usedBits (line []) ≡ 0
 unfolding usedBits line fromBits places counted isOn every pick
@@ -431,49 +554,60 @@ new-rest op =
 length-rest : (op : ℕ) → length (newRest op) ≡ 493
 length-rest op = simp (length-append, length-zeros)
 
-new-zeros : (op : ℕ) → put (zeros rowLength) 19 (op ∷ []) ≡ zeros 2 ++ (zeros 15 ++ (newRest op ++ (zeros 2 ++ zeros 4096)))
-new-zeros op =
-    ap (λ (t : List ℕ). put t 19 (op ∷ [])) (zeros-split 19 4589 ∙ ap (λ (t : List ℕ). zeros 19 ++ t) (zeros-split 1 4588))
-    ∙ put-over (zeros 19) (zeros 1) (op ∷ []) (zeros 4588) 19 (length-zeros 19) (length-zeros 1)
-    ∙ (λ i. (zeros-split 2 17 ∙ ap (λ (t : List ℕ). zeros 2 ++ t) (zeros-split 15 2)) i ++ ((op ∷ []) ++ (zeros-split 490 4098 ∙ ap (λ (t : List ℕ). zeros 490 ++ t) (zeros-split 2 4096)) i))
+zeros-cut : (n a b : ℕ) → n ≡ a + b → zeros n ≡ zeros a ++ zeros b
+zeros-cut n a b e = ap zeros e ∙ zeros-split a b
+
+new-zeros : (op n : ℕ) → put (zeros (512 + n)) 19 (op ∷ []) ≡ zeros 2 ++ (zeros 15 ++ (newRest op ++ (zeros 2 ++ zeros n)))
+new-zeros op n =
+    ap (λ (t : List ℕ). put t 19 (op ∷ [])) (zeros-cut (512 + n) 19 (493 + n) (omega arith) ∙ ap (λ (t : List ℕ). zeros 19 ++ t) (zeros-cut (493 + n) 1 (492 + n) (omega arith)))
+    ∙ put-over (zeros 19) (zeros 1) (op ∷ []) (zeros (492 + n)) 19 (length-zeros 19) (length-zeros 1)
+    ∙ (λ i. (zeros-split 2 17 ∙ ap (λ (t : List ℕ). zeros 2 ++ t) (zeros-split 15 2)) i ++ ((op ∷ []) ++ (zeros-cut (492 + n) 490 (2 + n) (omega arith) ∙ ap (λ (t : List ℕ). zeros 490 ++ t) (zeros-split 2 n)) i))
     ∙ simp append-assoc
 
-pub new-law : (op : ℕ) (name z : List ℕ) → length name ≤ 15 → z ≡ put (put (put (zeros rowLength) 19 (op ∷ [])) 0 (1 ∷ length name ∷ [])) 2 name
-    → sealed (take 510 (take 512 z)) ++ drop 512 z ≡ rowBytes (named (record { operator = op; name = name }))
-unfolding named rowBytes headBytes
-new-law op name z l e =
+pub new-law : (fm op : ℕ) (name z : List ℕ) → length name ≤ 15 → z ≡ put (put (put (zeros (rowLength fm)) 19 (op ∷ [])) 0 (1 ∷ length name ∷ [])) 2 name
+    → sealed (take 510 (take 512 z)) ++ drop 512 z ≡ rowBytes fm (named (record { operator = op; name = name }))
+unfolding named rowBytes headBytes rowLength
+new-law fm op name z l e =
+    let n : ℕ = placeLength fm * 8 in
+    let size : 512 + 8 * (512 * fm) ≡ 512 + n = omega arith in
     let rest : List ℕ = newRest op in
     let hr : length rest ≡ 493 = length-rest op in
     let a : List ℕ = 1 ∷ length name ∷ [] in
     let f : List ℕ = filled name 15 in
     let hf : length f ≡ 15 = length-filled name 15 in
-    let w : List ℕ = a ++ (f ++ (rest ++ (zeros 2 ++ zeros 4096))) in
+    let w : List ℕ = a ++ (f ++ (rest ++ (zeros 2 ++ zeros n))) in
     let ez : z ≡ w =
     e
-    ∙ ap (λ (t : List ℕ). put (put t 0 a) 2 name) (new-zeros op)
-    ∙ ap (λ (t : List ℕ). put t 2 name) (put-over [] (zeros 2) a (zeros 15 ++ (rest ++ (zeros 2 ++ zeros 4096))) 0 refl (length-zeros 2))
-    ∙ put-room a name (rest ++ (zeros 2 ++ zeros 4096)) 2 15 refl l in
+    ∙ ap (λ (t : List ℕ). put (put t 0 a) 2 name) (ap (λ (i : ℕ). put (zeros i) 19 (op ∷ [])) size ∙ new-zeros op n)
+    ∙ ap (λ (t : List ℕ). put t 2 name) (put-over [] (zeros 2) a (zeros 15 ++ (rest ++ (zeros 2 ++ zeros n))) 0 refl (length-zeros 2))
+    ∙ put-room a name (rest ++ (zeros 2 ++ zeros n)) 2 15 refl l in
     let et : take 510 (take 512 w) ≡ a ++ (f ++ rest) =
     take-take 510 512 w (omega arith)
-    ∙ take-past 2 508 a (f ++ (rest ++ (zeros 2 ++ zeros 4096))) refl
-    ∙ ap (λ (t : List ℕ). a ++ t) (take-past 15 493 f (rest ++ (zeros 2 ++ zeros 4096)) hf
-    ∙ ap (λ (t : List ℕ). f ++ t) (take-at (rest) (zeros 2 ++ zeros 4096) 493 hr)) in
-    let ed : drop 512 w ≡ placesBytes [] places =
-    drop-past 2 510 a (f ++ (rest ++ (zeros 2 ++ zeros 4096))) refl
-    ∙ drop-past 15 495 f (rest ++ (zeros 2 ++ zeros 4096)) hf
-    ∙ drop-past 493 2 (rest) (zeros 2 ++ zeros 4096) hr
-    ∙ drop-past 2 0 (zeros 2) (zeros 4096) (length-zeros 2)
-    ∙ places-zero in
+    ∙ take-past 2 508 a (f ++ (rest ++ (zeros 2 ++ zeros n))) refl
+    ∙ ap (λ (t : List ℕ). a ++ t) (take-past 15 493 f (rest ++ (zeros 2 ++ zeros n)) hf
+    ∙ ap (λ (t : List ℕ). f ++ t) (take-at (rest) (zeros 2 ++ zeros n) 493 hr)) in
+    let ed : drop 512 w ≡ placesBytes fm [] places =
+    drop-past 2 510 a (f ++ (rest ++ (zeros 2 ++ zeros n))) refl
+    ∙ drop-past 15 495 f (rest ++ (zeros 2 ++ zeros n)) hf
+    ∙ drop-past 493 2 (rest) (zeros 2 ++ zeros n) hr
+    ∙ drop-past 2 0 (zeros 2) (zeros n) (length-zeros 2)
+    ∙ places-zero fm in
     ap (λ (t : List ℕ). sealed (take 510 (take 512 t)) ++ drop 512 t) ez
     ∙ (λ i. sealed (et i) ++ ed i)
-    ∙ ap (λ (t : List ℕ). sealed (a ++ (f ++ t)) ++ placesBytes [] places) (new-rest op)
+    ∙ ap (λ (t : List ℕ). sealed (a ++ (f ++ t)) ++ placesBytes fm [] places) (new-rest op)
 
 -- A ROW OF A TABLE
 
--- the table when the row has come back, the bytes of a subscriber
-pub back-row : (t : List ℕ) (i : ℕ) (b : List ℕ) (f : List ℕ → Subscriber) → b ≡ rowBytes (f (take (rowLength * i + rowLength - rowLength * i) (drop (rowLength * i) t)))
-    → take (rowLength * i) t ++ (b ++ drop (rowLength * i + rowLength - rowLength * i) (drop (rowLength * i) t)) ≡ withRow t i (rowBytes (f (rowAt t i)))
+-- the table when the row has come back, the bytes of a subscriber; w is the length of a row, as the code has it
+pub back-row : (fm w : ℕ) (t : List ℕ) (i : ℕ) (b : List ℕ) (f : List ℕ → Subscriber) → w ≡ rowLength fm
+    → b ≡ rowBytes fm (f (take (w * i + w - w * i) (drop (w * i) t)))
+    → lent fm (take (w * i) t ++ (b ++ drop (w * i + w - w * i) (drop (w * i) t))) ≡ withRow (lent fm t) i (rowBytes fm (f (rowAt (lent fm t) i)))
 unfolding withRow
-back-row t i b f e =
-    let s : Subscriber = f (rowAt t i) in
-    back-put t (rowLength * i) (rowLength * i + rowLength) b (rowBytes s) (length-row s ∙ omega arith) (e ∙ ap (λ (r : List ℕ). rowBytes (f r)) (lent-row t (rowLength * i) i refl))
+back-row fm w t i b f v e =
+    let s : Subscriber = f (rowAt (lent fm t) i) in
+    ap (lent fm) (back-put t (w * i) (w * i + w) b (rowBytes fm s) (length-row fm s ∙ omega arith) (e ∙ ap (λ (r : List ℕ). rowBytes fm (f r)) (lent-row (lent fm t) w (w * i) i v (ap (λ (x : ℕ). x * i) v)))
+    ∙ ap (λ (x : ℕ). put t (x * i) (rowBytes fm s)) v)
+
+-- the row that is lent has the table's form
+pub lent-form : (fm w : ℕ) (t : List ℕ) (i : ℕ) → w ≡ rowLength fm → rowLength fm * i + rowLength fm ≤ length t → formOf (take (w * i + w - w * i) (drop (w * i) t)) ≡ fm
+lent-form fm w t i v h = form-of fm _ (lent-length t (w * i) w (omega (arith, ap (λ (x : ℕ). x * i) v)) ∙ v)

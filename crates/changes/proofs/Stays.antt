@@ -10,64 +10,72 @@ use lib.ListN.{length, getD, length-append}
 use Rattle.octets.specs.Choice.{pick, within}
 use Rattle.octets.specs.Lists.{distinct, every, firstOr, keep, sumOf}
 use Rattle.octets.specs.Texts.{same}
-use Rattle.table.specs.Soundness.{labels, limits, onEntry, sameLabel, sessions, underLimits}
-use Rattle.table.specs.TheTable.{Access, Entry, line, places}
-use Rattle.changes.specs.Changes.{hold, lowestFree, newAccess, vacant}
+use Rattle.table.specs.Soundness.{labels, limits, onEntry, onlyBehind, sameLabel, sessions, underLimits}
+use Rattle.table.specs.TheTable.{Access, Entry, Policies, line, places}
+use Rattle.changes.specs.Changes.{Opening, hold, lowestFree, newAccess, noPolicies, vacant}
 use Rattle.octets.proofs.Lists.{and-left, and-right, both, by-test, distinct-snoc, every-append, every-imp, every-keep, every-map, every-of, every-one, in-within, keep-all, keep-but-one, keep-snoc, kept, within-high, within-low}
-use Rattle.table.proofs.Good.{Entered, Fits, Standing, each-entry, fewer, goodAccess, goodEntry, length-limits, places-eight, stand, standing}
+use Rattle.table.proofs.Good.{Entered, Fits, Standing, each-entry, fewer, goodAccess, goodEntry, length-limits, places-eight, spare, stand, standing}
 
 -- A POLICY REPLACED
 
-pub hold-place : (k : ℕ) (pol : List ℕ) (a : Access) → (hold k pol a) .place ≡ a .place
+pub hold-place : (k : ℕ) (pol : Policies) (a : Access) → (hold k pol a) .place ≡ a .place
 unfolding hold pick
 hold-place k pol a = by-test (eqb (a .place) k) (λ e. rw e) (λ e. rw e)
 
-hold-sid : (k : ℕ) (pol : List ℕ) (a : Access) → (hold k pol a) .session ≡ a .session
+hold-sid : (k : ℕ) (pol : Policies) (a : Access) → (hold k pol a) .session ≡ a .session
 unfolding hold pick
 hold-sid k pol a = by-test (eqb (a .place) k) (λ e. rw e) (λ e. rw e)
 
-hold-entry : (k : ℕ) (pol : List ℕ) (a : Access) → (hold k pol a) .entry ≡ a .entry
+hold-entry : (k : ℕ) (pol : Policies) (a : Access) → (hold k pol a) .entry ≡ a .entry
 unfolding hold pick
 hold-entry k pol a = by-test (eqb (a .place) k) (λ e. rw e) (λ e. rw e)
 
-pub line-hold : (k : ℕ) (pol : List ℕ) (a : List Access) → line (map (hold k pol) a) ≡ line a
+pub line-hold : (k : ℕ) (pol : Policies) (a : List Access) → line (map (hold k pol) a) ≡ line a
 unfolding line
 line-hold k pol [] = refl
 line-hold k pol (x ∷ a) = rw (hold-place k pol x, line-hold k pol a)
 
-pub sids-hold : (k : ℕ) (pol : List ℕ) (a : List Access) → sessions (map (hold k pol) a) ≡ sessions a
+pub sids-hold : (k : ℕ) (pol : Policies) (a : List Access) → sessions (map (hold k pol) a) ≡ sessions a
 unfolding sessions
 sids-hold k pol [] = refl
 sids-hold k pol (x ∷ a) = rw (hold-sid k pol x, sids-hold k pol a)
 
-pub on-hold : (k : ℕ) (pol : List ℕ) (n : ℕ) (a : List Access) → length (onEntry n (map (hold k pol) a)) ≡ length (onEntry n a)
+pub on-hold : (k : ℕ) (pol : Policies) (n : ℕ) (a : List Access) → length (onEntry n (map (hold k pol) a)) ≡ length (onEntry n a)
 unfolding onEntry keep pick
 on-hold k pol n [] = refl
 on-hold k pol n (x ∷ a) =
     let r : length (onEntry n (map (hold k pol) a)) ≡ length (onEntry n a) = on-hold k pol n a in
     rw (hold-entry k pol x) (by-test (eqb (x .entry) n) (λ e. rw e (ap suc r)) (λ e. rw e r))
 
-under-hold : (k : ℕ) (pol : List ℕ) (n : ℕ) (ls : List ℕ) (a : List Access) → underLimits n ls (map (hold k pol) a) ≡ underLimits n ls a
+under-hold : (k : ℕ) (pol : Policies) (n : ℕ) (ls : List ℕ) (a : List Access) → underLimits n ls (map (hold k pol) a) ≡ underLimits n ls a
 unfolding underLimits
 under-hold k pol n [] a = refl
 under-hold k pol n (l ∷ ls) a = rw (on-hold k pol n a, under-hold k pol (suc n) ls a)
 
-good-hold : (k : ℕ) (pol : List ℕ) (n : ℕ) (a : Access) → length pol ≤ 128 → goodAccess n a ≡ true → goodAccess n (hold k pol a) ≡ true
+-- policies that a place of the form may hold
+pub record MayHold (fm : ℕ) (pol : Policies) : Type 0 where
+  pub first-fits : length (pol .first) ≤ 128
+  pub second-fits : length (pol .second) ≤ spare fm
+  pub third-fits : length (pol .third) ≤ spare fm
+  pub second-behind : onlyBehind (length (pol .second)) (length (pol .first)) ≡ true
+  pub third-behind : onlyBehind (length (pol .third)) (length (pol .second)) ≡ true
+
+good-hold : (fm k : ℕ) (pol : Policies) (n : ℕ) (a : Access) → MayHold fm pol → goodAccess fm n a ≡ true → goodAccess fm n (hold k pol a) ≡ true
 unfolding hold pick
-good-hold k pol n a h g =
-    let t : Standing n a = standing n a g in
+good-hold fm k pol n a h g =
+    let t : Standing fm n a = standing n a g in
     by-test (eqb (a .place) k)
-    (λ e. rw e (stand n _ (record { place-in = t .place-in; entry-in = t .entry-in; sid-fits = t .sid-fits; host-fits = t .host-fits; policy-fits = le-leb _ 128 h })))
+    (λ e. rw e (stand n _ (record { place-in = t .place-in; entry-in = t .entry-in; sid-fits = t .sid-fits; host-fits = t .host-fits; first-fits = le-leb _ 128 (h .first-fits); realm-fits = t .realm-fits; second-fits = le-leb _ (spare fm) (h .second-fits); third-fits = le-leb _ (spare fm) (h .third-fits); second-behind = h .second-behind; third-behind = h .third-behind })))
     (λ e. rw e g)
 
-each-hold : (k : ℕ) (pol : List ℕ) (n : ℕ) (a : List Access) → length pol ≤ 128
-    → every (goodAccess n) a ≡ true → every (goodAccess n) (map (hold k pol) a) ≡ true
-each-hold k pol n a h g = rw every-map (every-imp (goodAccess n) _ (λ x. good-hold k pol n x h) a g)
+each-hold : (fm k : ℕ) (pol : Policies) (n : ℕ) (a : List Access) → MayHold fm pol
+    → every (goodAccess fm n) a ≡ true → every (goodAccess fm n) (map (hold k pol) a) ≡ true
+each-hold fm k pol n a h g = rw every-map (every-imp (goodAccess fm n) _ (λ x. good-hold fm k pol n x h) a g)
 
-pub fits-hold : (es : List Entry) (k : ℕ) (pol : List ℕ) (a : List Access) → length pol ≤ 128 → Fits es a → Fits es (map (hold k pol) a)
-fits-hold es k pol a h g =
+pub fits-hold : (fm : ℕ) (es : List Entry) (k : ℕ) (pol : Policies) (a : List Access) → MayHold fm pol → Fits fm es a → Fits fm es (map (hold k pol) a)
+fits-hold fm es k pol a h g =
     record {
-      each = each-hold k pol (length es) a h (g .each);
+      each = each-hold fm k pol (length es) a h (g .each);
       places-once = rw (line-hold k pol a) (g .places-once);
       sids-once = rw (sids-hold k pol a) (g .sids-once);
       under = rw (under-hold k pol 1 (limits es) a) (g .under);
@@ -135,33 +143,34 @@ free-place a h =
     (first-kept _ _ (kept (vacant a) places) n, first-kept _ _ (every-keep (within 1 8) (vacant a) places (places-eight .1)) n)
 
 -- what type 0 has tested before an access is opened
-pub record MayOpen (es : List Entry) (a : List Access) (n : ℕ) (sid host : List ℕ) : Type 0 where
+pub record MayOpen (fm : ℕ) (es : List Entry) (a : List Access) (n : ℕ) (o : Opening) : Type 0 where
   pub exists : within 1 (length es) n ≡ true
   pub below : length (onEntry n a) < getD (limits es) (n - 1) 0
-  pub new-sid : every (λ t. not (same t sid)) (sessions a) ≡ true
-  pub sid-fits : within 1 128 (length sid) ≡ true
-  pub host-fits : within 1 128 (length host) ≡ true
+  pub new-sid : every (λ t. not (same t (o .session))) (sessions a) ≡ true
+  pub sid-fits : within 1 128 (length (o .session)) ≡ true
+  pub host-fits : within 1 128 (length (o .host)) ≡ true
+  pub realm-fits : length (o .realm) ≤ spare fm
 
 line-vacant : (a : List Access) (k : ℕ) → vacant a k ≡ true → every (λ x. not (eqb x k)) (line a) ≡ true
 unfolding line vacant
 line-vacant a k v = rw every-map v
 
-pub fits-open : (es : List Entry) (a : List Access) (n : ℕ) (sid host : List ℕ) → Fits es a → sumOf (limits es) ≤ 8 → MayOpen es a n sid host
-    → Fits es (a ++ (newAccess a n sid host ∷ []))
-unfolding newAccess
-fits-open es a n sid host g eight m =
-    let y : Access = newAccess a n sid host in
+pub fits-open : (fm : ℕ) (es : List Entry) (a : List Access) (n : ℕ) (o : Opening) → Fits fm es a → sumOf (limits es) ≤ 8 → MayOpen fm es a n o
+    → Fits fm es (a ++ (newAccess a n o ∷ []))
+unfolding newAccess noPolicies onlyBehind pick
+fits-open fm es a n o g eight m =
+    let y : Access = newAccess a n o in
     let u : underLimits 1 (limits es) (a ++ (y ∷ [])) ≡ true = under-snoc 0 (limits es) a y (λ lo. m .below) (g .under) in
     let e : every (λ (x : Access). within 1 (length es) (x .entry)) (a ++ (y ∷ [])) ≡ true =
-    every-append _ a (y ∷ []) (each-entry es a (g .each)) (every-one _ y (m .exists)) in
+    every-append _ a (y ∷ []) (each-entry fm es a (g .each)) (every-one _ y (m .exists)) in
     let h : length a < 8 = omega (arith, fewer es (a ++ (y ∷ [])) e u, length-append a (y ∷ [])) in
     let p : (vacant a (lowestFree a) ≡ true) × (within 1 8 (lowestFree a) ≡ true) = free-place a h in
-    let s : goodAccess (length es) y ≡ true =
-    stand (length es) y (record { place-in = p .1; entry-in = m .exists; sid-fits = m .sid-fits; host-fits = m .host-fits; policy-fits = le-leb 0 128 (omega arith) }) in
+    let s : goodAccess fm (length es) y ≡ true =
+    stand (length es) y (record { place-in = p .1; entry-in = m .exists; sid-fits = m .sid-fits; host-fits = m .host-fits; first-fits = le-leb 0 128 (omega arith); realm-fits = le-leb _ (spare fm) (m .realm-fits); second-fits = le-leb 0 (spare fm) (omega arith); third-fits = le-leb 0 (spare fm) (omega arith); second-behind = refl; third-behind = refl }) in
     record {
       each = every-append _ a (y ∷ []) (g .each) (every-one _ y s);
       places-once = rw (line-snoc a y) (distinct-snoc eqb (line a) (lowestFree a) (g .places-once) (line-vacant a _ (p .0)));
-      sids-once = rw (sids-snoc a y) (distinct-snoc same (sessions a) sid (g .sids-once) (m .new-sid));
+      sids-once = rw (sids-snoc a y) (distinct-snoc same (sessions a) (o .session) (g .sids-once) (m .new-sid));
       under = u;
     }
 
@@ -212,13 +221,13 @@ under-more m (k ∷ ls) l a z u =
     let q : m + suc (length ls) ≡ suc m + length ls = omega arith in
     both (and-left (leb (length (onEntry m a)) k) _ u) (under-more (suc m) ls l a (rw q at z) (and-right (leb (length (onEntry m a)) k) _ u))
 
-pub fits-more : (es : List Entry) (e : Entry) (a : List Access) → Fits es a → Fits (es ++ (e ∷ [])) a
-fits-more es e a g =
+pub fits-more : (fm : ℕ) (es : List Entry) (e : Entry) (a : List Access) → Fits fm es a → Fits fm (es ++ (e ∷ [])) a
+fits-more fm es e a g =
     record {
-      each = every-imp (goodAccess (length es)) _ (λ x t. let s : Standing (length es) x = standing (length es) x t in
-          stand _ x (record { place-in = s .place-in; entry-in = in-within _ _ _ (within-low _ _ _ (s .entry-in)) (omega (arith, within-high _ _ _ (s .entry-in), length-append es (e ∷ []))); sid-fits = s .sid-fits; host-fits = s .host-fits; policy-fits = s .policy-fits }))
+      each = every-imp (goodAccess fm (length es)) _ (λ x t. let s : Standing fm (length es) x = standing (length es) x t in
+          stand _ x (record { place-in = s .place-in; entry-in = in-within _ _ _ (within-low _ _ _ (s .entry-in)) (omega (arith, within-high _ _ _ (s .entry-in), length-append es (e ∷ []))); sid-fits = s .sid-fits; host-fits = s .host-fits; first-fits = s .first-fits; realm-fits = s .realm-fits; second-fits = s .second-fits; third-fits = s .third-fits; second-behind = s .second-behind; third-behind = s .third-behind }))
           a (g .each);
       places-once = g .places-once;
       sids-once = g .sids-once;
-      under = rw (limits-snoc es e) (under-more 1 (limits es) (e .limit) a (none-past (length es) a (each-entry es a (g .each)) _ (omega (arith, length-limits es))) (g .under));
+      under = rw (limits-snoc es e) (under-more 1 (limits es) (e .limit) a (none-past (length es) a (each-entry fm es a (g .each)) _ (omega (arith, length-limits es))) (g .under));
     }

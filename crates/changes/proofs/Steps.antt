@@ -12,7 +12,7 @@ use Rattle.octets.specs.Choice.{pick}
 use Rattle.octets.specs.Lists.{keep}
 use Rattle.octets.specs.Texts.{filled, part, zeros}
 use Rattle.table.specs.Soundness.{sound}
-use Rattle.table.specs.TheTable.{Access, Entry, Subscriber, accessBytes, block, entriesBytes, entryBytes, foundBy, headBytes, held, line, places, placesBytes, readRow, rowBytes, sealed, sumsFrom, usedBits}
+use Rattle.table.specs.TheTable.{Access, Entry, Policies, Subscriber, firstBytes, formOf, entriesBytes, entryBytes, foundBy, headBytes, held, line, places, placesBytes, readRow, rowBytes, sealed, secondBytes, sumsFrom, usedBits}
 use Rattle.changes.proofs.Bits.{lowest-free, ones-accesses}
 use Rattle.changes.proofs.Stays.{some-vacant}
 use Rattle.changes.specs.Changes.{lowestFree, withAccesses}
@@ -43,31 +43,31 @@ module _ (p q x c z : ℕ) (n l y t : List ℕ) (hn : length n ≡ 15) (hl : len
       ∙ take-at y t m hy
 
 -- byte 19, and the first 17
-row-operator : (s : Subscriber) → getD (rowBytes s) 19 0 ≡ s .operator
+row-operator : (fm : ℕ) (s : Subscriber) → getD (rowBytes fm s) 19 0 ≡ s .operator
 unfolding rowBytes headBytes sealed
-row-operator s =
-    List·getD-append (headBytes s) (placesBytes (s .accesses) places) 0 19 (rw length-head (omega arith))
+row-operator fm s =
+    List·getD-append (headBytes s) (placesBytes fm (s .accesses) places) 0 19 (rw length-head (omega arith))
     ∙ ap (λ (u : List ℕ). getD u 19 0) (body-is 1 (length (s .name)) (usedBits (line (s .accesses))) (length (s .entries)) (s .operator) (filled (s .name) 15) (filled (line (s .accesses)) 8)
     (zeros 4 ++ (filled (entriesBytes (s .entries)) 416 ++ zeros 62)) _ (length-filled _ 15) (length-filled _ 8))
     ∙ getD-past 15 2 (filled (s .name) 15) _ (length-filled _ 15)
 
-row-front : (s : Subscriber) → take 17 (rowBytes s) ≡ 1 ∷ length (s .name) ∷ filled (s .name) 15
+row-front : (fm : ℕ) (s : Subscriber) → take 17 (rowBytes fm s) ≡ 1 ∷ length (s .name) ∷ filled (s .name) 15
 unfolding rowBytes headBytes sealed
-row-front s =
-    take-append-le 17 (headBytes s) (placesBytes (s .accesses) places) (rw length-head (omega arith))
+row-front fm s =
+    take-append-le 17 (headBytes s) (placesBytes fm (s .accesses) places) (rw length-head (omega arith))
     ∙ front17 1 (length (s .name)) (usedBits (line (s .accesses))) (length (s .entries)) (s .operator) (filled (s .name) 15) (filled (line (s .accesses)) 8)
     (zeros 4 ++ (filled (entriesBytes (s .entries)) 416 ++ zeros 62)) _ (length-filled _ 15) (length-filled _ 8)
 
 -- what a row is found by says whose it is
-pub row-account : (s : Subscriber) → foundBy (rowBytes s) ≡ s .operator ∷ 1 ∷ length (s .name) ∷ filled (s .name) 15
+pub row-account : (fm : ℕ) (s : Subscriber) → foundBy (rowBytes fm s) ≡ s .operator ∷ 1 ∷ length (s .name) ∷ filled (s .name) 15
 unfolding foundBy
-row-account s = rw (row-operator s, row-front s)
+row-account fm s = rw (row-operator fm s, row-front fm s)
 
 -- byte 17
-pub row-bits : (s : Subscriber) → getD (rowBytes s) 17 0 ≡ usedBits (line (s .accesses))
+pub row-bits : (fm : ℕ) (s : Subscriber) → getD (rowBytes fm s) 17 0 ≡ usedBits (line (s .accesses))
 unfolding rowBytes headBytes sealed
-row-bits s =
-    List·getD-append (headBytes s) (placesBytes (s .accesses) places) 0 17 (rw length-head (omega arith))
+row-bits fm s =
+    List·getD-append (headBytes s) (placesBytes fm (s .accesses) places) 0 17 (rw length-head (omega arith))
     ∙ ap (λ (u : List ℕ). getD u 17 0) (body-is 1 (length (s .name)) (usedBits (line (s .accesses))) (length (s .entries)) (s .operator) (filled (s .name) 15) (filled (line (s .accesses)) 8)
     (zeros 4 ++ (filled (entriesBytes (s .entries)) 416 ++ zeros 62)) _ (length-filled _ 15) (length-filled _ 8))
     ∙ getD-past 15 0 (filled (s .name) 15) _ (length-filled _ 15)
@@ -75,13 +75,13 @@ row-bits s =
 -- in a sound row the complement of byte 17 leads to the lowest free place, and its ones are the accesses
 pub free-byte : (r : List ℕ) → sound r ≡ true → length ((readRow r) .accesses) < 8 → lowestFree ((readRow r) .accesses) ≡ 1 + trailingZeros 8 (255 - getD r 17 0)
 free-byte r h lt =
-    let q : getD r 17 0 ≡ usedBits (line ((readRow r) .accesses)) = ap (λ (u : List ℕ). getD u 17 0) (row-is r h) ∙ row-bits (readRow r) in
+    let q : getD r 17 0 ≡ usedBits (line ((readRow r) .accesses)) = ap (λ (u : List ℕ). getD u 17 0) (row-is r h) ∙ row-bits (formOf r) (readRow r) in
     rw q (lowest-free ((readRow r) .accesses) (some-vacant ((readRow r) .accesses) lt))
 
 pub ones-byte : (r : List ℕ) → sound r ≡ true → ones (getD r 17 0) ≡ length ((readRow r) .accesses)
 ones-byte r h =
-    let q : getD r 17 0 ≡ usedBits (line ((readRow r) .accesses)) = ap (λ (u : List ℕ). getD u 17 0) (row-is r h) ∙ row-bits (readRow r) in
-    rw q (ones-accesses _ _ (says-good r h .accesses-good .each) (says-good r h .accesses-good .places-once))
+    let q : getD r 17 0 ≡ usedBits (line ((readRow r) .accesses)) = ap (λ (u : List ℕ). getD u 17 0) (row-is r h) ∙ row-bits (formOf r) (readRow r) in
+    rw q (ones-accesses (formOf r) _ _ (says-good r h .accesses-good .each) (says-good r h .accesses-good .places-once))
 
 -- block 0 with another line: bytes 17 and 20 to 27, and the sums
 pub head-line : (s : Subscriber) (a : List Access)
@@ -113,26 +113,52 @@ module _ (p q u v w x y z : ℕ) (s h o e t : List ℕ) (hs : length s ≡ 128) 
       ap (λ (i : List ℕ). part i 6 258) access-is
       ∙ ap (λ (i : List ℕ). y ∷ z ∷ i) (ap (take 256) (sym (append-assoc s h (o ++ (e ++ t)))) ∙ take-at (s ++ h) (o ++ (e ++ t)) 256 (rw (length-append, hs, hh)))
 
+  realm-room : part (access-body ++ t) 5 131 ≡ x ∷ y ∷ z ∷ s
+  realm-room =
+      ap (λ (i : List ℕ). part i 5 131) access-is
+      ∙ ap (λ (i : List ℕ). x ∷ y ∷ z ∷ i) (take-at s (h ++ (o ++ (e ++ t))) 128 hs)
+
   end118 : part (access-body ++ t) 392 118 ≡ e
   end118 =
       ap (λ (i : List ℕ). part i 392 118) access-is
       ∙ ap (take 118) (drop-past 128 256 s (h ++ (o ++ (e ++ t))) hs ∙ drop-past 128 128 h (o ++ (e ++ t)) hh ∙ drop-past 128 0 o (e ++ t) ho)
       ∙ take-at e t 118 he
 
-pub access-policy : (a : Access) (pol : List ℕ)
-    → accessBytes (record { place = a .place; entry = a .entry; session = a .session; host = a .host; policy = pol })
-    ≡ sealed (take 4 (accessBytes a) ++ (held pol ∷ length pol ∷ part (accessBytes a) 6 258 ++ (filled pol 128 ++ part (accessBytes a) 392 118)))
-unfolding accessBytes sealed
-access-policy a pol =
-    let t : List ℕ = sumsFrom 0 0 (2 ∷ a .entry ∷ length (a .session) ∷ length (a .host) ∷ held (a .policy) ∷ length (a .policy) ∷ 0 ∷ 0
-    ∷ filled (a .session) 128 ++ (filled (a .host) 128 ++ (filled (a .policy) 128 ++ zeros 118))) in
-    let m : part (accessBytes a) 6 258 ≡ 0 ∷ 0 ∷ filled (a .session) 128 ++ filled (a .host) 128 =
-    middle 2 (a .entry) (length (a .session)) (length (a .host)) (held (a .policy)) (length (a .policy)) 0 0 (filled (a .session) 128) (filled (a .host) 128) (filled (a .policy) 128) (zeros 118) t (length-filled _ 128) (length-filled _ 128) (length-filled _ 128) (length-zeros 118) in
-    let e : part (accessBytes a) 392 118 ≡ zeros 118 =
-    end118 2 (a .entry) (length (a .session)) (length (a .host)) (held (a .policy)) (length (a .policy)) 0 0 (filled (a .session) 128) (filled (a .host) 128) (filled (a .policy) 128) (zeros 118) t (length-filled _ 128) (length-filled _ 128) (length-filled _ 128) (length-zeros 118) in
-    let f : List ℕ → List ℕ = λ i. sealed (2 ∷ a .entry ∷ length (a .session) ∷ length (a .host) ∷ held pol ∷ length pol ∷ 0 ∷ 0 ∷ i) in
-    ap f (sym (append-assoc (filled (a .session) 128) (filled (a .host) 128) (filled pol 128 ++ zeros 118)))
-    ∙ sym (λ i. sealed (2 ∷ a .entry ∷ length (a .session) ∷ length (a .host) ∷ held pol ∷ length pol ∷ m i ++ (filled pol 128 ++ e i)))
+-- the first block with another first policy
+pub first-policy : (a : Access) (pol : Policies)
+    → firstBytes (record { place = a .place; entry = a .entry; session = a .session; host = a .host; realm = a .realm; policies = pol })
+    ≡ sealed (take 4 (firstBytes a) ++ (held (pol .first) ∷ length (pol .first) ∷ part (firstBytes a) 6 258 ++ (filled (pol .first) 128 ++ part (firstBytes a) 392 118)))
+unfolding firstBytes sealed
+first-policy a pol =
+    let o : List ℕ = a .policies .first in
+    let n : List ℕ = pol .first in
+    let t : List ℕ = sumsFrom 0 0 (2 ∷ a .entry ∷ length (a .session) ∷ length (a .host) ∷ held o ∷ length o ∷ 0 ∷ 0
+    ∷ filled (a .session) 128 ++ (filled (a .host) 128 ++ (filled o 128 ++ zeros 118))) in
+    let m : part (firstBytes a) 6 258 ≡ 0 ∷ 0 ∷ filled (a .session) 128 ++ filled (a .host) 128 =
+    middle 2 (a .entry) (length (a .session)) (length (a .host)) (held o) (length o) 0 0 (filled (a .session) 128) (filled (a .host) 128) (filled o 128) (zeros 118) t (length-filled _ 128) (length-filled _ 128) (length-filled _ 128) (length-zeros 118) in
+    let e : part (firstBytes a) 392 118 ≡ zeros 118 =
+    end118 2 (a .entry) (length (a .session)) (length (a .host)) (held o) (length o) 0 0 (filled (a .session) 128) (filled (a .host) 128) (filled o 128) (zeros 118) t (length-filled _ 128) (length-filled _ 128) (length-filled _ 128) (length-zeros 118) in
+    let f : List ℕ → List ℕ = λ i. sealed (2 ∷ a .entry ∷ length (a .session) ∷ length (a .host) ∷ held n ∷ length n ∷ 0 ∷ 0 ∷ i) in
+    ap f (sym (append-assoc (filled (a .session) 128) (filled (a .host) 128) (filled n 128 ++ zeros 118)))
+    ∙ sym (λ i. sealed (2 ∷ a .entry ∷ length (a .session) ∷ length (a .host) ∷ held n ∷ length n ∷ m i ++ (filled n 128 ++ e i)))
+
+-- the second block with another second and third
+pub second-policies : (a : Access) (pol : Policies)
+    → secondBytes (record { place = a .place; entry = a .entry; session = a .session; host = a .host; realm = a .realm; policies = pol })
+    ≡ sealed (take 3 (secondBytes a) ++ (length (pol .second) ∷ length (pol .third) ∷ part (secondBytes a) 5 131 ++ (filled (pol .second) 128 ++ (filled (pol .third) 128 ++ part (secondBytes a) 392 118))))
+unfolding secondBytes sealed
+second-policies a pol =
+    let u : List ℕ = a .policies .second in
+    let v : List ℕ = a .policies .third in
+    let x : List ℕ = pol .second in
+    let y : List ℕ = pol .third in
+    let t : List ℕ = sumsFrom 0 0 (3 ∷ length (a .realm) ∷ 0 ∷ length u ∷ length v ∷ 0 ∷ 0 ∷ 0
+    ∷ filled (a .realm) 128 ++ (filled u 128 ++ (filled v 128 ++ zeros 118))) in
+    let m : part (secondBytes a) 5 131 ≡ 0 ∷ 0 ∷ 0 ∷ filled (a .realm) 128 =
+    realm-room 3 (length (a .realm)) 0 (length u) (length v) 0 0 0 (filled (a .realm) 128) (filled u 128) (filled v 128) (zeros 118) t (length-filled _ 128) (length-filled _ 128) (length-filled _ 128) (length-zeros 118) in
+    let e : part (secondBytes a) 392 118 ≡ zeros 118 =
+    end118 3 (length (a .realm)) 0 (length u) (length v) 0 0 0 (filled (a .realm) 128) (filled u 128) (filled v 128) (zeros 118) t (length-filled _ 128) (length-filled _ 128) (length-filled _ 128) (length-zeros 118) in
+    sym (λ i. sealed (3 ∷ length (a .realm) ∷ 0 ∷ length x ∷ length y ∷ m i ++ (filled x 128 ++ (filled y 128 ++ e i))))
 
 -- one entry more in the room of entries
 entries-snoc : (es : List Entry) (e : Entry) → entriesBytes (es ++ (e ∷ [])) ≡ entriesBytes es ++ entryBytes e

@@ -6,7 +6,7 @@ use Prim.Native.Nat.{ℕ}
 use lib.Dec.{eqb}
 use Rattle.octets.specs.Choice.{pick}
 use Rattle.octets.specs.Lists.{every, firstOr, keep}
-use Rattle.table.specs.TheTable.{Access, Account, Entry, Subscriber, places}
+use Rattle.table.specs.TheTable.{Access, Account, Entry, Policies, Subscriber, places}
 
 abbrev pub withAccesses : List Access → Subscriber → Subscriber
 withAccesses a s = record { operator = s .operator; name = s .name; entries = s .entries; accesses = a }
@@ -25,20 +25,34 @@ vacant a k = every (λ (x : Access). not (eqb (x .place) k)) a
 unfoldable pub lowestFree : List Access → ℕ
 lowestFree a = firstOr 0 (keep (vacant a) places)
 
-unfoldable pub newAccess : List Access → (entry : ℕ) → (session host : List ℕ) → Access
-newAccess a n session host = record { place = lowestFree a; entry = n; session = session; host = host; policy = [] }
+-- The texts that it stores: Session-Id, and host and realm of its gateway.
+pub record Opening : Type 0 where
+  pub session : List ℕ
+  pub host : List ℕ
+  pub realm : List ℕ
 
-unfoldable pub opened : (entry : ℕ) → (session host : List ℕ) → Subscriber → Subscriber
-opened n session host s = withAccesses (s .accesses ++ (newAccess (s .accesses) n session host ∷ [])) s
+-- What a row of the form keeps of the realm: all of it in form 2, nothing in form 1.
+unfoldable pub keptIn : (form : ℕ) → (realm : List ℕ) → List ℕ
+keptIn f realm = pick (eqb f 2) realm []
 
--- A POLICY replaces what was held at place k.
-unfoldable pub hold : ℕ → List ℕ → Access → Access
-hold k route a =
+unfoldable pub noPolicies : Policies
+noPolicies = record { first = []; second = []; third = [] }
+
+unfoldable pub newAccess : List Access → (entry : ℕ) → Opening → Access
+newAccess a n o =
+    record { place = lowestFree a; entry = n; session = o .session; host = o .host; realm = o .realm; policies = noPolicies }
+
+unfoldable pub opened : (entry : ℕ) → Opening → Subscriber → Subscriber
+opened n o s = withAccesses (s .accesses ++ (newAccess (s .accesses) n o ∷ [])) s
+
+-- POLICIES replace all that place k held.
+unfoldable pub hold : ℕ → Policies → Access → Access
+hold k policies a =
     pick (eqb (a .place) k)
-    (record { place = a .place; entry = a .entry; session = a .session; host = a .host; policy = route }) a
+    (record { place = a .place; entry = a .entry; session = a .session; host = a .host; realm = a .realm; policies = policies }) a
 
-unfoldable pub routed : ℕ → List ℕ → Subscriber → Subscriber
-routed k route s = withAccesses (map (hold k route) (s .accesses)) s
+unfoldable pub routed : ℕ → Policies → Subscriber → Subscriber
+routed k policies s = withAccesses (map (hold k policies) (s .accesses)) s
 
 -- SET-UP: a subscriber of that operator with that name, and nothing else.
 unfoldable pub named : Account → Subscriber

@@ -1,14 +1,16 @@
 // The changes to a sound row.
 ghost use mathlib.Core.Path.{_≡_};
 ghost use mathlib.Core.Bool.{true};
-ghost use Prim.Native.Nat.{_+_, _-_, _*_, _^_, _≤_, _<_};
+ghost use mathlib.Core.List.{[]};
+ghost use Prim.Native.Nat.{_+_, _-_, _*_, _/_, _^_, _≤_, _<_};
 ghost use lib.ListN.{length, take, set};
 ghost use Rattle.octets.specs.Texts.{part};
-ghost use Rattle.octets.specs.Lists.{every, isOn};
-ghost use Rattle.table.specs.TheTable.{entryBytes, orderLine, readRow, rowAt, rowBytes, rowLength, sealed, withRow};
+ghost use Rattle.octets.specs.Lists.{isOn};
+ghost use Rattle.table.specs.Answers.{lent};
+ghost use Rattle.table.specs.TheTable.{entryBytes, firstBytes, formOf, orderLine, placeLength, readRow, rowAt, rowBytes, rowLength, sealed, secondBytes, withRow};
 ghost use Rattle.table.specs.Soundness.{sound};
-ghost use Rattle.changes.specs.Changes.{freed, lowestFree, named, opened, routed, withEntry};
-ghost use Rattle.changes.specs.Writes.{closedUp, entriesWith, headWith, lowestClear, openedBytes, policyWith};
+ghost use Rattle.changes.specs.Changes.{freed, keptIn, lowestFree, named, opened, routed, withEntry};
+ghost use Rattle.changes.specs.Writes.{closedUp, entriesWith, fresh, headWith, lowestClear, openedBytes, othersWith, policyWith, routedBytes};
 
 // The sums of a block's first 510 bytes, written behind them: the second, then the first.
 pub fn seal(block: &mut [u8])
@@ -96,10 +98,10 @@ fn enlist(block: &mut [u8], bits: u8, count: usize, place: u8)
     put_byte(block, 20 + count, place);
 }
 
-// The block of a new access.
-fn write_access(block: &mut [u8], entry: u8, session: &[u8], host: &[u8])
+// The first block of a new access.
+fn write_first(block: &mut [u8], entry: u8, session: &[u8], host: &[u8])
     requires { ⌜ (length (now block) ≡ 512) × (length (now session) ≤ 128) × (length (now host) ≤ 128) ⌝ }
-    ensures { λ _. ⌜ now (block .exit) ≡ openedBytes entry (now (session .entry)) (now (host .entry)) ⌝ }
+    ensures { λ _. ⌜ now (block .exit) ≡ firstBytes (fresh entry (record { session = now (session .entry); host = now (host .entry); realm = [] })) ⌝ }
 {
     octets::clear(block);
     let head = [2, entry, session.len() as u8, host.len() as u8];
@@ -109,7 +111,31 @@ fn write_access(block: &mut [u8], entry: u8, session: &[u8], host: &[u8])
     seal(block);
 }
 
-// The block of a place with another policy.
+// Its second block.
+fn write_second(block: &mut [u8], realm: &[u8])
+    requires { ⌜ (length (now block) ≡ 512) × (length (now realm) ≤ 128) ⌝ }
+    ensures { λ _. ⌜ now (block .exit) ≡ secondBytes (fresh 0 (record { session = []; host = []; realm = now (realm .entry) })) ⌝ }
+{
+    octets::clear(block);
+    let head = [3, realm.len() as u8];
+    octets::put_bytes(block, 0, &head);
+    texts::put_text(block, 8, realm);
+    seal(block);
+}
+
+// The place of a new access: its first block, and in form 2 its second.
+fn write_access(place: &mut [u8], entry: u8, session: &[u8], host: &[u8], realm: &[u8])
+    requires { ⌜ (length (now place) ≡ placeLength (length (now place) / 512)) × (1 ≤ length (now place) / 512) × (length (now place) / 512 ≤ 2) × (length (now session) ≤ 128) × (length (now host) ≤ 128) × (length (now realm) ≤ 128) ⌝ }
+    ensures { λ _. ⌜ now (place .exit) ≡ openedBytes (length (now (place .entry)) / 512) entry (record { session = now (session .entry); host = now (host .entry); realm = keptIn (length (now (place .entry)) / 512) (now (realm .entry)) }) ⌝ }
+{
+    write_first(&mut place[0..512], entry, session, host);
+    if place.len() == 512 {
+        return;
+    }
+    write_second(&mut place[512..1024], realm);
+}
+
+// The first block of a place with another first policy.
 fn write_policy(block: &mut [u8], policy: &[u8])
     requires { ⌜ (length (now block) ≡ 512) × (length (now policy) ≤ 128) ⌝ }
     ensures { λ _. ⌜ now (block .exit) ≡ policyWith (now (block .entry)) (now (policy .entry)) ⌝ }
@@ -119,6 +145,31 @@ fn write_policy(block: &mut [u8], policy: &[u8])
     octets::put_zeros(block, 264, 128);
     texts::put_text(block, 264, policy);
     seal(block);
+}
+
+// The second block of a place with another second and third policy.
+fn write_others(block: &mut [u8], second: &[u8], third: &[u8])
+    requires { ⌜ (length (now block) ≡ 512) × (length (now second) ≤ 128) × (length (now third) ≤ 128) ⌝ }
+    ensures { λ _. ⌜ now (block .exit) ≡ othersWith (now (block .entry)) (now (second .entry)) (now (third .entry)) ⌝ }
+{
+    block[3] = second.len() as u8;
+    block[4] = third.len() as u8;
+    octets::put_zeros(block, 136, 256);
+    texts::put_text(block, 136, second);
+    texts::put_text(block, 264, third);
+    seal(block);
+}
+
+// A place with other policies: all that it held are replaced. Form 1 has room for the first alone.
+fn write_policies(place: &mut [u8], first: &[u8], second: &[u8], third: &[u8])
+    requires { ⌜ (length (now place) ≡ placeLength (length (now place) / 512)) × (1 ≤ length (now place) / 512) × (length (now place) / 512 ≤ 2) × (length (now first) ≤ 128) × (length (now second) ≤ 128) × (length (now third) ≤ 128) ⌝ }
+    ensures { λ _. ⌜ now (place .exit) ≡ routedBytes (now (place .entry)) (record { first = now (first .entry); second = now (second .entry); third = now (third .entry) }) ⌝ }
+{
+    write_policy(&mut place[0..512], first);
+    if place.len() == 512 {
+        return;
+    }
+    write_others(&mut place[512..1024], second, third);
 }
 
 // The room of an entry.
@@ -147,37 +198,46 @@ fn write_more(block: &mut [u8], n: u8, label: &[u8], flags: u8, limit: u8)
 
 // THE CHANGES TO A SOUND ROW
 
-// Place k is freed: its block is zeroed, its bit cleared, and the order line closes up.
+// Place k is freed: it is zeroed, its bit cleared, and the order line closes up.
 pub fn free_place(row: &mut [u8], k: usize)
     requires { ⌜ (sound (now row) ≡ true) × (isOn (orderLine (now row)) k ≡ true) ⌝ }
-    ensures { λ _. ⌜ now (row .exit) ≡ rowBytes (freed k (readRow (now (row .entry)))) ⌝ }
+    ensures { λ _. ⌜ now (row .exit) ≡ rowBytes (formOf (now (row .entry))) (freed k (readRow (now (row .entry)))) ⌝ }
 {
     let bits = row[17] - bit_of(k);
     let line = line_without(&row[20..28], k as u8);
-    octets::put_zeros(row, 512 * k, 512);
+    let at = row::start(row, k);
+    let long = (row.len() - 512) / 8;
+    octets::put_zeros(row, at, long);
     write_line(&mut row[0..512], bits, line);
 }
 
 // A new access takes the lowest free place and the end of the order line. The ones of byte 17 are the accesses in use.
-pub fn open_place(row: &mut [u8], entry: u8, session: &[u8], host: &[u8]) -> usize
-    requires { ⌜ (sound (now row) ≡ true) × (length ((readRow (now row)) .accesses) < 8) × (length (now session) ≤ 128) × (length (now host) ≤ 128) ⌝ }
-    ensures { λ r. ⌜ (now (row .exit) ≡ rowBytes (opened entry (now (session .entry)) (now (host .entry)) (readRow (now (row .entry)))))
+pub fn open_place(row: &mut [u8], entry: u8, session: &[u8], host: &[u8], realm: &[u8]) -> usize
+    requires { ⌜ (sound (now row) ≡ true) × (length ((readRow (now row)) .accesses) < 8) × (length (now session) ≤ 128) × (length (now host) ≤ 128) × (length (now realm) ≤ 128) ⌝ }
+    ensures { λ r. ⌜ (now (row .exit) ≡ rowBytes (formOf (now (row .entry))) (opened entry (record { session = now (session .entry); host = now (host .entry); realm = keptIn (formOf (now (row .entry))) (now (realm .entry)) }) (readRow (now (row .entry)))))
         × (r ≡ lowestFree ((readRow (now (row .entry))) .accesses)) ⌝ }
 {
     let bits = row[17];
     let count = u8::count_ones(bits) as usize;
     let place = lowest_free(bits);
-    let a = 512 * place;
-    let e = a + 512;
-    write_access(&mut row[a..e], entry, session, host);
+    let a = row::start(row, place);
+    let e = a + (row.len() - 512) / 8;
+    write_access(&mut row[a..e], entry, session, host, realm);
     enlist(&mut row[0..512], bits + bit_of(place), count, place as u8);
     place
 }
 
 // Place k is cut for a new access: it is freed, then the new access takes the lowest free place and the end of the order line.
-pub fn cut_and_open_place(row: &mut [u8], k: usize, entry: u8, session: &[u8], host: &[u8]) -> usize
-    requires { ⌜ (sound (now row) ≡ true) × (isOn (orderLine (now row)) k ≡ true) × (length (now session) ≤ 128) × (length (now host) ≤ 128) ⌝ }
-    ensures { λ r. ⌜ (now (row .exit) ≡ rowBytes (opened entry (now (session .entry)) (now (host .entry)) (freed k (readRow (now (row .entry))))))
+pub fn cut_and_open_place(
+    row: &mut [u8],
+    k: usize,
+    entry: u8,
+    session: &[u8],
+    host: &[u8],
+    realm: &[u8],
+) -> usize
+    requires { ⌜ (sound (now row) ≡ true) × (isOn (orderLine (now row)) k ≡ true) × (length (now session) ≤ 128) × (length (now host) ≤ 128) × (length (now realm) ≤ 128) ⌝ }
+    ensures { λ r. ⌜ (now (row .exit) ≡ rowBytes (formOf (now (row .entry))) (opened entry (record { session = now (session .entry); host = now (host .entry); realm = keptIn (formOf (now (row .entry))) (now (realm .entry)) }) (freed k (readRow (now (row .entry))))))
         × (r ≡ lowestFree ((freed k (readRow (now (row .entry)))) .accesses)) ⌝ }
 {
     let bits = row[17] - bit_of(k);
@@ -185,28 +245,30 @@ pub fn cut_and_open_place(row: &mut [u8], k: usize, entry: u8, session: &[u8], h
     let place = lowest_free(bits);
     let mut line = line_without(&row[20..28], k as u8);
     line[count] = place as u8;
-    octets::put_zeros(row, 512 * k, 512);
-    let a = 512 * place;
-    let e = a + 512;
-    write_access(&mut row[a..e], entry, session, host);
+    let long = (row.len() - 512) / 8;
+    let cut = row::start(row, k);
+    let a = row::start(row, place);
+    let e = a + long;
+    octets::put_zeros(row, cut, long);
+    write_access(&mut row[a..e], entry, session, host, realm);
     write_line(&mut row[0..512], bits + bit_of(place), line);
     place
 }
 
-// A policy replaces what place k held.
-pub fn replace_policy(row: &mut [u8], k: usize, policy: &[u8])
-    requires { ⌜ (sound (now row) ≡ true) × (isOn (orderLine (now row)) k ≡ true) × (1 ≤ length (now policy)) × (length (now policy) ≤ 128) ⌝ }
-    ensures { λ _. ⌜ now (row .exit) ≡ rowBytes (routed k (now (policy .entry)) (readRow (now (row .entry)))) ⌝ }
+// Policies replace what place k held.
+pub fn replace_policies(row: &mut [u8], k: usize, first: &[u8], second: &[u8], third: &[u8])
+    requires { ⌜ (sound (now row) ≡ true) × (isOn (orderLine (now row)) k ≡ true) × (1 ≤ length (now first)) × (length (now first) ≤ 128) × (length (now second) ≤ 128) × (length (now third) ≤ 128) ⌝ }
+    ensures { λ _. ⌜ now (row .exit) ≡ rowBytes (formOf (now (row .entry))) (routed k (record { first = now (first .entry); second = now (second .entry); third = now (third .entry) }) (readRow (now (row .entry)))) ⌝ }
 {
-    let a = 512 * k;
-    let e = a + 512;
-    write_policy(&mut row[a..e], policy);
+    let a = row::start(row, k);
+    let e = a + (row.len() - 512) / 8;
+    write_policies(&mut row[a..e], first, second, third);
 }
 
 // The next entry, as given.
 pub fn append_entry(row: &mut [u8], label: &[u8], flags: u8, limit: u8)
     requires { ⌜ (sound (now row) ≡ true) × (length ((readRow (now row)) .entries) < 4) × (length (now label) ≤ 100) ⌝ }
-    ensures { λ _. ⌜ now (row .exit) ≡ rowBytes (withEntry (record { label = now (label .entry); flags = flags; limit = limit }) (readRow (now (row .entry)))) ⌝ }
+    ensures { λ _. ⌜ now (row .exit) ≡ rowBytes (formOf (now (row .entry))) (withEntry (record { label = now (label .entry); flags = flags; limit = limit }) (readRow (now (row .entry)))) ⌝ }
 {
     let n = row[18];
     write_more(&mut row[0..512], n, label, flags, limit);
@@ -214,8 +276,8 @@ pub fn append_entry(row: &mut [u8], label: &[u8], flags: u8, limit: u8)
 
 // A subscriber of that operator with that name, and nothing else.
 pub fn new_row(row: &mut [u8], op: u8, name: &[u8])
-    requires { ⌜ (length (now row) ≡ rowLength) × (length (now name) ≤ 15) ⌝ }
-    ensures { λ _. ⌜ now (row .exit) ≡ rowBytes (named (record { operator = op; name = now (name .entry) })) ⌝ }
+    requires { ⌜ (length (now row) ≡ rowLength (formOf (now row))) × (length (now name) ≤ 15) ⌝ }
+    ensures { λ _. ⌜ now (row .exit) ≡ rowBytes (formOf (now (row .entry))) (named (record { operator = op; name = now (name .entry) })) ⌝ }
 {
     octets::clear(row);
     let operator = [op];
@@ -228,52 +290,74 @@ pub fn new_row(row: &mut [u8], op: u8, name: &[u8])
 
 // THE SAME ON ROW i OF A TABLE: every other row stays as it is.
 
-pub fn free(table: &mut [u8], i: usize, k: usize)
-    requires { ⌜ (rowLength * i + rowLength ≤ length (now table)) × (sound (rowAt (now table) i) ≡ true) × (isOn (orderLine (rowAt (now table) i)) k ≡ true) ⌝ }
-    ensures { λ _. ⌜ now (table .exit) ≡ withRow (now (table .entry)) i (rowBytes (freed k (readRow (rowAt (now (table .entry)) i)))) ⌝ }
+pub fn free(table: &mut [u8], form: usize, i: usize, k: usize)
+    requires { ⌜ (form ≤ 2) × (rowLength form * i + rowLength form ≤ length (now table)) × (sound (rowAt (lent form (now table)) i) ≡ true) × (isOn (orderLine (rowAt (lent form (now table)) i)) k ≡ true) ⌝ }
+    ensures { λ _. ⌜ lent form (now (table .exit)) ≡ withRow (lent form (now (table .entry))) i (rowBytes form (freed k (readRow (rowAt (lent form (now (table .entry))) i)))) ⌝ }
 {
-    let a = table::ROW_LENGTH * i;
-    let e = a + table::ROW_LENGTH;
+    let width = table::row_length(form);
+    let a = width * i;
+    let e = a + width;
     free_place(&mut table[a..e], k);
 }
 
-pub fn open(table: &mut [u8], i: usize, entry: u8, session: &[u8], host: &[u8]) -> usize
-    requires { ⌜ (rowLength * i + rowLength ≤ length (now table)) × (sound (rowAt (now table) i) ≡ true) × (length ((readRow (rowAt (now table) i)) .accesses) < 8)
-        × (length (now session) ≤ 128) × (length (now host) ≤ 128) ⌝ }
-    ensures { λ r. ⌜ (now (table .exit)
-        ≡ withRow (now (table .entry)) i (rowBytes (opened entry (now (session .entry)) (now (host .entry)) (readRow (rowAt (now (table .entry)) i)))))
-        × (r ≡ lowestFree ((readRow (rowAt (now (table .entry)) i)) .accesses)) ⌝ }
+pub fn open(
+    table: &mut [u8],
+    form: usize,
+    i: usize,
+    entry: u8,
+    session: &[u8],
+    host: &[u8],
+    realm: &[u8],
+) -> usize
+    requires { ⌜ (form ≤ 2) × (rowLength form * i + rowLength form ≤ length (now table)) × (sound (rowAt (lent form (now table)) i) ≡ true) × (length ((readRow (rowAt (lent form (now table)) i)) .accesses) < 8)
+        × (length (now session) ≤ 128) × (length (now host) ≤ 128) × (length (now realm) ≤ 128) ⌝ }
+    ensures { λ r. ⌜ (lent form (now (table .exit))
+        ≡ withRow (lent form (now (table .entry))) i (rowBytes form (opened entry (record { session = now (session .entry); host = now (host .entry); realm = keptIn form (now (realm .entry)) }) (readRow (rowAt (lent form (now (table .entry))) i)))))
+        × (r ≡ lowestFree ((readRow (rowAt (lent form (now (table .entry))) i)) .accesses)) ⌝ }
 {
-    let a = table::ROW_LENGTH * i;
-    let e = a + table::ROW_LENGTH;
-    open_place(&mut table[a..e], entry, session, host)
+    let width = table::row_length(form);
+    let a = width * i;
+    let e = a + width;
+    open_place(&mut table[a..e], entry, session, host, realm)
 }
 
 pub fn cut_and_open(
     table: &mut [u8],
+    form: usize,
     i: usize,
     k: usize,
     entry: u8,
     session: &[u8],
     host: &[u8],
+    realm: &[u8],
 ) -> usize
-    requires { ⌜ (rowLength * i + rowLength ≤ length (now table)) × (sound (rowAt (now table) i) ≡ true) × (isOn (orderLine (rowAt (now table) i)) k ≡ true)
-        × (length (now session) ≤ 128) × (length (now host) ≤ 128) ⌝ }
-    ensures { λ r. ⌜ (now (table .exit)
-        ≡ withRow (now (table .entry)) i (rowBytes (opened entry (now (session .entry)) (now (host .entry)) (freed k (readRow (rowAt (now (table .entry)) i))))))
-        × (r ≡ lowestFree ((freed k (readRow (rowAt (now (table .entry)) i))) .accesses)) ⌝ }
+    requires { ⌜ (form ≤ 2) × (rowLength form * i + rowLength form ≤ length (now table)) × (sound (rowAt (lent form (now table)) i) ≡ true) × (isOn (orderLine (rowAt (lent form (now table)) i)) k ≡ true)
+        × (length (now session) ≤ 128) × (length (now host) ≤ 128) × (length (now realm) ≤ 128) ⌝ }
+    ensures { λ r. ⌜ (lent form (now (table .exit))
+        ≡ withRow (lent form (now (table .entry))) i (rowBytes form (opened entry (record { session = now (session .entry); host = now (host .entry); realm = keptIn form (now (realm .entry)) }) (freed k (readRow (rowAt (lent form (now (table .entry))) i))))))
+        × (r ≡ lowestFree ((freed k (readRow (rowAt (lent form (now (table .entry))) i))) .accesses)) ⌝ }
 {
-    let a = table::ROW_LENGTH * i;
-    let e = a + table::ROW_LENGTH;
-    cut_and_open_place(&mut table[a..e], k, entry, session, host)
+    let width = table::row_length(form);
+    let a = width * i;
+    let e = a + width;
+    cut_and_open_place(&mut table[a..e], k, entry, session, host, realm)
 }
 
-pub fn route(table: &mut [u8], i: usize, k: usize, policy: &[u8])
-    requires { ⌜ (rowLength * i + rowLength ≤ length (now table)) × (sound (rowAt (now table) i) ≡ true) × (isOn (orderLine (rowAt (now table) i)) k ≡ true)
-        × (1 ≤ length (now policy)) × (length (now policy) ≤ 128) ⌝ }
-    ensures { λ _. ⌜ now (table .exit) ≡ withRow (now (table .entry)) i (rowBytes (routed k (now (policy .entry)) (readRow (rowAt (now (table .entry)) i)))) ⌝ }
+pub fn route(
+    table: &mut [u8],
+    form: usize,
+    i: usize,
+    k: usize,
+    first: &[u8],
+    second: &[u8],
+    third: &[u8],
+)
+    requires { ⌜ (form ≤ 2) × (rowLength form * i + rowLength form ≤ length (now table)) × (sound (rowAt (lent form (now table)) i) ≡ true) × (isOn (orderLine (rowAt (lent form (now table)) i)) k ≡ true)
+        × (1 ≤ length (now first)) × (length (now first) ≤ 128) × (length (now second) ≤ 128) × (length (now third) ≤ 128) ⌝ }
+    ensures { λ _. ⌜ lent form (now (table .exit)) ≡ withRow (lent form (now (table .entry))) i (rowBytes form (routed k (record { first = now (first .entry); second = now (second .entry); third = now (third .entry) }) (readRow (rowAt (lent form (now (table .entry))) i)))) ⌝ }
 {
-    let a = table::ROW_LENGTH * i;
-    let e = a + table::ROW_LENGTH;
-    replace_policy(&mut table[a..e], k, policy);
+    let width = table::row_length(form);
+    let a = width * i;
+    let e = a + width;
+    replace_policies(&mut table[a..e], k, first, second, third);
 }

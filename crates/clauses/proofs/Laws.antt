@@ -2,32 +2,28 @@
 use mathlib.Core.Path.{_≡_, refl, sym, ap, _∙_}
 use mathlib.Core.Bool.{Bool, true, false, _&&_}
 use mathlib.Core.List.{List, [], _∷_}
-use Prim.Native.Nat.{ℕ, _+_, _-_, _*_, _≤_, _<_}
+use Prim.Native.Nat.{ℕ, _≤_, _<_}
 use native.Mathlib.Omega.{arith}
 use borrow.Author.Tests.{eqb-true, eq-eqb, ne-eqb, lt-leb, le-leb}
 use lib.Dec.{eqb, leb}
 use lib.ListN.{length, getD}
 use Rattle.octets.specs.Choice.{pick, require, firstOf, within}
-use Rattle.octets.specs.Lists.{every, counted, distinct, sumOf}
+use Rattle.octets.specs.Lists.{every, distinct, sumOf}
 use Rattle.octets.specs.Texts.{part, same}
-use Rattle.octets.proofs.Lists.{and-right, by-test, every-map}
+use Rattle.octets.proofs.Lists.{and-right, both, by-test, every-map}
 use Rattle.octets.proofs.Choice.{first-passes, others-pass, passed}
-use Rattle.table.specs.TheTable.{Access, places, rowLength, block, entriesRoom, lineRoom, orderLine, readAccess, readEntries, readRow}
-use Rattle.table.specs.Soundness.{hasForm, headForm, entriesForm, placeForm, sumsAgree, lineExact, sameLabel, labels, limits, sessions, underLimits, policyMarked, sound}
+use Rattle.table.specs.TheTable.{Access, accessAt, entriesRoom, firstBlock, head, lineRoom, orderLine, place, places, readEntries, readRow, secondBlock}
+use Rattle.table.specs.Soundness.{entriesForm, hasForm, headForm, isRow, labels, limits, lineExact, onlyBehind, placeForm, placeSums, policiesInOrder, policyMarked, sameLabel, sessions, sound, sumsAgree, underLimits}
 use Rattle.row.proofs.Entries.{count-is}
+use Rattle.soundness.proofs.Forms.{nothing-at, nothing-behind}
 use Rattle.soundness.proofs.Line.{line-at}
 use Rattle.clauses.specs.Clauses.{brokenForm, brokenContents, brokenClause}
 
 -- WHAT IS TESTED
 
--- the nine blocks
-pub all-blocks : (f : ℕ → Bool) → every f (counted 0 (9 - 0)) ≡ every f (0 ∷ places)
-unfolding counted places
-all-blocks f = refl
-
 -- an access names an entry that exists, by its place
 pub namesEntry : List ℕ → ℕ → Bool
-namesEntry r k = within 1 (getD (block r 0) 18 0) ((readAccess k (block r k)) .entry)
+namesEntry r k = within 1 (getD (head r) 18 0) ((accessAt r k) .entry)
 
 pub names-all : (r : List ℕ) → every (λ (x : Access). within 1 (length ((readRow r) .entries)) (x .entry)) ((readRow r) .accesses) ≡ every (namesEntry r) (orderLine r)
 unfolding readRow namesEntry
@@ -35,65 +31,83 @@ names-all r = rw (every-map, count-is r)
 
 -- along the line
 module _ (r : List ℕ) (i k : ℕ) (l : i < length (orderLine r)) (e : k ≡ getD (lineRoom r) i 0) where
-  place : getD (orderLine r) i 0 ≡ k
-  place = line-at r i l ∙ sym e
+  here : getD (orderLine r) i 0 ≡ k
+  here = line-at r i l ∙ sym e
 
-  pub names-at : namesEntry r (getD (orderLine r) i 0) ≡ within 1 (getD (block r 0) 18 0) ((readAccess k (block r k)) .entry)
+  pub names-at : namesEntry r (getD (orderLine r) i 0) ≡ within 1 (getD (head r) 18 0) ((accessAt r k) .entry)
   unfolding namesEntry
-  names-at = rw place
+  names-at = rw here
 
-  pub marked-at : policyMarked r (getD (orderLine r) i 0) ≡ eqb (getD (block r k) 4 0) (pick (leb 1 (getD (block r k) 5 0)) 1 0)
+  pub marked-at : policyMarked r (getD (orderLine r) i 0) ≡ eqb (getD (firstBlock (place r k)) 4 0) (pick (leb 1 (getD (firstBlock (place r k)) 5 0)) 1 0)
   unfolding policyMarked
-  marked-at = rw place
+  marked-at = rw here
+
+  pub ordered-at : policiesInOrder r (getD (orderLine r) i 0) ≡ policiesInOrder r k
+  ordered-at = rw here
+
+-- the policies of one access; in form 1 there is no second block
+module _ (r : List ℕ) (k : ℕ) where
+  pub order-none : length (secondBlock (place r k)) ≡ 0 → true ≡ policiesInOrder r k
+  unfolding policiesInOrder
+  order-none z = sym (both (nothing-behind _ _ (nothing-at (secondBlock (place r k)) 3 z)) (nothing-behind _ _ (nothing-at (secondBlock (place r k)) 4 z)))
+
+  pub order-out : onlyBehind (getD (secondBlock (place r k)) 3 0) (getD (firstBlock (place r k)) 5 0) ≡ false → false ≡ policiesInOrder r k
+  unfolding policiesInOrder
+  order-out e = rw e
+
+  pub order-last : onlyBehind (getD (secondBlock (place r k)) 3 0) (getD (firstBlock (place r k)) 5 0) ≡ true
+      → onlyBehind (getD (secondBlock (place r k)) 4 0) (getD (secondBlock (place r k)) 3 0) ≡ policiesInOrder r k
+  unfolding policiesInOrder
+  order-last e = rw e
 
 -- the entries
-pub entries-read : (r : List ℕ) (n : ℕ) → n ≡ getD (block r 0) 18 0 → (readRow r) .entries ≡ readEntries n (entriesRoom r)
+pub entries-read : (r : List ℕ) (n : ℕ) → n ≡ getD (head r) 18 0 → (readRow r) .entries ≡ readEntries n (entriesRoom r)
 unfolding readRow
 entries-read r n e = rw e
 
 -- THE FORM AND THE SUMS
 
-module _ (r : List ℕ) (size : length r ≡ rowLength) where
-  pub breaks-1 : headForm (block r 0) ≡ false → 1 ≡ brokenForm r
+module _ (r : List ℕ) (row : isRow r ≡ true) where
+  pub breaks-1 : headForm (head r) ≡ false → 1 ≡ brokenForm r
   unfolding brokenForm firstOf require pick
-  breaks-1 h = rw (eq-eqb (length r) rowLength size, h)
+  breaks-1 h = rw (row, h)
 
-  module _ (h : headForm (block r 0) ≡ true) where
-    pub breaks-2 : entriesForm (getD (block r 0) 18 0) (part (block r 0) 32 416) ≡ false → 2 ≡ brokenForm r
+  module _ (h : headForm (head r) ≡ true) where
+    pub breaks-2 : entriesForm (getD (head r) 18 0) (part (head r) 32 416) ≡ false → 2 ≡ brokenForm r
     unfolding brokenForm firstOf require pick
-    breaks-2 e = rw (eq-eqb (length r) rowLength size, h, e)
+    breaks-2 e = rw (row, h, e)
 
-    module _ (e : entriesForm (getD (block r 0) 18 0) (part (block r 0) 32 416) ≡ true) where
+    module _ (e : entriesForm (getD (head r) 18 0) (part (head r) 32 416) ≡ true) where
       pub breaks-3 : every (placeForm r) places ≡ false → 3 ≡ brokenForm r
       unfolding brokenForm firstOf require pick
-      breaks-3 p = rw (eq-eqb (length r) rowLength size, h, e, p)
+      breaks-3 p = rw (row, h, e, p)
 
       module _ (p : every (placeForm r) places ≡ true) where
-        pub breaks-4 : every (sumsAgree r) (0 ∷ places) ≡ false → 4 ≡ brokenForm r
+        pub breaks-4 : sumsAgree (head r) && every (placeSums r) places ≡ false → 4 ≡ brokenForm r
         unfolding brokenForm firstOf require pick
-        breaks-4 s = rw (eq-eqb (length r) rowLength size, h, e, p, s)
+        breaks-4 s = rw (row, h, e, p, s)
 
-        pub form-kept : every (sumsAgree r) (0 ∷ places) ≡ true → 0 ≡ brokenForm r
+        pub form-kept : sumsAgree (head r) && every (placeSums r) places ≡ true → 0 ≡ brokenForm r
         unfolding brokenForm firstOf require pick
-        form-kept s = rw (eq-eqb (length r) rowLength size, h, e, p, s)
+        form-kept s = rw (row, h, e, p, s)
 
-pub form-holds : (r : List ℕ) → brokenForm r ≡ 0 → (headForm (block r 0) ≡ true) × (entriesForm (getD (block r 0) 18 0) (part (block r 0) 32 416) ≡ true)
+pub form-holds : (r : List ℕ) → brokenForm r ≡ 0 → (headForm (head r) ≡ true) × (entriesForm (getD (head r) 18 0) (part (head r) 32 416) ≡ true)
 unfolding brokenForm
 form-holds r z =
-    let a : Bool = eqb (length r) rowLength && headForm (block r 0) in
-    let b : Bool = entriesForm (getD (block r 0) 18 0) (part (block r 0) 32 416) in
+    let a : Bool = isRow r && headForm (head r) in
+    let b : Bool = entriesForm (getD (head r) 18 0) (part (head r) 32 416) in
     let z1 = others-pass (require a 1) _ z in (
-      and-right (eqb (length r) rowLength) (headForm (block r 0)) (passed a 1 (omega arith) (first-passes (require a 1) _ z)),
+      and-right (isRow r) (headForm (head r)) (passed a 1 (omega arith) (first-passes (require a 1) _ z)),
       passed b 2 (omega arith) (first-passes (require b 2) _ z1),
     )
 
 -- THE CONTENTS
 
-module _ (r : List ℕ) (n : ℕ) (room : List ℕ) (same-n : n ≡ getD (block r 0) 18 0) (same-room : room ≡ entriesRoom r) where
+module _ (r : List ℕ) (n : ℕ) (room : List ℕ) (same-n : n ≡ getD (head r) 18 0) (same-room : room ≡ entriesRoom r) where
   read : (readRow r) .entries ≡ readEntries n room
   read = entries-read r n same-n ∙ ap (readEntries n) (sym same-room)
 
-  pub entries-form-said : entriesForm (getD (block r 0) 18 0) (entriesRoom r) ≡ true → entriesForm n room ≡ true
+  pub entries-form-said : entriesForm (getD (head r) 18 0) (entriesRoom r) ≡ true → entriesForm n room ≡ true
   entries-form-said h = rw (same-n, same-room) h
 
   pub labels-are : distinct sameLabel (labels ((readRow r) .entries)) ≡ distinct sameLabel (labels (readEntries n room))
@@ -143,9 +157,14 @@ module _ (r : List ℕ) where
               unfolding brokenContents firstOf require pick
               breaks-11 g = rw (a, b, c, d, e, f, g)
 
-              pub contents-kept : every (policyMarked r) (orderLine r) ≡ true → 0 ≡ brokenContents r
-              unfolding brokenContents firstOf require pick
-              contents-kept g = rw (a, b, c, d, e, f, g)
+              module _ (g : every (policyMarked r) (orderLine r) ≡ true) where
+                pub breaks-12 : every (policiesInOrder r) (orderLine r) ≡ false → 12 ≡ brokenContents r
+                unfolding brokenContents firstOf require pick
+                breaks-12 h = rw (a, b, c, d, e, f, g, h)
+
+                pub contents-kept : every (policiesInOrder r) (orderLine r) ≡ true → 0 ≡ brokenContents r
+                unfolding brokenContents firstOf require pick
+                contents-kept h = rw (a, b, c, d, e, f, g, h)
 
 -- A ROW
 
@@ -174,18 +193,19 @@ four true true false d = refl
 four true true true false = refl
 four true true true true = refl
 
-seven : (a b c d e f g : Bool)
-    → eqb (firstOf (require a 5 ∷ require b 6 ∷ require c 7 ∷ require d 8 ∷ require e 9 ∷ require f 10 ∷ require g 11 ∷ [])) 0
-    ≡ a && (b && (c && (d && (e && (f && g)))))
+eight : (a b c d e f g h : Bool)
+    → eqb (firstOf (require a 5 ∷ require b 6 ∷ require c 7 ∷ require d 8 ∷ require e 9 ∷ require f 10 ∷ require g 11 ∷ require h 12 ∷ [])) 0
+    ≡ a && (b && (c && (d && (e && (f && (g && h))))))
 unfolding firstOf require pick
-seven false b c d e f g = refl
-seven true false c d e f g = refl
-seven true true false d e f g = refl
-seven true true true false e f g = refl
-seven true true true true false f g = refl
-seven true true true true true false g = refl
-seven true true true true true true false = refl
-seven true true true true true true true = refl
+eight false b c d e f g h = refl
+eight true false c d e f g h = refl
+eight true true false d e f g h = refl
+eight true true true false e f g h = refl
+eight true true true true false f g h = refl
+eight true true true true true false g h = refl
+eight true true true true true true false h = refl
+eight true true true true true true true false = refl
+eight true true true true true true true true = refl
 
 regroup : (a b c d e f : Bool) → ((a && b) && (c && (d && e))) && f ≡ (a && (b && (c && d))) && (e && f)
 regroup false b c d e f = refl
@@ -198,7 +218,7 @@ regroup true true true true e f = refl
 pub unbroken : (r : List ℕ) → eqb (brokenClause r) 0 ≡ sound r
 unfolding brokenClause brokenForm brokenContents sound hasForm
 unbroken r =
-    let entries : Bool = entriesForm (getD (block r 0) 18 0) (part (block r 0) 32 416) in
+    let entries : Bool = entriesForm (getD (head r) 18 0) (part (head r) 32 416) in
     both-zero (brokenForm r) (brokenContents r)
-    ∙ rw four (regroup (eqb (length r) rowLength) (headForm (block r 0)) entries (every (placeForm r) places) (every (sumsAgree r) (0 ∷ places)) (eqb (brokenContents r) 0)
-    ∙ rw seven)
+    ∙ rw four (regroup (isRow r) (headForm (head r)) entries (every (placeForm r) places) (sumsAgree (head r) && every (placeSums r) places) (eqb (brokenContents r) 0)
+    ∙ rw eight)

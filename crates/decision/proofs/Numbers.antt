@@ -17,12 +17,12 @@ use Rattle.message.specs.declared.Kind.the-variants.{NoAnswer}
 use Rattle.message.proofs.Callers.{message-length}
 use Rattle.effects.specs.declared.Cut.the-variants.{NoCut}
 use Rattle.message.specs.CallsThatGetNoAnswer.{messageNumber}
-use Rattle.table.specs.TheTable.{firstNumber, tableNumber}
+use Rattle.table.specs.TheTable.{Table, firstNumber, tableNumber}
 use Rattle.table.proofs.Rows.{first-operator, first-table}
-use Rattle.rules.specs.Calls.{Call, callNumber, handle, onReading, silent}
+use Rattle.rules.specs.Calls.{Call, callNumber, handle, mostPolicies, onReading, silent}
 use Rattle.decision.specs.Outcomes.{callOf, cutHost, cutMade, cutSession, leaves, resultSaid}
 
-module _ (t : List ℕ) (c : Call) where
+module _ (t : Table) (c : Call) where
   pub number-first : (firstNumber t (c .operator) ≡ 0 → ⊥) → callNumber t c ≡ firstNumber t (c .operator)
   unfolding callNumber firstNumber firstOf pick
   number-first h =
@@ -77,7 +77,7 @@ pub record Ready (m host realm room : List ℕ) : Type 0 where
   pub room-fits : 5120 ≤ length room
 
 -- what lent things are like where no number is given
-module _ (t : List ℕ) (o : ℕ) (m host realm room notice : List ℕ) (wag : Bool) (z : callNumber t (callOf o m host realm room notice wag) ≡ 0) where
+module _ (t : Table) (o : ℕ) (m host realm room notice : List ℕ) (wag : Bool) (z : callNumber t (callOf o m host realm room notice wag) ≡ 0) where
   names : Bool
   names = within 1 128 (length host) && within 1 128 (length realm)
 
@@ -117,8 +117,8 @@ module _ (t : List ℕ) (o : ℕ) (m host realm room notice : List ℕ) (wag : B
         room-fits = leb-true 5120 (length room) (passed (leb 5120 (length room)) 3 (omega arith) (first-passes (require (leb 5120 (length room)) 3) _ after-names));
       }
 
-module _ (t : List ℕ) (c : Call) where
-  pub handled : callNumber t c ≡ 0 → handle t c ≡ onReading t c (read (c .message))
+module _ (t : Table) (c : Call) where
+  pub handled : callNumber t c ≡ 0 → handle t c ≡ onReading t c (read (mostPolicies (t .form)) (c .message))
   unfolding handle pick
   handled z = rw (eq-eqb (callNumber t c) 0 z)
 
@@ -126,7 +126,7 @@ module _ (t : List ℕ) (c : Call) where
   unfolding handle pick
   unanswered n e nz = rw (ne-eqb (callNumber t c) 0 (λ z. nz (e ∙ z)), e)
 
-pub silent-is : (t : List ℕ) (o : ℕ) (m host realm room notice : List ℕ) (wag : Bool) (n : ℕ)
+pub silent-is : (t : Table) (o : ℕ) (m host realm room notice : List ℕ) (wag : Bool) (n : ℕ)
     → leaves (record { code = n; kind = NoAnswer; length = 0; place = 0; cut = NoCut }) t room notice ≡ silent t (callOf o m host realm room notice wag) n
 unfolding leaves resultSaid silent callOf codeFrom kindOf cutMade cutSession cutHost
 silent-is t o m host realm room notice wag n = refl

@@ -1,7 +1,7 @@
 -- What the code's structs and enums say in the paper's numbers.
 use mathlib.Core.Path.{_≡_}
 use mathlib.Core.Bool.{Bool}
-use mathlib.Core.List.{List, []}
+use mathlib.Core.List.{List, [], _∷_}
 use Prim.Native.Nat.{ℕ, _≤_, _<_}
 use lib.ListN.{length}
 use Rattle.message.specs.Codes.{Code, kindOf}
@@ -9,12 +9,17 @@ use Rattle.message.specs.Kinds.{codeFrom}
 use Rattle.message.specs.ReadingAMessage.{userName}
 use Rattle.message.specs.Spans.{Holds, bytesOf}
 use Rattle.message.specs.WritingTheAnswer.{answer, answerRoom}
+use Rattle.message.specs.declared.Span.{Span}
 use Rattle.message.specs.declared.Asked.{Asked}
 use Rattle.message.specs.declared.Asked.the-variants.{Tunnel, Policy, Termination}
 use Rattle.effects.specs.declared.Cut.{Cut}
 use Rattle.effects.specs.declared.Cut.the-variants.{NoCut, Lengths}
 use Rattle.decision.specs.declared.Outcome.{Outcome}
 use Rattle.decision.specs.declared.Decided.{Decided}
+use Rattle.decision.specs.declared.Texts.{Texts}
+use Rattle.table.specs.TheTable.{Policies, Table}
+use Rattle.changes.specs.Changes.{keptIn}
+use Rattle.plans.specs.Plans.{Brought}
 use Rattle.rules.specs.Calls.{Call, Result, Left}
 
 -- A cut: 1 with the lengths of its texts, or 0 and no lengths.
@@ -45,11 +50,11 @@ resultSaid o =
     }
 
 -- All that a call leaves: its outcome, and every byte of the table and of both rooms.
-unfoldable pub leaves : Outcome → (table answer notice : List ℕ) → Left
+unfoldable pub leaves : Outcome → (table : Table) → (answer notice : List ℕ) → Left
 leaves o table answer notice = record { reply = record { result = resultSaid o; answer = answer; notice = notice }; table = table }
 
 -- All that a call leaves once what is decided is answered.
-unfoldable pub answeredBy : Decided → (message host realm answer : List ℕ) → (table notice : List ℕ) → Left
+unfoldable pub answeredBy : Decided → (message host realm answer : List ℕ) → (table : Table) → (notice : List ℕ) → Left
 answeredBy d m host realm room table notice =
     let c : Code = codeFrom (d .kind) (d .code) in
     let n : ℕ = length (answer m host realm c) in
@@ -66,18 +71,28 @@ unfoldable pub callOf : (operator : ℕ) → (message host realm answer notice :
 callOf o message host realm answer notice wag =
     record { operator = o; message = message; host = host; realm = realm; answer = answer; notice = notice; wag = wag }
 
--- The texts that a request brings for its change; none where it brings none.
-unfoldable pub sessionText : List ℕ → Asked → List ℕ
-sessionText m (Tunnel session host label visited) = bytesOf m session
-sessionText m (Policy session route) = bytesOf m session
-sessionText m (Termination session label) = bytesOf m session
+-- Where the texts stand that a request brings for its change; an empty span where it brings none.
+unfoldable pub noText : Span
+noText = record { at = 0; len = 0 }
 
-unfoldable pub hostText : List ℕ → Asked → List ℕ
-hostText m (Tunnel session host label visited) = bytesOf m host
-hostText m (Policy session route) = []
-hostText m (Termination session label) = []
+unfoldable pub textsOf : Asked → Texts
+textsOf (Tunnel session host realm label visited) =
+    record { session = session; host = host; realm = realm; first = noText; second = noText; third = noText }
+textsOf (Policy session first second third) =
+    record { session = session; host = noText; realm = noText; first = first; second = second; third = third }
+textsOf (Termination session label) =
+    record { session = session; host = noText; realm = noText; first = noText; second = noText; third = noText }
 
-unfoldable pub routeText : List ℕ → Asked → List ℕ
-routeText m (Tunnel session host label visited) = []
-routeText m (Policy session route) = bytesOf m route
-routeText m (Termination session label) = []
+unfoldable pub spansOf : Texts → List Span
+spansOf t = t .session ∷ t .host ∷ t .realm ∷ t .first ∷ t .second ∷ t .third ∷ []
+
+-- The texts themselves, as a table of the form keeps them.
+unfoldable pub policiesAt : List ℕ → Texts → Policies
+policiesAt m t = record { first = bytesOf m (t .first); second = bytesOf m (t .second); third = bytesOf m (t .third) }
+
+unfoldable pub brought : (form : ℕ) → List ℕ → Texts → Brought
+brought f m t =
+    record {
+      opening = record { session = bytesOf m (t .session); host = bytesOf m (t .host); realm = keptIn f (bytesOf m (t .realm)) };
+      policies = policiesAt m t;
+    }

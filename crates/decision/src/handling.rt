@@ -1,7 +1,9 @@
 // A whole call.
 use super::Decided;
 use super::Outcome;
+use super::Texts;
 use effects::Cut;
+use effects::Done;
 use message::Asked;
 use message::Kind;
 use message::Span;
@@ -18,13 +20,20 @@ ghost use Rattle.octets.specs.Lists.{every};
 ghost use Rattle.message.specs.Codes.{numberOf};
 ghost use Rattle.message.specs.Kinds.{codeFrom};
 ghost use Rattle.message.specs.Spans.{asks, bytesOf, isInside, says, spans, spansIn};
-ghost use Rattle.rules.specs.Calls.{callNumber, handle, onReading, onRow, refusal, settled};
+ghost use Rattle.rules.specs.Calls.{callNumber, handle, mostPolicies, noticeRoom, onReading, onRow, refusal, settled, tableAfter};
 ghost use Rattle.message.specs.ReadingAMessage.{read, request};
-ghost use Rattle.table.specs.TheTable.{lookup, readRow, rowAt, rowLength, tableNumber};
+ghost use Rattle.table.specs.Answers.{lent};
+ghost use Rattle.table.specs.TheTable.{Table, isForm, lookup, readRow, rowAt, rowLength, tableNumber};
 ghost use Rattle.table.specs.Soundness.{sound};
 ghost use Rattle.rules.specs.Deciding.{decide};
 ghost use Rattle.plans.specs.Plans.{planned, planCode, fitPlan, fitting};
-ghost use Rattle.decision.specs.Outcomes.{Named, answeredBy, callOf, hostText, leaves, routeText, sessionText};
+ghost use Rattle.effects.specs.Carrying.{doneFor};
+ghost use Rattle.decision.specs.Outcomes.{Named, answeredBy, brought, callOf, leaves, policiesAt, spansOf, textsOf};
+
+// The rooms that a call asks for.
+const ANSWER_LEAST: usize = 5120;
+
+const NOTICE_LENGTH: usize = 256;
 
 // An own name of 1 to 128 bytes.
 fn name_fits(s: &[u8]) -> bool
@@ -39,6 +48,7 @@ fn name_fits(s: &[u8]) -> bool
 // The first of the numbers 1, 33 and 2 to 8 that a call is refused with, 0 where none is.
 pub fn call_number(
     table: &[u8],
+    form: u32,
     op: u32,
     host: &[u8],
     realm: &[u8],
@@ -46,9 +56,9 @@ pub fn call_number(
     answer: &[u8],
     notice: &[u8],
 ) -> u32
-    ensures { λ r. ⌜ ((wag : Bool) → r ≡ callNumber (now (table .entry)) (callOf op (now (message .entry)) (now (host .entry)) (now (realm .entry)) (now (answer .entry)) (now (notice .entry)) wag)) ⌝ }
+    ensures { λ r. ⌜ ((wag : Bool) → r ≡ callNumber (lent form (now (table .entry))) (callOf op (now (message .entry)) (now (host .entry)) (now (realm .entry)) (now (answer .entry)) (now (notice .entry)) wag)) ⌝ }
 {
-    let n = table::number_for(table, op);
+    let n = table::number_for(table, form, op);
     if n != 0 {
         return n;
     }
@@ -58,10 +68,10 @@ pub fn call_number(
     if !name_fits(realm) {
         return 2;
     }
-    if answer.len() < 5120 {
+    if answer.len() < ANSWER_LEAST {
         return 3;
     }
-    if notice.len() < 256 {
+    if notice.len() < NOTICE_LENGTH {
         return 4;
     }
     message::number(message)
@@ -98,49 +108,47 @@ fn code_of(plan: Plan) -> u32
     }
 }
 
-// The spans of the texts that a request brings for its change; an empty one where it brings none.
-fn session_span(asked: Asked) -> Span
-    ensures { λ r. ⌜ ((m : List ℕ) → (bytesOf m r ≡ sessionText m asked) × (every (isInside m) (spansIn asked) ≡ true → isInside m r ≡ true)) ⌝ }
+// The spans of the texts that a request brings for its change.
+fn texts_of(asked: Asked) -> Texts
+    ensures { λ r. ⌜ r ≡ textsOf asked ⌝ }
 {
+    let none = Span { at: 0, len: 0 };
     match asked {
         Asked::Tunnel {
             session,
             host,
+            realm,
             label,
             visited,
-        } => session,
-        Asked::Policy { session, route } => session,
-        Asked::Termination { session, label } => session,
-    }
-}
-
-fn host_span(asked: Asked) -> Span
-    ensures { λ r. ⌜ ((m : List ℕ) → (bytesOf m r ≡ hostText m asked) × (every (isInside m) (spansIn asked) ≡ true → isInside m r ≡ true)) ⌝ }
-{
-    match asked {
-        Asked::Tunnel {
+        } => Texts {
             session,
             host,
-            label,
-            visited,
-        } => host,
-        Asked::Policy { session, route } => Span { at: 0, len: 0 },
-        Asked::Termination { session, label } => Span { at: 0, len: 0 },
-    }
-}
-
-fn route_span(asked: Asked) -> Span
-    ensures { λ r. ⌜ ((m : List ℕ) → (bytesOf m r ≡ routeText m asked) × (every (isInside m) (spansIn asked) ≡ true → isInside m r ≡ true)) ⌝ }
-{
-    match asked {
-        Asked::Tunnel {
+            realm,
+            first: none,
+            second: none,
+            third: none,
+        },
+        Asked::Policy {
             session,
-            host,
-            label,
-            visited,
-        } => Span { at: 0, len: 0 },
-        Asked::Policy { session, route } => route,
-        Asked::Termination { session, label } => Span { at: 0, len: 0 },
+            first,
+            second,
+            third,
+        } => Texts {
+            session,
+            host: none,
+            realm: none,
+            first,
+            second,
+            third,
+        },
+        Asked::Termination { session, label } => Texts {
+            session,
+            host: none,
+            realm: none,
+            first: none,
+            second: none,
+            third: none,
+        },
     }
 }
 
@@ -157,20 +165,26 @@ pub fn text<'a>(m: &'a [u8], s: Span) -> &'a [u8]
 // What is planned for a request on a sound row.
 fn plan_for(row: &[u8], m: &[u8], asked: Asked, wag: bool) -> Plan
     requires { ⌜ (sound (now row) ≡ true) × (every (isInside (now m)) (spansIn asked) ≡ true) ⌝ }
-    ensures { λ r. ⌜ (planned (sessionText (now (m .entry)) asked) (hostText (now (m .entry)) asked) (routeText (now (m .entry)) asked) r (readRow (now (row .entry)))
-        ≡ decide (asks (now (m .entry)) asked) wag (readRow (now (row .entry))))
-        × (fitting (asks (now (m .entry)) asked) ≡ true → fitPlan (routeText (now (m .entry)) asked) r (now (row .entry)) ≡ true) ⌝ }
+    ensures { λ r. ⌜ ((f : ℕ) → planned (brought f (now (m .entry)) (textsOf asked)) r (readRow (now (row .entry)))
+        ≡ decide f (asks (now (m .entry)) asked) wag (readRow (now (row .entry))))
+        × ((f : ℕ) → isForm f ≡ true → fitting f (asks (now (m .entry)) asked) ≡ true → fitPlan (policiesAt (now (m .entry)) (textsOf asked)) r (now (row .entry)) ≡ true) ⌝ }
 {
     match asked {
         Asked::Tunnel {
             session,
             host,
+            realm,
             label,
             visited,
         } => {
             return plans::plan_tunnel(row, text(m, session), text(m, label), visited);
         }
-        Asked::Policy { session, route } => {
+        Asked::Policy {
+            session,
+            first,
+            second,
+            third,
+        } => {
             return plans::plan_policy(row, text(m, session), wag);
         }
         Asked::Termination { session, label } => {
@@ -181,7 +195,7 @@ fn plan_for(row: &[u8], m: &[u8], asked: Asked, wag: bool) -> Plan
 
 // A refusal, which leaves the table as it is and has no notice.
 fn refused(kind: Kind, code: u32) -> Decided
-    ensures { λ r. ⌜ (r .code ≡ code) × ((o : ℕ) (m host realm room table notice : List ℕ) (wag : Bool) → answeredBy r m host realm room table notice
+    ensures { λ r. ⌜ (r .code ≡ code) × ((o : ℕ) (m host realm room : List ℕ) (table : Table) (notice : List ℕ) (wag : Bool) → answeredBy r m host realm room table notice
         ≡ refusal table (callOf o m host realm room notice wag) (codeFrom kind code)) ⌝ }
 {
     Decided {
@@ -193,9 +207,48 @@ fn refused(kind: Kind, code: u32) -> Decided
     }
 }
 
+// What was planned, carried out with the texts of the message.
+fn carry_out(
+    table: &mut [u8],
+    form: usize,
+    i: usize,
+    m: &[u8],
+    plan: Plan,
+    t: Texts,
+    notice: &mut [u8],
+) -> Done
+    requires { ⌜ (256 ≤ length (now notice)) × (form ≤ 2) × (rowLength form * i + rowLength form ≤ length (now table)) × (sound (rowAt (lent form (now table)) i) ≡ true)
+        × (fitPlan (policiesAt (now m) t) plan (rowAt (lent form (now table)) i) ≡ true) × (every (isInside (now m)) (spansOf t) ≡ true)
+        × (length (bytesOf (now m) (t .session)) ≤ 128) × (length (bytesOf (now m) (t .host)) ≤ 128) × (length (bytesOf (now m) (t .realm)) ≤ 128) ⌝ }
+    ensures { λ r. ⌜ (lent form (now (table .exit)) ≡ tableAfter (lent form (now (table .entry))) i (planned (brought form (now (m .entry)) t) plan (readRow (rowAt (lent form (now (table .entry))) i))))
+        × (now (notice .exit) ≡ noticeRoom ((planned (brought form (now (m .entry)) t) plan (readRow (rowAt (lent form (now (table .entry))) i))) .cut) (now (notice .entry)))
+        × (r ≡ doneFor (planned (brought form (now (m .entry)) t) plan (readRow (rowAt (lent form (now (table .entry))) i)))) ⌝ }
+{
+    let session = text(m, t.session);
+    let gateway = text(m, t.host);
+    let realm = text(m, t.realm);
+    let first = text(m, t.first);
+    let second = text(m, t.second);
+    let third = text(m, t.third);
+    effects::carry(
+        table,
+        form,
+        i,
+        plan,
+        session,
+        gateway,
+        realm,
+        first,
+        second,
+        third,
+        notice,
+    )
+}
+
 // A request on row i, which is sound: what is decided is carried out.
 fn settle(
     table: &mut [u8],
+    form: usize,
     i: usize,
     m: &[u8],
     wag: bool,
@@ -203,20 +256,15 @@ fn settle(
     asked: Asked,
     notice: &mut [u8],
 ) -> Decided
-    requires { ⌜ (256 ≤ length (now notice)) × (rowLength * i + rowLength ≤ length (now table)) × (sound (rowAt (now table) i) ≡ true)
+    requires { ⌜ (256 ≤ length (now notice)) × (isForm form ≡ true) × (form ≤ 2) × (rowLength form * i + rowLength form ≤ length (now table)) × (sound (rowAt (lent form (now table)) i) ≡ true)
         × (every (isInside (now m)) (spansIn asked) ≡ true) × (isInside (now m) user ≡ true)
-        × (read (now m) ≡ request (record { user = bytesOf (now m) user; ask = asks (now m) asked })) ⌝ }
-    ensures { λ r. ⌜ Named (now (m .entry)) r × ((o : ℕ) (host realm room : List ℕ) → answeredBy r (now (m .entry)) host realm room (now (table .exit)) (now (notice .exit))
-        ≡ settled (now (table .entry)) (callOf o (now (m .entry)) host realm room (now (notice .entry)) wag) i
-        (decide (asks (now (m .entry)) asked) wag (readRow (rowAt (now (table .entry)) i)))) ⌝ }
+        × (read (mostPolicies form) (now m) ≡ request (record { user = bytesOf (now m) user; ask = asks (now m) asked })) ⌝ }
+    ensures { λ r. ⌜ Named (now (m .entry)) r × ((o : ℕ) (host realm room : List ℕ) → answeredBy r (now (m .entry)) host realm room (lent form (now (table .exit))) (now (notice .exit))
+        ≡ settled (lent form (now (table .entry))) (callOf o (now (m .entry)) host realm room (now (notice .entry)) wag) i
+        (decide form (asks (now (m .entry)) asked) wag (readRow (rowAt (lent form (now (table .entry))) i)))) ⌝ }
 {
-    let a = table::ROW_LENGTH * i;
-    let e = a + table::ROW_LENGTH;
-    let plan = plan_for(&table[a..e], m, asked, wag);
-    let session = text(m, session_span(asked));
-    let gateway = text(m, host_span(asked));
-    let route = text(m, route_span(asked));
-    let done = effects::carry(table, i, plan, session, gateway, route, notice);
+    let plan = plan_for(row::at(table, form, i), m, asked, wag);
+    let done = carry_out(table, form, i, m, plan, texts_of(asked), notice);
     let kind = kind_of(plan);
     let code = code_of(plan);
     let place = done.place;
@@ -233,6 +281,7 @@ fn settle(
 // A request that was read: the user's row is found and tested, then the request is settled on it.
 fn on_request(
     table: &mut [u8],
+    form: usize,
     op: u32,
     m: &[u8],
     wag: bool,
@@ -240,52 +289,63 @@ fn on_request(
     asked: Asked,
     notice: &mut [u8],
 ) -> Decided
-    requires { ⌜ (256 ≤ length (now notice)) × (tableNumber (now table) ≡ 0)
+    requires { ⌜ (256 ≤ length (now notice)) × (tableNumber (lent form (now table)) ≡ 0)
         × (every (isInside (now m)) (spansIn asked) ≡ true) × (isInside (now m) user ≡ true)
-        × (read (now m) ≡ request (record { user = bytesOf (now m) user; ask = asks (now m) asked })) ⌝ }
-    ensures { λ r. ⌜ Named (now (m .entry)) r × ((host realm room : List ℕ) → answeredBy r (now (m .entry)) host realm room (now (table .exit)) (now (notice .exit))
-        ≡ onRow (now (table .entry)) (callOf op (now (m .entry)) host realm room (now (notice .entry)) wag)
-        (record { user = bytesOf (now (m .entry)) user; ask = asks (now (m .entry)) asked }) (lookup (now (table .entry)) (record { operator = op; name = bytesOf (now (m .entry)) user }))) ⌝ }
+        × (read (mostPolicies form) (now m) ≡ request (record { user = bytesOf (now m) user; ask = asks (now m) asked })) ⌝ }
+    ensures { λ r. ⌜ Named (now (m .entry)) r × ((host realm room : List ℕ) → answeredBy r (now (m .entry)) host realm room (lent form (now (table .exit))) (now (notice .exit))
+        ≡ onRow (lent form (now (table .entry))) (callOf op (now (m .entry)) host realm room (now (notice .entry)) wag)
+        (record { user = bytesOf (now (m .entry)) user; ask = asks (now (m .entry)) asked }) (lookup (lent form (now (table .entry))) (record { operator = op; name = bytesOf (now (m .entry)) user }))) ⌝ }
 {
-    let found = table::lookup(table, op, text(m, user));
+    let found = table::lookup(table, form, op, text(m, user));
     let RowFound::At(i) = found else {
         return refused(Kind::Experimental, 5001);
     };
-    let a = table::ROW_LENGTH * i;
-    let e = a + table::ROW_LENGTH;
-    if !soundness::row_sound(&table[a..e]) {
+    if !soundness::row_sound(row::at(table, form, i)) {
         return refused(Kind::Plain, 5012);
     }
-    settle(table, i, m, wag, user, asked, notice)
+    settle(table, form, i, m, wag, user, asked, notice)
 }
 
 // What is decided on a message as it was read: it was refused, or it is a request.
 fn on_reading(
     table: &mut [u8],
+    form: usize,
     op: u32,
     m: &[u8],
     wag: bool,
     told: Told,
     notice: &mut [u8],
 ) -> Decided
-    requires { ⌜ (256 ≤ length (now notice)) × (tableNumber (now table) ≡ 0)
-        × (says (now m) told ≡ read (now m)) × (every (isInside (now m)) (spans told) ≡ true) ⌝ }
-    ensures { λ r. ⌜ Named (now (m .entry)) r × ((host realm room : List ℕ) → answeredBy r (now (m .entry)) host realm room (now (table .exit)) (now (notice .exit))
-        ≡ onReading (now (table .entry)) (callOf op (now (m .entry)) host realm room (now (notice .entry)) wag) (read (now (m .entry)))) ⌝ }
+    requires { ⌜ (256 ≤ length (now notice)) × (tableNumber (lent form (now table)) ≡ 0)
+        × (says (now m) told ≡ read (mostPolicies form) (now m)) × (every (isInside (now m)) (spans told) ≡ true) ⌝ }
+    ensures { λ r. ⌜ Named (now (m .entry)) r × ((host realm room : List ℕ) → answeredBy r (now (m .entry)) host realm room (lent form (now (table .exit))) (now (notice .exit))
+        ≡ onReading (lent form (now (table .entry))) (callOf op (now (m .entry)) host realm room (now (notice .entry)) wag) (read (mostPolicies form) (now (m .entry)))) ⌝ }
 {
     match told {
         Told::Refused(code) => {
             return refused(Kind::Plain, code);
         }
         Told::Request(user, asked) => {
-            return on_request(table, op, m, wag, user, asked, notice);
+            return on_request(table, form, op, m, wag, user, asked, notice);
         }
     }
 }
 
-// One request of an operator: read, decided on and answered. Nothing is asked of what is lent; a bad table, name, room or message gets its number.
+// How many policies a request may bring.
+fn most_policies(form: usize) -> usize
+    ensures { λ r. ⌜ (r ≡ mostPolicies form) × (1 ≤ r) × (r ≤ 3) ⌝ }
+{
+    if form == 2 {
+        return 3;
+    }
+    1
+}
+
+// One request of an operator, on a table of the form said: read, decided on and answered. Nothing is asked of what is lent; a bad table, name, room or
+// message gets its number.
 pub fn handle(
     table: &mut [u8],
+    form: u32,
     op: u32,
     host: &[u8],
     realm: &[u8],
@@ -294,10 +354,10 @@ pub fn handle(
     answer: &mut [u8],
     notice: &mut [u8],
 ) -> Outcome
-    ensures { λ r. ⌜ leaves r (now (table .exit)) (now (answer .exit)) (now (notice .exit))
-        ≡ handle (now (table .entry)) (callOf op (now (message .entry)) (now (host .entry)) (now (realm .entry)) (now (answer .entry)) (now (notice .entry)) wag) ⌝ }
+    ensures { λ r. ⌜ leaves r (lent form (now (table .exit))) (now (answer .exit)) (now (notice .exit))
+        ≡ handle (lent form (now (table .entry))) (callOf op (now (message .entry)) (now (host .entry)) (now (realm .entry)) (now (answer .entry)) (now (notice .entry)) wag) ⌝ }
 {
-    let n = call_number(table, op, host, realm, message, answer, notice);
+    let n = call_number(table, form, op, host, realm, message, answer, notice);
     if n != 0 {
         return Outcome {
             code: n,
@@ -307,10 +367,11 @@ pub fn handle(
             cut: Cut::NoCut,
         };
     }
-    let heard = request::read(message);
+    let f = form as usize;
+    let heard = request::read(message, most_policies(f));
     let told = heard.told;
     let proxies = heard.proxies;
-    let decided = on_reading(table, op, message, wag, told, notice);
+    let decided = on_reading(table, f, op, message, wag, told, notice);
     let kind = decided.kind;
     let code = decided.code;
     let user = decided.user;

@@ -8,6 +8,16 @@ pub use handling::text;
 use message::Kind;
 use message::Span;
 
+// Where the texts stand that a request brings for its change; empty where it brings none.
+pub struct Texts {
+    pub session: Span,
+    pub host: Span,
+    pub realm: Span,
+    pub first: Span,
+    pub second: Span,
+    pub third: Span,
+}
+
 // What is decided on a message that gets an answer: the code and its kind, the user that a success names, the place of a new access, else 0,
 // and the cut.
 pub struct Decided {

@@ -12,13 +12,13 @@ use Rattle.octets.specs.Choice.{pick, within}
 use Rattle.octets.specs.Lists.{distinct, every, isOn, keep}
 use Rattle.octets.specs.Texts.{filled, part, put, zeros}
 use Rattle.table.specs.Soundness.{sound}
-use Rattle.table.specs.TheTable.{Access, accessBytes, block, held, orderLine, readAccess, readRow, sealed, sumsFrom}
+use Rattle.table.specs.TheTable.{Access, accessAt, accessBytes, firstBlock, firstBytes, formOf, held, orderLine, place, placeLength, readAccess, readRow, sealed, sumsFrom}
 use Rattle.changes.proofs.Steps.{keep-map}
 use Rattle.rules.specs.Calls.{noticeRoom}
 use Rattle.rules.specs.Deciding.{atPlace}
-use Rattle.octets.proofs.Lists.{and-left, and-right, by-test, eqb-comm, every-imp, on-cons, on-none, within-high}
+use Rattle.octets.proofs.Lists.{and-left, and-right, by-test, eqb-comm, every-imp, on-cons, on-none, within-high, within-low}
 use Rattle.octets.proofs.Texts.{length-filled}
-use Rattle.table.proofs.Bytes.{block-place}
+use Rattle.table.proofs.Bytes.{first-of, place-is}
 use Rattle.table.proofs.Form.{every-on, place-read}
 use Rattle.table.proofs.Sound.{clauses, row-is}
 
@@ -44,36 +44,46 @@ only (x ∷ l) k d o =
     (λ e. rw e (only l k (and-right (every (λ y. not (eqb x y)) l) _ d) (sym (on-cons x l k (eqb-comm k x ∙ e)) ∙ o)))
 
 -- the first two texts of an access
-both-texts : (a : Access) → part (accessBytes a) 8 256 ≡ filled (a .session) 128 ++ filled (a .host) 128
-unfolding accessBytes sealed
+both-texts : (a : Access) → part (firstBytes a) 8 256 ≡ filled (a .session) 128 ++ filled (a .host) 128
+unfolding firstBytes sealed
 both-texts a =
     let s : List ℕ = filled (a .session) 128 in
     let h : List ℕ = filled (a .host) 128 in
-    let p : List ℕ = filled (a .policy) 128 ++ zeros 118 in
-    let t : List ℕ = sumsFrom 0 0 (2 ∷ a .entry ∷ length (a .session) ∷ length (a .host) ∷ held (a .policy) ∷ length (a .policy) ∷ 0 ∷ 0 ∷ s ++ (h ++ p)) in
+    let p : List ℕ = filled (a .policies .first) 128 ++ zeros 118 in
+    let t : List ℕ =
+    sumsFrom 0 0 (2 ∷ a .entry ∷ length (a .session) ∷ length (a .host) ∷ held (a .policies .first) ∷ length (a .policies .first) ∷ 0 ∷ 0 ∷ s ++ (h ++ p)) in
     let e : (s ++ (h ++ p)) ++ t ≡ (s ++ h) ++ (p ++ t) = simp append-assoc in
     ap (take 256) e ∙ take-at (s ++ h) (p ++ t) 256 (length-append s h ∙ omega (arith, length-filled (a .session) 128, length-filled (a .host) 128))
 
 module _ (r : List ℕ) (h : sound r ≡ true) (k : ℕ) (o : isOn (orderLine r) k ≡ true) where
-  pub place-is : within 1 8 k ≡ true
-  place-is = every-on (within 1 8) (orderLine r) k ((clauses r h) .line-in) o
+  placed : within 1 8 k ≡ true
+  placed = every-on (within 1 8) (orderLine r) k ((clauses r h) .line-in) o
 
-  pub at-place-is : atPlace k ((readRow r) .accesses) ≡ readAccess k (block r k) ∷ []
-  unfolding atPlace readRow readAccess
+  pub at-least : 1 ≤ k
+  at-least = within-low 1 8 k placed
+
+  pub at-most : k ≤ 8
+  at-most = within-high 1 8 k placed
+
+  pub at-place-is : atPlace k ((readRow r) .accesses) ≡ accessAt r k ∷ []
+  unfolding atPlace readRow accessAt readAccess
   at-place-is =
-      keep-map (λ (j : ℕ). readAccess j (block r j)) (λ (x : Access). eqb (x .place) k) (orderLine r)
-      ∙ ap (map (λ (j : ℕ). readAccess j (block r j))) (only (orderLine r) k ((clauses r h) .line-once) o)
+      keep-map (accessAt r) (λ (x : Access). eqb (x .place) k) (orderLine r)
+      ∙ ap (map (accessAt r)) (only (orderLine r) k ((clauses r h) .line-once) o)
 
-  block-is : block r k ≡ accessBytes (readAccess k (block r k))
+  bytes-are : place r k ≡ accessBytes (formOf r) (accessAt r k)
   unfolding readRow pick
-  block-is =
-      ap (λ (x : List ℕ). block x k) (row-is r h) ∙ block-place (readRow r) k place-is
-      ∙ place-read r (orderLine r) k
-      ∙ ap (λ (b : Bool). pick b (accessBytes (readAccess k (block r k))) (zeros 512)) o
+  bytes-are =
+      ap (λ (x : List ℕ). place x k) (row-is r h) ∙ place-is (formOf r) (readRow r) k placed
+      ∙ place-read (formOf r) r (orderLine r) k
+      ∙ ap (λ (b : Bool). pick b (accessBytes (formOf r) (accessAt r k)) (zeros (placeLength (formOf r)))) o
 
   -- its two texts, side by side
-  pub texts-are : part (block r k) 8 256 ≡ filled ((readAccess k (block r k)) .session) 128 ++ filled ((readAccess k (block r k)) .host) 128
-  texts-are = ap (λ (b : List ℕ). part b 8 256) block-is ∙ both-texts (readAccess k (block r k))
+  pub texts-are : part (firstBlock (place r k)) 8 256 ≡ filled ((accessAt r k) .session) 128 ++ filled ((accessAt r k) .host) 128
+  texts-are =
+      ap (λ (p : List ℕ). part (firstBlock p) 8 256) bytes-are
+      ∙ ap (λ (b : List ℕ). part b 8 256) (first-of (formOf r) (accessAt r k) ((clauses r h) .row .form))
+      ∙ both-texts (accessAt r k)
 
 -- THE NOTICE
 
@@ -82,6 +92,3 @@ unfolding put noticeRoom
 notice-is a room =
     let l : length (filled (a .session) 128 ++ filled (a .host) 128) ≡ 256 = length-append (filled (a .session) 128) (filled (a .host) 128) ∙ omega (arith, length-filled (a .session) 128, length-filled (a .host) 128) in
     rw l (simp append-assoc)
-
-pub at-most : (r : List ℕ) (k : ℕ) → sound r ≡ true → isOn (orderLine r) k ≡ true → k ≤ 8
-at-most r k h o = within-high 1 8 k (place-is r h k o)

@@ -1,7 +1,10 @@
 -- What carrying out a plan gives back, by the verdict that the plan stands for.
 use mathlib.Core.List.{List, [], _∷_}
+use Prim.Native.Nat.{ℕ}
 use lib.ListN.{length}
 use Rattle.table.specs.TheTable.{Access}
+use Rattle.changes.specs.Changes.{keptIn}
+use Rattle.plans.specs.Plans.{Brought}
 use Rattle.rules.specs.Deciding.{Verdict}
 use Rattle.effects.specs.declared.Cut.{Cut}
 use Rattle.effects.specs.declared.Cut.the-variants.{NoCut, Lengths}
@@ -15,3 +18,11 @@ cutFor (a ∷ others) = Lengths (length (a .session)) (length (a .host))
 -- What carrying out a plan gives back: the place of a new access, else 0, and the cut.
 unfoldable pub doneFor : Verdict → Done
 doneFor v = record { place = v .place; cut = cutFor (v .cut) }
+
+-- The texts that a request brings, as a table of the form stores them.
+abbrev pub broughtIn : (form : ℕ) → (session host realm first second third : List ℕ) → Brought
+broughtIn f session host realm first second third =
+    record {
+      opening = record { session = session; host = host; realm = keptIn f realm };
+      policies = record { first = first; second = second; third = third };
+    }

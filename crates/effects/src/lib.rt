@@ -5,13 +5,14 @@ ghost use mathlib.Core.Bool.{true};
 ghost use Prim.Native.Nat.{ℕ, _+_, _*_, _≤_};
 ghost use lib.ListN.{length};
 ghost use Rattle.octets.specs.Lists.{isOn};
+ghost use Rattle.table.specs.Answers.{lent};
 ghost use Rattle.table.specs.TheTable.{orderLine, readRow, rowAt, rowBytes, rowLength, withRow};
 ghost use Rattle.table.specs.Soundness.{sound};
-ghost use Rattle.changes.specs.Changes.{freed, lowestFree, opened};
+ghost use Rattle.changes.specs.Changes.{freed, keptIn, lowestFree, opened};
 ghost use Rattle.rules.specs.Deciding.{atPlace};
 ghost use Rattle.rules.specs.Calls.{noticeRoom, tableAfter};
 ghost use Rattle.plans.specs.Plans.{planned, fitPlan};
-ghost use Rattle.effects.specs.Carrying.{cutFor, doneFor};
+ghost use Rattle.effects.specs.Carrying.{broughtIn, cutFor, doneFor};
 
 // Whether a cut was made, with the lengths of the cut access's Session-Id and gateway host.
 pub enum Cut {
@@ -27,13 +28,13 @@ pub struct Done {
 
 // The notice of the access at place k. In a sound row the two texts stand side by side in rooms of 128 bytes, filled up with zeros,
 // as they do in the notice.
-fn write_notice(notice: &mut [u8], table: &[u8], i: usize, k: usize) -> Cut
-    requires { ⌜ (256 ≤ length (now notice)) × (rowLength * i + rowLength ≤ length (now table)) × (sound (rowAt (now table) i) ≡ true)
-        × (isOn (orderLine (rowAt (now table) i)) k ≡ true) ⌝ }
-    ensures { λ r. ⌜ (now (notice .exit) ≡ noticeRoom (atPlace k ((readRow (rowAt (now (table .entry)) i)) .accesses)) (now (notice .entry)))
-        × (r ≡ cutFor (atPlace k ((readRow (rowAt (now (table .entry)) i)) .accesses))) ⌝ }
+fn write_notice(notice: &mut [u8], table: &[u8], form: usize, i: usize, k: usize) -> Cut
+    requires { ⌜ (256 ≤ length (now notice)) × (form ≤ 2) × (rowLength form * i + rowLength form ≤ length (now table)) × (sound (rowAt (lent form (now table)) i) ≡ true)
+        × (isOn (orderLine (rowAt (lent form (now table)) i)) k ≡ true) ⌝ }
+    ensures { λ r. ⌜ (now (notice .exit) ≡ noticeRoom (atPlace k ((readRow (rowAt (lent form (now (table .entry))) i)) .accesses)) (now (notice .entry)))
+        × (r ≡ cutFor (atPlace k ((readRow (rowAt (lent form (now (table .entry))) i)) .accesses))) ⌝ }
 {
-    let row = row::at(table, i);
+    let row = row::at(table, form, i);
     octets::put_bytes(notice, 0, row::notice_rooms(row, k));
     let session = row::session(row, k);
     let host = row::host(row, k);
@@ -43,21 +44,24 @@ fn write_notice(notice: &mut [u8], table: &[u8], i: usize, k: usize) -> Cut
 // An opening on entry n: first the cut, where a place is named, then the new access.
 fn open_with_cut(
     table: &mut [u8],
+    form: usize,
     i: usize,
     n: usize,
     k: usize,
     session: &[u8],
     host: &[u8],
+    realm: &[u8],
     notice: &mut [u8],
 ) -> Done
-    requires { ⌜ (256 ≤ length (now notice)) × (rowLength * i + rowLength ≤ length (now table)) × (sound (rowAt (now table) i) ≡ true)
-        × (isOn (orderLine (rowAt (now table) i)) k ≡ true) × (n ≤ 4) × (length (now session) ≤ 128) × (length (now host) ≤ 128) ⌝ }
-    ensures { λ r. ⌜ (now (table .exit) ≡ withRow (now (table .entry)) i (rowBytes (opened n (now (session .entry)) (now (host .entry)) (freed k (readRow (rowAt (now (table .entry)) i))))))
-        × (now (notice .exit) ≡ noticeRoom (atPlace k ((readRow (rowAt (now (table .entry)) i)) .accesses)) (now (notice .entry)))
-        × (r ≡ record { place = lowestFree ((freed k (readRow (rowAt (now (table .entry)) i))) .accesses); cut = cutFor (atPlace k ((readRow (rowAt (now (table .entry)) i)) .accesses)) }) ⌝ }
+    requires { ⌜ (256 ≤ length (now notice)) × (form ≤ 2) × (rowLength form * i + rowLength form ≤ length (now table)) × (sound (rowAt (lent form (now table)) i) ≡ true)
+        × (isOn (orderLine (rowAt (lent form (now table)) i)) k ≡ true) × (n ≤ 4) × (length (now session) ≤ 128) × (length (now host) ≤ 128) × (length (now realm) ≤ 128) ⌝ }
+    ensures { λ r. ⌜ (lent form (now (table .exit))
+        ≡ withRow (lent form (now (table .entry))) i (rowBytes form (opened n (record { session = now (session .entry); host = now (host .entry); realm = keptIn form (now (realm .entry)) }) (freed k (readRow (rowAt (lent form (now (table .entry))) i))))))
+        × (now (notice .exit) ≡ noticeRoom (atPlace k ((readRow (rowAt (lent form (now (table .entry))) i)) .accesses)) (now (notice .entry)))
+        × (r ≡ record { place = lowestFree ((freed k (readRow (rowAt (lent form (now (table .entry))) i))) .accesses); cut = cutFor (atPlace k ((readRow (rowAt (lent form (now (table .entry))) i)) .accesses)) }) ⌝ }
 {
-    let cut = write_notice(notice, table, i, k);
-    let place = changes::cut_and_open(table, i, k, n as u8, session, host);
+    let cut = write_notice(notice, table, form, i, k);
+    let place = changes::cut_and_open(table, form, i, k, n as u8, session, host, realm);
     Done {
         place: place,
         cut: cut,
@@ -77,36 +81,42 @@ fn nothing() -> Done
 // A plan carried out for a request that brings these texts. A refusal changes nothing.
 pub fn carry(
     table: &mut [u8],
+    form: usize,
     i: usize,
     plan: Plan,
     session: &[u8],
     host: &[u8],
-    route: &[u8],
+    realm: &[u8],
+    first: &[u8],
+    second: &[u8],
+    third: &[u8],
     notice: &mut [u8],
 ) -> Done
-    requires { ⌜ (256 ≤ length (now notice)) × (rowLength * i + rowLength ≤ length (now table)) × (sound (rowAt (now table) i) ≡ true)
-        × (fitPlan (now route) plan (rowAt (now table) i) ≡ true) × (length (now session) ≤ 128) × (length (now host) ≤ 128) ⌝ }
-    ensures { λ r. ⌜ (now (table .exit) ≡ tableAfter (now (table .entry)) i (planned (now (session .entry)) (now (host .entry)) (now (route .entry)) plan (readRow (rowAt (now (table .entry)) i))))
-        × (now (notice .exit) ≡ noticeRoom ((planned (now (session .entry)) (now (host .entry)) (now (route .entry)) plan (readRow (rowAt (now (table .entry)) i))) .cut) (now (notice .entry)))
-        × (r ≡ doneFor (planned (now (session .entry)) (now (host .entry)) (now (route .entry)) plan (readRow (rowAt (now (table .entry)) i)))) ⌝ }
+    requires { ⌜ (256 ≤ length (now notice)) × (form ≤ 2) × (rowLength form * i + rowLength form ≤ length (now table)) × (sound (rowAt (lent form (now table)) i) ≡ true)
+        × (fitPlan (record { first = now first; second = now second; third = now third }) plan (rowAt (lent form (now table)) i) ≡ true)
+        × (length (now session) ≤ 128) × (length (now host) ≤ 128) × (length (now realm) ≤ 128) ⌝ }
+    ensures { λ r. ⌜ (lent form (now (table .exit))
+        ≡ tableAfter (lent form (now (table .entry))) i (planned (broughtIn form (now (session .entry)) (now (host .entry)) (now (realm .entry)) (now (first .entry)) (now (second .entry)) (now (third .entry))) plan (readRow (rowAt (lent form (now (table .entry))) i))))
+        × (now (notice .exit) ≡ noticeRoom ((planned (broughtIn form (now (session .entry)) (now (host .entry)) (now (realm .entry)) (now (first .entry)) (now (second .entry)) (now (third .entry))) plan (readRow (rowAt (lent form (now (table .entry))) i))) .cut) (now (notice .entry)))
+        × (r ≡ doneFor (planned (broughtIn form (now (session .entry)) (now (host .entry)) (now (realm .entry)) (now (first .entry)) (now (second .entry)) (now (third .entry))) plan (readRow (rowAt (lent form (now (table .entry))) i)))) ⌝ }
 {
     match plan {
         Plan::Open(n, k) => {
             if k == 0 {
-                let place = changes::open(table, i, n as u8, session, host);
+                let place = changes::open(table, form, i, n as u8, session, host, realm);
                 return Done {
                     place: place,
                     cut: Cut::NoCut,
                 };
             }
-            return open_with_cut(table, i, n, k, session, host, notice);
+            return open_with_cut(table, form, i, n, k, session, host, realm, notice);
         }
         Plan::Route(k) => {
-            changes::route(table, i, k, route);
+            changes::route(table, form, i, k, first, second, third);
             return nothing();
         }
         Plan::Free(k) => {
-            changes::free(table, i, k);
+            changes::free(table, form, i, k);
             return nothing();
         }
         Plan::NotSubscribed => {

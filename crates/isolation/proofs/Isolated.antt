@@ -9,61 +9,101 @@ use lib.Dec.{eqb, leb}
 use lib.ListN.{length}
 use Rattle.octets.specs.Choice.{firstOf, pick, require, within}
 use Rattle.octets.specs.Lists.{every, keep, sumOf}
-use Rattle.octets.specs.Texts.{zeros}
+use Rattle.octets.specs.Texts.{allZero, zeros}
+use Rattle.octets.proofs.Choice.{by-pick}
 use Rattle.octets.proofs.Lists.{and-left, and-right, both, by-test}
 use Rattle.octets.proofs.Texts.{length-zeros}
-use Rattle.table.specs.TheTable.{Account, firstNumber, isOwn, ownRows, rowLength, rows, tableNumber}
-use Rattle.table.proofs.Rows.{first-table, rows-count, whole-rows}
-use Rattle.setup.specs.SetUp.{SetUp, add, enter, leaving, left, share}
+use Rattle.table.specs.Answers.{lent}
+use Rattle.table.specs.TheTable.{Account, Entry, Found, Table, firstNumber, firstRow, isForm, isOwn, lookup, nothing, ownRows, row, rowBytes, rowLength, rows, tableNumber}
+use Rattle.table.proofs.Rows.{first-table, form-in, form-with, rows-count, whole-rows}
+use Rattle.table.proofs.Widths.{split}
+use Rattle.changes.specs.Changes.{named}
+use Rattle.setup.specs.SetUp.{SetUp, add, addAt, enter, leaving, left, share, withRowAt}
 use Rattle.setup.specs.Parts.{shareNumber}
 use Rattle.setup.proofs.SetUps.{enter-early, add-first, share-first, share-passed}
-use Rattle.rules.specs.Calls.{Call, Left, callNumber, handle, silent}
+use Rattle.rules.specs.Calls.{Call, Left, callNumber, handle, ranFirst, run, silent}
 use Rattle.decision.proofs.Numbers.{unanswered}
 use Rattle.order.proofs.Handling.{number-bad}
-use Rattle.isolation.specs.Isolation.{Alike, Done, Isolated, NeverEleven, Operation, Past, SameFor, WithinShare, Word, adding, answer, answered, asking, done, doneFirst, entering, isBy, number, operationsOf, operatorOf, past, setUp, toldTo}
+use Rattle.order.proofs.Lists as L
+use Rattle.isolation.specs.Isolation.{Alike, Done, FormStays, Isolated, NeverEleven, Operation, Past, SameFor, WithinShare, Word, adding, answer, answered, asking, done, doneFirst, entering, isBy, number, operationsOf, operatorOf, past, setUp, toldTo, zeroTable}
 use Rattle.isolation.proofs.Reached.{Reached, blank-keep, cleared, own-of, zero-rows}
 use Rattle.isolation.proofs.Steps.{Stepped, enter-is, rowsFor, step, wordFor}
 
+-- THE FORM STAYS
+
+pub as-lent : (fm : ℕ) (u : Table) → u .form ≡ fm → u ≡ lent fm (u .bytes)
+as-lent fm u e = λ i. record { form = e i; bytes = u .bytes }
+
+leaving-form : (n : ℕ) (t after : Table) → after .form ≡ t .form → (leaving n t after) .table .form ≡ t .form
+unfolding leaving
+leaving-form n t after e = by-pick (λ (u : Table). u .form ≡ t .form) (eqb n 0) (λ z. e) (λ z. refl)
+
+row-at-form : (F : Found) (t : Table) (r : List ℕ) → (withRowAt F t r) .form ≡ t .form
+unfolding withRowAt
+row-at-form nothing t r = refl
+row-at-form (row i) t r = form-with t i r
+
+add-at-form : (F : Found) (t : Table) (e : Entry) → (addAt F t e) .table .form ≡ t .form
+unfolding addAt
+add-at-form nothing t e = leaving-form 12 t t refl
+add-at-form (row i) t e = leaving-form _ t _ (form-with t i _)
+
+done-form : (shares : List ℕ) (t : Table) (x : Operation) → (done shares t x) .table .form ≡ t .form
+unfolding done setUp answered enter add run ranFirst
+done-form shares t (entering a) = leaving-form _ t _ (row-at-form (firstRow allZero (rows t)) t (rowBytes (t .form) (named a)))
+done-form shares t (adding a e) =
+    by-pick (λ (s : SetUp). s .table .form ≡ t .form) (eqb (firstNumber t (a .operator)) 0)
+    (λ z. add-at-form (lookup t a) t e)
+    (λ z. leaving-form _ t t refl)
+done-form shares t (asking c) = L.form-stays t (c ∷ [])
+
+pub form-stays : FormStays
+unfolding past doneFirst
+form-stays shares t [] = refl
+form-stays shares t (x ∷ xs) = form-stays shares ((done shares t x) .table) xs ∙ done-form shares t x
+
 -- THE MODEL OF A HISTORY
 
-module _ (n count total mine : ℕ) where
+module _ (fm n count total mine : ℕ) where
   unfoldable pub wordsFor : List Operation → List (List ℕ) → List Word
   wordsFor [] own = []
-  wordsFor (x ∷ xs) own = wordFor n count total mine x own ∷ wordsFor xs (rowsFor n count total mine x own)
+  wordsFor (x ∷ xs) own = wordFor fm n count total mine x own ∷ wordsFor xs (rowsFor fm n count total mine x own)
 
   unfoldable pub rowsAfter : List Operation → List (List ℕ) → List (List ℕ)
   rowsAfter [] own = own
-  rowsAfter (x ∷ xs) own = rowsAfter xs (rowsFor n count total mine x own)
+  rowsAfter (x ∷ xs) own = rowsAfter xs (rowsFor fm n count total mine x own)
 
 -- A TABLE OF 1 TO 1,024 ROWS
 
-module _ (n : ℕ) (some : within 1 1024 n ≡ true) (o : ℕ) (shares : List ℕ) where
-  pub record Modelled (xs : List Operation) (own : List (List ℕ)) (t : List ℕ) : Type 0 where
-    pub reached : Reached n shares ((past shares t xs) .table)
-    pub told : toldTo o xs ((past shares t xs) .words) ≡ wordsFor n (length shares) (sumOf shares) (share o shares) (operationsOf o xs) own
-    pub rows : keep (isOwn o) (reached .used) ≡ rowsAfter n (length shares) (sumOf shares) (share o shares) (operationsOf o xs) own
+module _ (fm n : ℕ) (some : isForm fm && within 1 1024 n ≡ true) (o : ℕ) (shares : List ℕ) where
+  pub record Modelled (xs : List Operation) (own : List (List ℕ)) (t : Table) : Type 0 where
+    pub reached : Reached fm n shares ((past shares t xs) .table .bytes)
+    pub told : toldTo o xs ((past shares t xs) .words) ≡ wordsFor fm n (length shares) (sumOf shares) (share o shares) (operationsOf o xs) own
+    pub rows : keep (isOwn o) (reached .used) ≡ rowsAfter fm n (length shares) (sumOf shares) (share o shares) (operationsOf o xs) own
 
-  pub modelled : (xs : List Operation) (t : List ℕ) (R : Reached n shares t) (own : List (List ℕ)) → keep (isOwn o) (R .used) ≡ own → Modelled xs own t
+  pub modelled : (xs : List Operation) (t : List ℕ) (R : Reached fm n shares t) (own : List (List ℕ)) → keep (isOwn o) (R .used) ≡ own → Modelled xs own (lent fm t)
   unfolding past doneFirst toldTo operationsOf keep isBy wordsFor rowsAfter pick
   modelled [] t R own e = record { reached = R; told = refl; rows = e }
   modelled (x ∷ xs) t R own e =
-      let s : Stepped n shares t R x = step n some shares t R x in
+      let s : Stepped fm n shares t R x = step fm n some shares t R x in
+      let u : Table = (done shares (lent fm t) x) .table in
+      let is : lent fm (u .bytes) ≡ u = sym (as-lent fm u (done-form shares (lent fm t) x)) in
       by-test (eqb (operatorOf x) o)
       (λ b.
       let p : operatorOf x ≡ o = eqb-true (operatorOf x) o b in
       let q : keep (isOwn (operatorOf x)) (R .used) ≡ own = ap (λ (i : ℕ). keep (isOwn i) (R .used)) p ∙ e in
-      let w : (done shares t x) .told ≡ wordFor n (length shares) (sumOf shares) (share o shares) x own =
-      s .word ∙ (λ j. wordFor n (length shares) (sumOf shares) (share (p j) shares) x (q j)) in
-      let next : keep (isOwn o) (s .next .used) ≡ rowsFor n (length shares) (sumOf shares) (share o shares) x own =
-      ap (λ (i : ℕ). keep (isOwn i) (s .next .used)) (sym p) ∙ s .own ∙ (λ j. rowsFor n (length shares) (sumOf shares) (share (p j) shares) x (q j)) in
-      let m : Modelled xs (rowsFor n (length shares) (sumOf shares) (share o shares) x own) ((done shares t x) .table) = modelled xs ((done shares t x) .table) (s .next) _ next in
+      let w : (done shares (lent fm t) x) .told ≡ wordFor fm n (length shares) (sumOf shares) (share o shares) x own =
+      s .word ∙ (λ j. wordFor fm n (length shares) (sumOf shares) (share (p j) shares) x (q j)) in
+      let next : keep (isOwn o) (s .next .used) ≡ rowsFor fm n (length shares) (sumOf shares) (share o shares) x own =
+      ap (λ (i : ℕ). keep (isOwn i) (s .next .used)) (sym p) ∙ s .own ∙ (λ j. rowsFor fm n (length shares) (sumOf shares) (share (p j) shares) x (q j)) in
+      let m : Modelled xs (rowsFor fm n (length shares) (sumOf shares) (share o shares) x own) u = subst (λ (v : Table). Modelled xs (rowsFor fm n (length shares) (sumOf shares) (share o shares) x own) v) is (modelled xs (u .bytes) (s .next) _ next) in
       record {
         reached = m .reached;
         told = rw b (λ j. w j ∷ m .told j);
         rows = m .rows ∙ sym (rw b);
       })
       (λ b.
-      let m : Modelled xs own ((done shares t x) .table) = modelled xs ((done shares t x) .table) (s .next) own (s .others o b ∙ e) in
+      let m : Modelled xs own u = subst (λ (v : Table). Modelled xs own v) is (modelled xs (u .bytes) (s .next) own (s .others o b ∙ e)) in
       record {
         reached = m .reached;
         told = rw b (m .told);
@@ -72,12 +112,12 @@ module _ (n : ℕ) (some : within 1 1024 n ≡ true) (o : ℕ) (shares : List �
 
 -- ANY OTHER TABLE: every operation is told number 1 (or what comes before all else), and nothing changes.
 
-unfoldable wordOnBad : List ℕ → Operation → Word
+unfoldable wordOnBad : Table → Operation → Word
 wordOnBad t (entering a) = number (firstNumber t (a .operator))
 wordOnBad t (adding a e) = number (firstNumber t (a .operator))
 wordOnBad t (asking c) = answer ((silent t c (callNumber t c)) .reply)
 
-module _ (t : List ℕ) (bad : tableNumber t ≡ 0 → ⊥) where
+module _ (t : Table) (bad : tableNumber t ≡ 0 → ⊥) where
   first-bad : (i : ℕ) → firstNumber t i ≡ 0 → ⊥
   first-bad i z = bad (first-table t i z)
 
@@ -114,64 +154,75 @@ module _ (t : List ℕ) (bad : tableNumber t ≡ 0 → ⊥) where
 
 -- TABLES OF ZEROS
 
--- a good one is 1 to 1,024 rows
-module _ (size : ℕ) (good : tableNumber (zeros size) ≡ 0) where
-  whole : size ≡ rowLength * (size / rowLength)
-  whole = sym (length-zeros size) ∙ whole-rows (zeros size) good ∙ ap (λ (k : ℕ). rowLength * (k / rowLength)) (length-zeros size)
+-- a good one is 1 to 1,024 rows of its form
+module _ (fm size : ℕ) (good : tableNumber (zeroTable fm size) ≡ 0) where
+  whole : size ≡ rowLength fm * (size / rowLength fm)
+  whole = sym (length-zeros size) ∙ whole-rows (zeroTable fm size) good ∙ ap (λ (k : ℕ). rowLength fm * (k / rowLength fm)) (length-zeros size)
 
-  some : within 1 1024 (size / rowLength) ≡ true
-  some = ap (λ (k : ℕ). within 1 1024 (k / rowLength)) (sym (length-zeros size)) ∙ rows-count (zeros size) good
+  some : isForm fm && within 1 1024 (size / rowLength fm) ≡ true
+  some =
+      both (form-in (zeroTable fm size) good)
+      (ap (λ (k : ℕ). within 1 1024 (k / rowLength fm)) (sym (length-zeros size)) ∙ rows-count (zeroTable fm size) good)
 
-  start : (shares : List ℕ) → Reached (size / rowLength) shares (zeros size)
-  start shares = subst (λ (k : ℕ). Reached (size / rowLength) shares (zeros k)) (sym whole) (cleared (size / rowLength) shares)
+  start : (shares : List ℕ) → Reached fm (size / rowLength fm) shares (zeros size)
+  start shares = subst (λ (k : ℕ). Reached fm (size / rowLength fm) shares (zeros k)) (sym whole) (cleared fm (size / rowLength fm) shares)
 
-own-zeros : (o size : ℕ) → ownRows o (zeros size) ≡ []
+own-zeros : (fm o size : ℕ) → ownRows o (zeroTable fm size) ≡ []
 unfolding ownRows rows
-own-zeros o size =
-    rw (length-zeros size, zero-rows (size / rowLength) size (omega arith)) (blank-keep o (size / rowLength))
+own-zeros fm o size =
+    rw (length-zeros size, zero-rows fm (size / rowLength fm) size (omega (arith, split (rowLength fm) size))) (blank-keep fm o (size / rowLength fm))
 
 -- ISOLATION
 
-module _ (size o : ℕ) (good : tableNumber (zeros size) ≡ 0) (shares : List ℕ) where
-  start-own : keep (isOwn o) ((start size good shares) .used) ≡ []
-  start-own = sym (own-of (size / rowLength) (some size good) shares (zeros size) (start size good shares) o) ∙ own-zeros o size
+module _ (fm size o : ℕ) (good : tableNumber (zeroTable fm size) ≡ 0) (shares : List ℕ) where
+  start-own : keep (isOwn o) ((start fm size good shares) .used) ≡ []
+  start-own = sym (own-of fm (size / rowLength fm) (some fm size good) shares (zeros size) (start fm size good shares) o) ∙ own-zeros fm o size
 
-  model : (xs : List Operation) → Modelled (size / rowLength) (some size good) o shares xs [] (zeros size)
-  model xs = modelled (size / rowLength) (some size good) o shares xs (zeros size) (start size good shares) [] start-own
+  model : (xs : List Operation) → Modelled fm (size / rowLength fm) (some fm size good) o shares xs [] (zeroTable fm size)
+  model xs = modelled fm (size / rowLength fm) (some fm size good) o shares xs (zeros size) (start fm size good shares) [] start-own
 
-  end-rows : (xs : List Operation) → ownRows o ((past shares (zeros size) xs) .table) ≡ keep (isOwn o) ((model xs) .reached .used)
-  end-rows xs = own-of (size / rowLength) (some size good) shares ((past shares (zeros size) xs) .table) ((model xs) .reached) o
+  end-is : (xs : List Operation) → (past shares (zeroTable fm size) xs) .table ≡ lent fm ((past shares (zeroTable fm size) xs) .table .bytes)
+  end-is xs = as-lent fm ((past shares (zeroTable fm size) xs) .table) (form-stays shares (zeroTable fm size) xs)
+
+  end-rows : (xs : List Operation) → ownRows o ((past shares (zeroTable fm size) xs) .table) ≡ keep (isOwn o) ((model xs) .reached .used)
+  end-rows xs =
+      ap (ownRows o) (end-is xs)
+      ∙ own-of fm (size / rowLength fm) (some fm size good) shares ((past shares (zeroTable fm size) xs) .table .bytes) ((model xs) .reached) o
 
 pub isolated : Isolated
-isolated size o shares others xs ys a e =
-    by-test (eqb (tableNumber (zeros size)) 0)
-    (λ g. let good : tableNumber (zeros size) ≡ 0 = eqb-true (tableNumber (zeros size)) 0 g in
-    let n : ℕ = size / rowLength in
+isolated fm size o shares others xs ys a e =
+    let same-form : (past shares (zeroTable fm size) xs) .table .form ≡ (past others (zeroTable fm size) ys) .table .form =
+    form-stays shares (zeroTable fm size) xs ∙ sym (form-stays others (zeroTable fm size) ys) in
+    by-test (eqb (tableNumber (zeroTable fm size)) 0)
+    (λ g. let good : tableNumber (zeroTable fm size) ≡ 0 = eqb-true (tableNumber (zeroTable fm size)) 0 g in
+    let n : ℕ = size / rowLength fm in
     record {
       told =
-          (model size o good shares xs) .told
-          ∙ (λ i. wordsFor n (a .count i) (a .sum i) (a .own i) (e i) [])
-          ∙ sym ((model size o good others ys) .told);
+          (model fm size o good shares xs) .told
+          ∙ (λ i. wordsFor fm n (a .count i) (a .sum i) (a .own i) (e i) [])
+          ∙ sym ((model fm size o good others ys) .told);
       rows =
-          end-rows size o good shares xs ∙ (model size o good shares xs) .rows
-          ∙ (λ i. rowsAfter n (a .count i) (a .sum i) (a .own i) (e i) [])
-          ∙ sym (end-rows size o good others ys ∙ (model size o good others ys) .rows);
+          end-rows fm size o good shares xs ∙ (model fm size o good shares xs) .rows
+          ∙ (λ i. rowsAfter fm n (a .count i) (a .sum i) (a .own i) (e i) [])
+          ∙ sym (end-rows fm size o good others ys ∙ (model fm size o good others ys) .rows);
+      form = same-form;
     })
-    (λ g. let bad : tableNumber (zeros size) ≡ 0 → ⊥ = eqb-false (tableNumber (zeros size)) 0 g in
+    (λ g. let bad : tableNumber (zeroTable fm size) ≡ 0 → ⊥ = eqb-false (tableNumber (zeroTable fm size)) 0 g in
     record {
-      told = bad-words (zeros size) bad o shares xs ∙ ap (map (wordOnBad (zeros size))) e ∙ sym (bad-words (zeros size) bad o others ys);
-      rows = ap (ownRows o) (bad-table (zeros size) bad shares xs ∙ sym (bad-table (zeros size) bad others ys));
+      told = bad-words (zeroTable fm size) bad o shares xs ∙ ap (map (wordOnBad (zeroTable fm size))) e ∙ sym (bad-words (zeroTable fm size) bad o others ys);
+      rows = ap (ownRows o) (bad-table (zeroTable fm size) bad shares xs ∙ sym (bad-table (zeroTable fm size) bad others ys));
+      form = same-form;
     })
 
 -- WHAT FOLLOWS
 
 pub within-share : WithinShare
-within-share size o shares xs =
-    by-test (eqb (tableNumber (zeros size)) 0)
-    (λ g. let good : tableNumber (zeros size) ≡ 0 = eqb-true (tableNumber (zeros size)) 0 g in
-    omega (arith, ap length (end-rows size o good shares xs), (model size o good shares xs) .reached .in-share o))
-    (λ g. let bad : tableNumber (zeros size) ≡ 0 → ⊥ = eqb-false (tableNumber (zeros size)) 0 g in
-    omega (arith, ap length (ap (ownRows o) (bad-table (zeros size) bad shares xs) ∙ own-zeros o size)))
+within-share fm size o shares xs =
+    by-test (eqb (tableNumber (zeroTable fm size)) 0)
+    (λ g. let good : tableNumber (zeroTable fm size) ≡ 0 = eqb-true (tableNumber (zeroTable fm size)) 0 g in
+    omega (arith, ap length (end-rows fm size o good shares xs), (model fm size o good shares xs) .reached .in-share o))
+    (λ g. let bad : tableNumber (zeroTable fm size) ≡ 0 → ⊥ = eqb-false (tableNumber (zeroTable fm size)) 0 g in
+    omega (arith, ap length (ap (ownRows o) (bad-table (zeroTable fm size) bad shares xs) ∙ own-zeros fm o size)))
 
 -- no number before 11 is 11
 first-other : (cs : List ℕ) → every (λ c. not (eqb c 11)) cs ≡ true → eqb (firstOf cs) 11 ≡ false
@@ -187,27 +238,30 @@ unfolding require
 required true c h = refl
 required false c h = h
 
-first-not : (t : List ℕ) (o : ℕ) → not (eqb (firstNumber t o) 11) ≡ true
+first-not : (t : Table) (o : ℕ) → not (eqb (firstNumber t o) 11) ≡ true
 unfolding firstNumber tableNumber every
 first-not t o = rw (first-other _ (both (required _ 1 refl) (both (required (leb o 15) 33 refl) refl)))
 
-share-not : (t shares : List ℕ) (a : Account) → eqb (shareNumber t shares a) 11 ≡ false
+share-not : (t : Table) (shares : List ℕ) (a : Account) → eqb (shareNumber t shares a) 11 ≡ false
 unfolding shareNumber every
 share-not t shares a =
     first-other _ (both (first-not t (a .operator)) (both (required _ 26 refl) (both (required _ 9 refl) (both (required _ 10 refl) (both (required _ 27 refl) refl)))))
 
-early : (t shares : List ℕ) (a : Account) → (shareNumber t shares a ≡ 0 → ⊥) → eqb ((enter t shares a) .number) 11 ≡ false
+early : (t : Table) (shares : List ℕ) (a : Account) → (shareNumber t shares a ≡ 0 → ⊥) → eqb ((enter t shares a) .number) 11 ≡ false
 early t shares a nz =
     ap (λ (s : SetUp). eqb (s .number) 11) (sym (enter-early t shares a (shareNumber t shares a) refl nz)) ∙ share-not t shares a
 
 pub never-eleven : NeverEleven
-never-eleven size shares xs a =
-    let t : List ℕ = (past shares (zeros size) xs) .table in
+never-eleven fm size shares xs a =
+    let t : Table = (past shares (zeroTable fm size) xs) .table in
     by-test (eqb (shareNumber t shares a) 0)
     (λ h. let z : shareNumber t shares a ≡ 0 = eqb-true (shareNumber t shares a) 0 h in
-    by-test (eqb (tableNumber (zeros size)) 0)
-    (λ g. let good : tableNumber (zeros size) ≡ 0 = eqb-true (tableNumber (zeros size)) 0 g in
-    ap (λ (s : SetUp). eqb (s .number) 11) (enter-is (size / rowLength) (some size good) shares t ((model size 0 good shares xs) .reached) a z))
-    (λ g. let bad : tableNumber (zeros size) ≡ 0 → ⊥ = eqb-false (tableNumber (zeros size)) 0 g in
-    absurd (bad (ap tableNumber (sym (bad-table (zeros size) bad shares xs)) ∙ first-table t (a .operator) ((share-passed t shares a z) .first)))))
+    by-test (eqb (tableNumber (zeroTable fm size)) 0)
+    (λ g. let good : tableNumber (zeroTable fm size) ≡ 0 = eqb-true (tableNumber (zeroTable fm size)) 0 g in
+    let is : t ≡ lent fm (t .bytes) = end-is fm size 0 good shares xs in
+    let there : shareNumber (lent fm (t .bytes)) shares a ≡ 0 = ap (λ (u : Table). shareNumber u shares a) (sym is) ∙ z in
+    ap (λ (u : Table). eqb ((enter u shares a) .number) 11) is
+    ∙ ap (λ (s : SetUp). eqb (s .number) 11) (enter-is fm (size / rowLength fm) (some fm size good) shares (t .bytes) ((model fm size 0 good shares xs) .reached) a there))
+    (λ g. let bad : tableNumber (zeroTable fm size) ≡ 0 → ⊥ = eqb-false (tableNumber (zeroTable fm size)) 0 g in
+    absurd (bad (ap tableNumber (sym (bad-table (zeroTable fm size) bad shares xs)) ∙ first-table t (a .operator) ((share-passed t shares a z) .first)))))
     (λ h. early t shares a (eqb-false (shareNumber t shares a) 0 h))

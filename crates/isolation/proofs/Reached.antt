@@ -14,98 +14,117 @@ use Rattle.octets.specs.Texts.{allZero, pieces, same, zeros}
 use Rattle.octets.proofs.Lists.{and-left, and-right, both, by-test, every-imp, in-within, keep-and, same-refl, within-high, within-low}
 use Rattle.octets.proofs.Pieces.{drop-zeros, length-pieces, one-more, take-zeros}
 use Rattle.octets.proofs.Texts.{length-zeros}
-use Rattle.table.specs.TheTable.{isOwn, ownRows, rowLength, rows, tableNumber}
+use Rattle.table.specs.Answers.{lent}
+use Rattle.table.specs.TheTable.{isForm, isOwn, ownRows, rowLength, rows, tableNumber}
+use Rattle.table.proofs.Rows.{width-least}
+use Rattle.table.proofs.Widths.{quotient-is, rest-is}
 use Rattle.setup.specs.SetUp.{share}
 use Rattle.isolation.proofs.Firsts.{bound, keep-append}
 
 -- A WHOLLY ZERO ROW
 
-abbrev pub zeroRow : List ℕ
-zeroRow = zeros rowLength
+abbrev pub zeroRow : (form : ℕ) → List ℕ
+zeroRow fm = zeros (rowLength fm)
 
-unfoldable pub blank : ℕ → List (List ℕ)
-blank zero = []
-blank (suc k) = zeroRow ∷ blank k
+unfoldable pub blank : (form : ℕ) → ℕ → List (List ℕ)
+blank fm zero = []
+blank fm (suc k) = zeroRow fm ∷ blank fm k
 
 -- a row in use: byte 0 is 1, and byte 19 an operator
 unfoldable pub isUsed : List ℕ → Bool
 isUsed r = eqb (getD r 0 0) 1 && leb (getD r 19 0) 15
 
-pub zero-first : getD zeroRow 0 0 ≡ 0
+zero-head : (k : ℕ) → getD (zeros k) 0 0 ≡ 0
 unfolding zeros
-zero-first = refl
+zero-head zero = refl
+zero-head (suc k) = refl
 
-pub zero-own : (o : ℕ) → isOwn o zeroRow ≡ false
+pub zero-first : (fm : ℕ) → getD (zeroRow fm) 0 0 ≡ 0
+zero-first fm = zero-head (rowLength fm)
+
+pub zero-own : (fm o : ℕ) → isOwn o (zeroRow fm) ≡ false
 unfolding isOwn
-zero-own o = rw zero-first
+zero-own fm o = rw (zero-first fm)
 
-pub zero-zero : allZero zeroRow ≡ true
+pub zero-zero : (fm : ℕ) → allZero (zeroRow fm) ≡ true
 unfolding allZero
-zero-zero = rw (length-zeros rowLength) (same-refl zeroRow)
+zero-zero fm = rw (length-zeros (rowLength fm)) (same-refl (zeroRow fm))
 
-pub blank-keep : (o k : ℕ) → keep (isOwn o) (blank k) ≡ []
+pub blank-keep : (fm o k : ℕ) → keep (isOwn o) (blank fm k) ≡ []
 unfolding keep blank pick
-blank-keep o zero = refl
-blank-keep o (suc k) = rw (zero-own o) (blank-keep o k)
+blank-keep fm o zero = refl
+blank-keep fm o (suc k) = rw (zero-own fm o) (blank-keep fm o k)
 
-pub keep-used : (o : ℕ) (us : List (List ℕ)) (k : ℕ) → keep (isOwn o) (us ++ blank k) ≡ keep (isOwn o) us
-keep-used o us k = keep-append (isOwn o) us (blank k) ∙ ap (λ (t : List (List ℕ)). keep (isOwn o) us ++ t) (blank-keep o k) ∙ append-nil (keep (isOwn o) us)
+pub keep-used : (fm o : ℕ) (us : List (List ℕ)) (k : ℕ) → keep (isOwn o) (us ++ blank fm k) ≡ keep (isOwn o) us
+keep-used fm o us k =
+    keep-append (isOwn o) us (blank fm k) ∙ ap (λ (t : List (List ℕ)). keep (isOwn o) us ++ t) (blank-keep fm o k) ∙ append-nil (keep (isOwn o) us)
 
-pub length-blank : (k : ℕ) → length (blank k) ≡ k
+pub length-blank : (fm k : ℕ) → length (blank fm k) ≡ k
 unfolding blank
-length-blank zero = refl
-length-blank (suc k) = ap suc (length-blank k)
+length-blank fm zero = refl
+length-blank fm (suc k) = ap suc (length-blank fm k)
 
 -- the first k rows of a table of zeros
-pub zero-rows : (k m : ℕ) → rowLength * k ≤ m → pieces rowLength k (zeros m) ≡ blank k
+pub zero-rows : (fm k m : ℕ) → rowLength fm * k ≤ m → pieces (rowLength fm) k (zeros m) ≡ blank fm k
 unfolding pieces blank
-zero-rows zero m h = refl
-zero-rows (suc k) m h = rw (take-zeros rowLength m (omega arith), drop-zeros rowLength m, zero-rows k (m - rowLength) (omega arith))
+zero-rows fm zero m h = refl
+zero-rows fm (suc k) m h =
+    rw (
+      take-zeros (rowLength fm) m (omega (arith, one-more (rowLength fm) k)),
+      drop-zeros (rowLength fm) m,
+      zero-rows fm k (m - rowLength fm) (omega (arith, one-more (rowLength fm) k)),
+    )
 
--- REACHED
+-- REACHED: the bytes of a table of the form
 
-pub record Reached (n : ℕ) (shares t : List ℕ) : Type 0 where
-  pub size : length t ≡ rowLength * n
+pub record Reached (fm n : ℕ) (shares t : List ℕ) : Type 0 where
+  pub size : length t ≡ rowLength fm * n
   pub used : List (List ℕ)
   pub free : ℕ
-  pub rows-are : pieces rowLength n t ≡ used ++ blank free
+  pub rows-are : pieces (rowLength fm) n t ≡ used ++ blank fm free
   pub in-use : every isUsed used ≡ true
   pub in-share : (o : ℕ) → length (keep (isOwn o) used) ≤ share o shares
 
-pub cleared : (n : ℕ) (shares : List ℕ) → Reached n shares (zeros (rowLength * n))
+pub cleared : (fm n : ℕ) (shares : List ℕ) → Reached fm n shares (zeros (rowLength fm * n))
 unfolding every keep
-cleared n shares =
+cleared fm n shares =
     record {
-      size = length-zeros (rowLength * n);
+      size = length-zeros (rowLength fm * n);
       used = [];
       free = n;
-      rows-are = zero-rows n (rowLength * n) (omega arith);
+      rows-are = zero-rows fm n (rowLength fm * n) (omega arith);
       in-use = refl;
       in-share = λ o. omega arith;
     }
 
--- n rows, of which a table has 1 to 1,024
-module _ (n : ℕ) (some : within 1 1024 n ≡ true) (shares t : List ℕ) (R : Reached n shares t) where
-  pub count-is : length t / rowLength ≡ n
-  count-is = omega (arith, R .size)
+-- n rows of a form, of which a table has 1 to 1,024
+module _ (fm n : ℕ) (some : isForm fm && within 1 1024 n ≡ true) (shares t : List ℕ) (R : Reached fm n shares t) where
+  pub count-is : length t / rowLength fm ≡ n
+  count-is = quotient-is (rowLength fm) (length t) n 0 (omega (arith, R .size)) (omega (arith, width-least fm))
 
-  pub good-table : tableNumber t ≡ 0
+  pub good-table : tableNumber (lent fm t) ≡ 0
   unfolding tableNumber require
   good-table =
-      let m : length t % rowLength ≡ 0 = omega (arith, R .size) in
-      rw (eq-eqb (length t % rowLength) 0 m, count-is, some)
+      let m : length t % rowLength fm ≡ 0 = rest-is (rowLength fm) (length t) n 0 (omega (arith, R .size)) (omega (arith, width-least fm)) in
+      rw (and-left (isForm fm) _ some, eq-eqb (length t % rowLength fm) 0 m, count-is, and-right (isForm fm) _ some)
 
-  pub rows-of : rows t ≡ R .used ++ blank (R .free)
+  pub rows-of : rows (lent fm t) ≡ R .used ++ blank fm (R .free)
   unfolding rows
-  rows-of = ap (λ (k : ℕ). pieces rowLength k t) count-is ∙ R .rows-are
+  rows-of = ap (λ (k : ℕ). pieces (rowLength fm) k t) count-is ∙ R .rows-are
 
-  pub own-of : (o : ℕ) → ownRows o t ≡ keep (isOwn o) (R .used)
+  pub own-of : (o : ℕ) → ownRows o (lent fm t) ≡ keep (isOwn o) (R .used)
   unfolding ownRows
-  own-of o = ap (keep (isOwn o)) rows-of ∙ keep-used o (R .used) (R .free)
+  own-of o = ap (keep (isOwn o)) rows-of ∙ keep-used fm o (R .used) (R .free)
 
   pub all-of : length (R .used) + R .free ≡ n
   all-of =
-      omega (arith, ap length (R .rows-are), length-pieces rowLength n t, length-append (R .used) (blank (R .free)), length-blank (R .free))
+      omega (
+        arith,
+        ap length (R .rows-are),
+        length-pieces (rowLength fm) n t,
+        length-append (R .used) (blank fm (R .free)),
+        length-blank fm (R .free),
+      )
 
 -- NO MORE ROWS THAN THE SHARES COME TO
 

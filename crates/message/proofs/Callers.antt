@@ -6,7 +6,7 @@ use mathlib.Core.List.{List, [], _∷_, map}
 use Prim.Native.Nat.{ℕ, zero, suc, _≤_, _<_}
 use native.Mathlib.Omega.{arith}
 use borrow.Author.Tests.{ltb-true, eqb-false, not-true}
-use lib.Dec.{eqb, ltb}
+use lib.Dec.{eqb, leb, ltb}
 use lib.ListN.{length, drop}
 use Rattle.octets.specs.Choice.{pick, require, firstOf, within}
 use Rattle.octets.specs.Lists.{every}
@@ -14,7 +14,7 @@ use Rattle.octets.specs.Numbers.{up4}
 use Rattle.octets.proofs.Lists.{by-test, and-left, and-right, both, within-low, within-high, every-map, every-of}
 use Rattle.octets.proofs.Choice.{first-passes, passed}
 use Rattle.message.specs.CallsThatGetNoAnswer.{messageNumber}
-use Rattle.message.specs.ReadingAMessage.{headerCode, Avp, Field, behind, walkOne, walkUpTo, walkBy, avpLength, avpCode, requestCode, avps, walkCode, having, testedAs, fieldCode, startsWith, fields, listCode, readingCode, sessionId, command, refused, read}
+use Rattle.message.specs.ReadingAMessage.{headerCode, Avp, Field, behind, walkOne, walkUpTo, walkBy, avpLength, avpCode, requestCode, avps, walkCode, having, eachCode, testedAs, fieldCode, startsWith, fields, listCode, readingCode, sessionId, command, refused, read}
 
 -- THE MESSAGE
 
@@ -44,12 +44,19 @@ unfolding require other
 require-other true c e = refl
 require-other false c e = e
 
+each-other : (f : Field) (xs : List Avp) → other (eachCode f xs) ≡ true
+unfolding eachCode every other
+each-other f [] = refl
+each-other f (a ∷ xs) =
+    first-other _
+    (both (require-other (within (f .low) (f .high) (length (a .value))) 5014 refl)
+    (both (require-other (f .allowed (a .value)) 5004 refl) (both (each-other f xs) refl)))
+
 tested-other : (f : Field) (xs : List Avp) → other (testedAs f xs) ≡ true
 unfolding testedAs every other
 tested-other f [] = require-other (not (f .required)) 5005 refl
-tested-other f (a ∷ []) =
-    first-other _ (both (require-other (within (f .low) (f .high) (length (a .value))) 5014 refl) (both (require-other (f .allowed (a .value)) 5004 refl) refl))
-tested-other f (a ∷ (b ∷ xs)) = refl
+tested-other f (a ∷ xs) =
+    first-other _ (both (require-other (leb (length (a ∷ xs)) (f .most)) 5009 refl) (both (each-other f (a ∷ xs)) refl))
 
 field-other : (xs : List Avp) (f : Field) → other (fieldCode xs f) ≡ true
 unfolding fieldCode
@@ -80,32 +87,33 @@ walk-other (suc k) s =
     (λ t. rw (z, t) (walk-other k (drop (up4 (avpLength s)) s)))
     (λ t. rw (z, t) (request-other s)))
 
-list-other : (c : ℕ) (xs : List Avp) → other (listCode c xs) ≡ true
-unfolding listCode every other
-list-other c xs =
-    first-other (require (startsWith sessionId xs) 5005 ∷ map (fieldCode xs) (fields c xs))
-    (both (require-other (startsWith sessionId xs) 5005 refl) (rw every-map (every-of (λ f. other (fieldCode xs f)) (λ f. field-other xs f) (fields c xs))))
+module _ (most : ℕ) where
+  list-other : (c : ℕ) (xs : List Avp) → other (listCode most c xs) ≡ true
+  unfolding listCode every other
+  list-other c xs =
+      first-other (require (startsWith sessionId xs) 5005 ∷ map (fieldCode xs) (fields most c xs))
+      (both (require-other (startsWith sessionId xs) 5005 refl) (rw every-map (every-of (λ f. other (fieldCode xs f)) (λ f. field-other xs f) (fields most c xs))))
 
-reading-other : (m : List ℕ) → other (readingCode m) ≡ true
-unfolding readingCode every walkCode walkBy other
-reading-other m =
-    first-other (headerCode m ∷ walkCode m ∷ listCode (command m) (avps m) ∷ [])
-    (both (header-other m) (both (walk-other (suc (length (drop 20 m))) (drop 20 m)) (both (list-other (command m) (avps m)) refl)))
+  reading-other : (m : List ℕ) → other (readingCode most m) ≡ true
+  unfolding readingCode every walkCode walkBy other
+  reading-other m =
+      first-other (headerCode m ∷ walkCode m ∷ listCode most (command m) (avps m) ∷ [])
+      (both (header-other m) (both (walk-other (suc (length (drop 20 m))) (drop 20 m)) (both (list-other (command m) (avps m)) refl)))
 
-refused-other : (m : List ℕ) (n : ℕ) → read m ≡ refused n → other n ≡ true
-unfolding read pick
-refused-other m n e =
-    by-test (eqb (readingCode m) 0)
-    (λ t. let f = rw t at e in let q : _≡_ {A = ℕ} 0 1 = cc in absurd (omega arith))
-    (λ t.
-    let f = rw t at e in
-    let q : readingCode m ≡ n = cc in
-    ap other (sym q) ∙ reading-other m)
+  refused-other : (m : List ℕ) (n : ℕ) → read most m ≡ refused n → other n ≡ true
+  unfolding read pick
+  refused-other m n e =
+      by-test (eqb (readingCode most m) 0)
+      (λ t. let f = rw t at e in let q : _≡_ {A = ℕ} 0 1 = cc in absurd (omega arith))
+      (λ t.
+      let f = rw t at e in
+      let q : readingCode most m ≡ n = cc in
+      ap other (sym q) ∙ reading-other m)
 
-pub never-2001 : (m : List ℕ) (n : ℕ) → read m ≡ refused n → n ≡ 2001 → ⊥
-unfolding other
-never-2001 m n e = eqb-false n 2001 (not-true (eqb n 2001) (and-left _ (ltb n 65536) (refused-other m n e)))
+  pub never-2001 : (m : List ℕ) (n : ℕ) → read most m ≡ refused n → n ≡ 2001 → ⊥
+  unfolding other
+  never-2001 m n e = eqb-false n 2001 (not-true (eqb n 2001) (and-left _ (ltb n 65536) (refused-other m n e)))
 
-pub refused-small : (m : List ℕ) (n : ℕ) → read m ≡ refused n → n < 65536
-unfolding other
-refused-small m n e = ltb-true n 65536 (and-right (not (eqb n 2001)) _ (refused-other m n e))
+  pub refused-small : (m : List ℕ) (n : ℕ) → read most m ≡ refused n → n < 65536
+  unfolding other
+  refused-small m n e = ltb-true n 65536 (and-right (not (eqb n 2001)) _ (refused-other m n e))

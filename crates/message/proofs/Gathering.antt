@@ -190,7 +190,7 @@ pub having-not : (n : Name) (a : Avp) (xs : List Avp) → sameName n (a .name) �
 unfolding having keep pick
 having-not n a xs e = rw e
 
-having-none : (n : Name) → having n [] ≡ []
+pub having-none : (n : Name) → having n [] ≡ []
 unfolding having keep
 having-none n = refl
 

@@ -2,8 +2,10 @@ pub mod Walks
 pub mod Heads
 pub mod Gathering
 pub mod Known
+pub mod Tested
 pub mod Readers
 pub mod Listing
+pub mod Policies
 pub mod Lengths
 pub mod Callers
 pub mod WorkedCases

@@ -15,18 +15,22 @@ use Rattle.octets.specs.Lists.{every}
 use Rattle.octets.specs.Numbers.{net32}
 use Rattle.octets.proofs.Lists.{by-test}
 use Rattle.octets.proofs.Choice.{first-passes, others-pass, passed}
-use Rattle.message.specs.ReadingAMessage.{flags, command, headerCode, Name, sameName, Avp, Walk, behind, Field, numberIn, textField, labelField, numberField, avpCode, avpOf, requestCode, avps, walkCode, having, firstValue, valueOf, present, testedAs, fieldCode, startsWith, forBoth, for265, for275, fields, listCode, readingCode, sessionId, originHost, proxyInfo, userName, visitedNetwork, wlanApnId, routingPolicy, typeOf, Request, askOf, requestOf, request, read}
+use Rattle.message.specs.ReadingAMessage.{flags, command, headerCode, Name, sameName, Avp, Walk, behind, Field, numberIn, labelField, numberField, textsField, avpCode, avpOf, requestCode, avps, walkCode, having, firstValue, valueOf, present, testedAs, fieldCode, startsWith, forBoth, for265, for275, fields, listCode, readingCode, sessionId, originHost, originRealm, proxyInfo, userName, visitedNetwork, wlanApnId, routingPolicy, typeOf, Request, askOf, requestOf, request, read}
 use Rattle.message.specs.declared.Span.{Span}
 use Rattle.message.specs.declared.Got.{Got}
 use Rattle.message.specs.declared.Got.the-variants.{Found, Absent, Code}
+use Rattle.message.specs.declared.Routes.{Routes}
+use Rattle.message.specs.declared.Routes.the-variants.{Brought, Missing, Wrong}
 use Rattle.message.specs.declared.Both.the-variants.{Held, Failed}
 use Rattle.message.specs.declared.Asked.the-variants.{Tunnel, Policy, Termination}
 use Rattle.message.specs.declared.Told.{Told}
 use Rattle.message.specs.declared.Told.the-variants.{Refused, Request as Requested}
 use Rattle.message.proofs.Got.{the-type}
+use Rattle.message.proofs.Routes.{the-type as routes-type}
 use Rattle.message.specs.Positions.{names, nameAt, absent, howOften, slotSays, Gathered}
-use Rattle.message.specs.Spans.{codeOf, isFound, Holds, Reads, bothCode, failedWith, BothRead, restCode, tunnelCode, tunnelOf, policyCode, policyOf, bytesOf, asks, says, spansIn, spans, isInside, verdict, Listed, hasProxies, HeardOf}
+use Rattle.message.specs.Spans.{codeOf, isFound, Holds, Reads, HoldsAt, routesCode, RoutesRead, bothCode, failedWith, BothRead, restCode, tunnelCode, tunnelOf, policyCode, policyOf, bytesOf, asks, says, spansIn, spans, isInside, verdict, Listed, hasProxies, HeardOf}
 use Rattle.message.proofs.Heads.{code-few}
+use Rattle.message.proofs.Tested.{tested-none, passes-each, first-allowed}
 use Rattle.message.proofs.Walks.{walk-end, walk-bad, walk-one, request-four, request-bad}
 
 -- TESTS IN ORDER
@@ -94,12 +98,10 @@ found-there m f (Code n) r o = ⊎-elim (λ (e : _≡_ {A = ℕ} 2 0). absurd (o
 
 -- a number that passes is in its range
 pub tested-in : (n : Name) (low high : ℕ) (xs : List Avp) → testedAs (numberField n low high) xs ≡ 0 → within low high (net32 (firstValue xs) 0) ≡ true
-unfolding testedAs numberField firstValue numberIn require
-tested-in n low high [] e = absurd (omega arith)
-tested-in n low high (a ∷ []) e =
-    let h = others-pass (require (within 4 4 (length (a .value))) 5014) _ e in
-    passed (within low high (net32 (a .value) 0)) 5004 (omega arith) (first-passes (require (within low high (net32 (a .value) 0)) 5004) [] h)
-tested-in n low high (a ∷ (b ∷ xs)) e = absurd (omega arith)
+unfolding numberField firstValue numberIn require
+tested-in n low high [] e = let z = sym (tested-none (numberField n low high)) ∙ e in absurd (omega arith)
+tested-in n low high (a ∷ xs) e =
+    passed (within low high (net32 (a .value) 0)) 5004 (omega arith) (first-allowed (numberField n low high) a xs (passes-each (numberField n low high) (a ∷ xs) e))
 
 pub number-in : (m : List ℕ) (n : Name) (low high : ℕ) (g : Got) (s : Span) → Reads m (numberField n low high) g → g ≡ Found s
     → within low high (net32 (valueOf n (avps m)) 0) ≡ true
@@ -125,41 +127,45 @@ unfolding failedWith
 both-failed m n e h =
     record {
       code = e;
-      session = λ s p w. let z : _≡_ {A = ℕ} 0 1 = cc in absurd (omega arith);
-      host = λ s p w. let z : _≡_ {A = ℕ} 0 1 = cc in absurd (omega arith);
+      session = λ s p r w. let z : _≡_ {A = ℕ} 0 1 = cc in absurd (omega arith);
+      host = λ s p r w. let z : _≡_ {A = ℕ} 0 1 = cc in absurd (omega arith);
+      realm = λ s p r w. let z : _≡_ {A = ℕ} 0 1 = cc in absurd (omega arith);
       real = λ p w. let q : n ≡ p = cc in rw (← q) h;
     }
 
-pub both-held : (m : List ℕ) (s h : Span) → bothCode (avps m) ≡ 0 → Holds m sessionId s → Holds m originHost h → BothRead m (Held s h)
+pub both-held : (m : List ℕ) (s h r : Span) → bothCode (avps m) ≡ 0 → Holds m sessionId s → Holds m originHost h → Holds m originRealm r
+    → BothRead m (Held s h r)
 unfolding failedWith
-both-held m s h e p q =
+both-held m s h r e p q o =
     record {
       code = e;
-      session = λ a b w. let z : s ≡ a = cc in rw (← z) p;
-      host = λ a b w. let z : h ≡ b = cc in rw (← z) q;
+      session = λ a b d w. let z : s ≡ a = cc in rw (← z) p;
+      host = λ a b d w. let z : h ≡ b = cc in rw (← z) q;
+      realm = λ a b d w. let z : r ≡ d = cc in rw (← z) o;
       real = λ n w. let z : _≡_ {A = ℕ} 0 1 = cc in absurd (omega arith);
     }
 
 -- THE WHOLE LIST
 
-pub list-split : (c : ℕ) (xs : List Avp) → listCode c xs ≡ pick (eqb (bothCode xs) 0) (restCode c xs) (bothCode xs)
-unfolding listCode fields bothCode restCode forBoth
-list-split c xs =
-    first-append (require (startsWith sessionId xs) 5005 ∷ map (fieldCode xs) forBoth) (map (fieldCode xs) (pick (eqb c 265) (for265 xs) for275))
+module _ (most : ℕ) where
+  pub list-split : (c : ℕ) (xs : List Avp) → listCode most c xs ≡ pick (eqb (bothCode xs) 0) (restCode most c xs) (bothCode xs)
+  unfolding listCode fields bothCode restCode forBoth
+  list-split c xs =
+      first-append (require (startsWith sessionId xs) 5005 ∷ map (fieldCode xs) forBoth) (map (fieldCode xs) (pick (eqb c 265) (for265 most xs) for275))
 
-pub reading-is : (m : List ℕ) → headerCode m ≡ 0 → walkCode m ≡ 0 → readingCode m ≡ listCode (command m) (avps m)
-unfolding readingCode
-reading-is m h w =
-    first-go (headerCode m) _ h ∙ first-go (walkCode m) _ w ∙ first-one (listCode (command m) (avps m))
+  pub reading-is : (m : List ℕ) → headerCode m ≡ 0 → walkCode m ≡ 0 → readingCode most m ≡ listCode most (command m) (avps m)
+  unfolding readingCode
+  reading-is m h w =
+      first-go (headerCode m) _ h ∙ first-go (walkCode m) _ w ∙ first-one (listCode most (command m) (avps m))
 
-pub lists-failed : (m : List ℕ) (n : ℕ) → headerCode m ≡ 0 → walkCode m ≡ 0 → bothCode (avps m) ≡ n → 1 ≤ n → readingCode m ≡ n
-unfolding pick
-lists-failed m n h w b p =
-    reading-is m h w ∙ list-split (command m) (avps m) ∙ rw b (rw (ne-eqb n 0 (λ z. omega arith)))
+  pub lists-failed : (m : List ℕ) (n : ℕ) → headerCode m ≡ 0 → walkCode m ≡ 0 → bothCode (avps m) ≡ n → 1 ≤ n → readingCode most m ≡ n
+  unfolding pick
+  lists-failed m n h w b p =
+      reading-is m h w ∙ list-split (command m) (avps m) ∙ rw b (rw (ne-eqb n 0 (λ z. omega arith)))
 
-pub lists-rest : (m : List ℕ) → headerCode m ≡ 0 → walkCode m ≡ 0 → bothCode (avps m) ≡ 0 → readingCode m ≡ restCode (command m) (avps m)
-unfolding pick
-lists-rest m h w b = reading-is m h w ∙ list-split (command m) (avps m) ∙ rw (eq-eqb (bothCode (avps m)) 0 b)
+  pub lists-rest : (m : List ℕ) → headerCode m ≡ 0 → walkCode m ≡ 0 → bothCode (avps m) ≡ 0 → readingCode most m ≡ restCode most (command m) (avps m)
+  unfolding pick
+  lists-rest m h w b = reading-is m h w ∙ list-split (command m) (avps m) ∙ rw (eq-eqb (bothCode (avps m)) 0 b)
 
 pub other-command : (m : List ℕ) → headerCode m ≡ 0 → (command m ≡ 265 → ⊥) → command m ≡ 275
 unfolding headerCode
@@ -216,61 +222,94 @@ proxies-are m index g h w =
 
 -- A WHOLE MESSAGE
 
-pub heard-header : (m : List ℕ) (n : ℕ) → headerCode m ≡ n → (n ≡ 0 → ⊥) → HeardOf m (record { told = Refused n; proxies = false })
-unfolding says spans every read hasProxies readingCode pick
-heard-header m n e h =
-    let p : 1 ≤ n = above-zero n h in
-    let c = first-stop (headerCode m) n (walkCode m ∷ listCode (command m) (avps m) ∷ []) e p in
-    record { reading = rw c (rw (ne-eqb n 0 h)); inside = refl; proxies = rw e (rw (ne-eqb n 0 h)) }
+module _ (most : ℕ) where
+  pub heard-header : (m : List ℕ) (n : ℕ) → headerCode m ≡ n → (n ≡ 0 → ⊥) → HeardOf most m (record { told = Refused n; proxies = false })
+  unfolding says spans every read hasProxies readingCode pick
+  heard-header m n e h =
+      let p : 1 ≤ n = above-zero n h in
+      let c = first-stop (headerCode m) n (walkCode m ∷ listCode most (command m) (avps m) ∷ []) e p in
+      record { reading = rw c (rw (ne-eqb n 0 h)); inside = refl; proxies = rw e (rw (ne-eqb n 0 h)) }
 
-pub heard-walk : (m : List ℕ) (n : ℕ) → headerCode m ≡ 0 → walkCode m ≡ n → (n ≡ 0 → ⊥) → HeardOf m (record { told = Refused n; proxies = false })
-unfolding says spans every read hasProxies readingCode pick
-heard-walk m n d e h =
-    let p : 1 ≤ n = above-zero n h in
-    let c = first-go (headerCode m) (walkCode m ∷ listCode (command m) (avps m) ∷ []) d ∙ first-stop (walkCode m) n (listCode (command m) (avps m) ∷ []) e p in
-    record { reading = rw c (rw (ne-eqb n 0 h)); inside = refl; proxies = rw e (rw (eq-eqb (headerCode m) 0 d, ne-eqb n 0 h)) }
+  pub heard-walk : (m : List ℕ) (n : ℕ) → headerCode m ≡ 0 → walkCode m ≡ n → (n ≡ 0 → ⊥) → HeardOf most m (record { told = Refused n; proxies = false })
+  unfolding says spans every read hasProxies readingCode pick
+  heard-walk m n d e h =
+      let p : 1 ≤ n = above-zero n h in
+      let c = first-go (headerCode m) (walkCode m ∷ listCode most (command m) (avps m) ∷ []) d ∙ first-stop (walkCode m) n (listCode most (command m) (avps m) ∷ []) e p in
+      record { reading = rw c (rw (ne-eqb n 0 h)); inside = refl; proxies = rw e (rw (eq-eqb (headerCode m) 0 d, ne-eqb n 0 h)) }
 
-pub heard-lists : (m : List ℕ) (t : Told) (p : Bool) → p ≡ hasProxies m → Listed m (readingCode m) (requestOf (command m) (avps m)) t
-    → HeardOf m (record { told = t; proxies = p })
-unfolding read verdict
-heard-lists m t p e l = record { reading = l .reading; inside = l .inside; proxies = e }
+  pub heard-lists : (m : List ℕ) (t : Told) (p : Bool) → p ≡ hasProxies m → Listed m (readingCode most m) (requestOf (command m) (avps m)) t
+      → HeardOf most m (record { told = t; proxies = p })
+  unfolding read verdict
+  heard-lists m t p e l = record { reading = l .reading; inside = l .inside; proxies = e }
 
 -- REQUESTS
 
-pub told-termination : (m : List ℕ) (u s l : Span) → Holds m userName u → Holds m sessionId s → Holds m wlanApnId l → restCode 275 (avps m) ≡ 0
-    → Listed m (restCode 275 (avps m)) (requestOf 275 (avps m)) (Requested u (Termination s l))
-unfolding says asks bytesOf spans spansIn every requestOf askOf pick
-told-termination m u s l hu hs hl e =
-    listed-request m (restCode 275 (avps m)) (requestOf 275 (avps m)) (Requested u (Termination s l)) e
-    (rw (hu .value, hs .value, hl .value))
-    (rw (inside-is m userName u hu, inside-is m sessionId s hs, inside-is m wlanApnId l hl))
+pub inside-at : (m : List ℕ) (i : ℕ) (n : Name) (s : Span) → HoldsAt m i n s → isInside m s ≡ true
+unfolding isInside
+inside-at m i n s h = le-leb (s .at + s .len) (length m) (h .inside)
 
-pub told-tunnel : (m : List ℕ) (u s h l : Span) (v : Bool) → Holds m userName u → Holds m sessionId s → Holds m originHost h → Holds m wlanApnId l
-    → tunnelCode (avps m) ≡ 0 → Listed m (tunnelCode (avps m)) (tunnelOf v (avps m)) (Requested u (Tunnel s h l v))
-unfolding says asks bytesOf spans spansIn every tunnelOf
-told-tunnel m u s h l v hu hs hh hl e =
-    listed-request m (tunnelCode (avps m)) (tunnelOf v (avps m)) (Requested u (Tunnel s h l v)) e
-    (rw (hu .value, hs .value, hh .value, hl .value))
-    (rw (inside-is m userName u hu, inside-is m sessionId s hs, inside-is m originHost h hh, inside-is m wlanApnId l hl))
+module _ (most : ℕ) where
+  pub told-termination : (m : List ℕ) (u s l : Span) → Holds m userName u → Holds m sessionId s → Holds m wlanApnId l → restCode most 275 (avps m) ≡ 0
+      → Listed m (restCode most 275 (avps m)) (requestOf 275 (avps m)) (Requested u (Termination s l))
+  unfolding says asks bytesOf spans spansIn every requestOf askOf pick
+  told-termination m u s l hu hs hl e =
+      listed-request m (restCode most 275 (avps m)) (requestOf 275 (avps m)) (Requested u (Termination s l)) e
+      (rw (hu .value, hs .value, hl .value))
+      (rw (inside-is m userName u hu, inside-is m sessionId s hs, inside-is m wlanApnId l hl))
 
-pub told-policy : (m : List ℕ) (u s r : Span) → Holds m userName u → Holds m sessionId s → Holds m routingPolicy r
-    → policyCode (avps m) ≡ 0 → Listed m (policyCode (avps m)) (policyOf (avps m)) (Requested u (Policy s r))
-unfolding says asks bytesOf spans spansIn every policyOf
-told-policy m u s r hu hs hr e =
-    listed-request m (policyCode (avps m)) (policyOf (avps m)) (Requested u (Policy s r)) e
-    (rw (hu .value, hs .value, hr .value))
-    (rw (inside-is m userName u hu, inside-is m sessionId s hs, inside-is m routingPolicy r hr))
+  pub told-tunnel : (m : List ℕ) (u s h r l : Span) (v : Bool) → Holds m userName u → Holds m sessionId s → Holds m originHost h → Holds m originRealm r → Holds m wlanApnId l
+      → tunnelCode most (avps m) ≡ 0 → Listed m (tunnelCode most (avps m)) (tunnelOf v (avps m)) (Requested u (Tunnel s h r l v))
+  unfolding says asks bytesOf spans spansIn every tunnelOf
+  told-tunnel m u s h r l v hu hs hh hr hl e =
+      listed-request m (tunnelCode most (avps m)) (tunnelOf v (avps m)) (Requested u (Tunnel s h r l v)) e
+      (rw (hu .value, hs .value, hh .value, hr .value, hl .value))
+      (rw (inside-is m userName u hu, inside-is m sessionId s hs, inside-is m originHost h hh, inside-is m originRealm r hr, inside-is m wlanApnId l hl))
 
--- the last two fields of a 265, by its type
-unfoldable pub lastTwo : List Avp → List ℕ
-lastTwo xs = fieldCode xs (labelField wlanApnId (eqb (typeOf xs) 0)) ∷ fieldCode xs (textField routingPolicy (eqb (typeOf xs) 1)) ∷ []
+  pub told-policy : (m : List ℕ) (u s a b c : Span) → Holds m userName u → Holds m sessionId s
+      → HoldsAt m 0 routingPolicy a → HoldsAt m 1 routingPolicy b → HoldsAt m 2 routingPolicy c
+      → policyCode most (avps m) ≡ 0 → Listed m (policyCode most (avps m)) (policyOf (avps m)) (Requested u (Policy s a b c))
+  unfolding says asks bytesOf spans spansIn every policyOf
+  told-policy m u s a b c hu hs ha hb hc e =
+      listed-request m (policyCode most (avps m)) (policyOf (avps m)) (Requested u (Policy s a b c)) e
+      (rw (hu .value, hs .value, ha .value, hb .value, hc .value))
+      (rw (inside-is m userName u hu, inside-is m sessionId s hs, inside-at m 0 routingPolicy a ha, inside-at m 1 routingPolicy b hb, inside-at m 2 routingPolicy c hc))
 
-pub of-type-0 : (m : List ℕ) (t : Told) (v : Bool) → restCode 265 (avps m) ≡ firstOf (lastTwo (avps m)) → typeOf (avps m) ≡ 0 → v ≡ present visitedNetwork (avps m)
-    → Listed m (tunnelCode (avps m)) (tunnelOf v (avps m)) t → Listed m (restCode 265 (avps m)) (requestOf 265 (avps m)) t
-unfolding lastTwo tunnelCode tunnelOf requestOf askOf pick
-of-type-0 m t v e z p l = rw (e, z) (rw p at l)
+  -- the last two fields of a 265, by its type
+  unfoldable pub lastTwo : List Avp → List ℕ
+  lastTwo xs = fieldCode xs (labelField wlanApnId (eqb (typeOf xs) 0)) ∷ fieldCode xs (textsField most routingPolicy (eqb (typeOf xs) 1)) ∷ []
 
-pub of-type-1 : (m : List ℕ) (t : Told) → restCode 265 (avps m) ≡ firstOf (lastTwo (avps m)) → typeOf (avps m) ≡ 1
-    → Listed m (policyCode (avps m)) (policyOf (avps m)) t → Listed m (restCode 265 (avps m)) (requestOf 265 (avps m)) t
-unfolding lastTwo policyCode policyOf requestOf askOf pick
-of-type-1 m t e z l = rw (e, z) l
+  pub of-type-0 : (m : List ℕ) (t : Told) (v : Bool) → restCode most 265 (avps m) ≡ firstOf (lastTwo (avps m)) → typeOf (avps m) ≡ 0 → v ≡ present visitedNetwork (avps m)
+      → Listed m (tunnelCode most (avps m)) (tunnelOf v (avps m)) t → Listed m (restCode most 265 (avps m)) (requestOf 265 (avps m)) t
+  unfolding lastTwo tunnelCode tunnelOf requestOf askOf pick
+  of-type-0 m t v e z p l = rw (e, z) (rw p at l)
+
+  pub of-type-1 : (m : List ℕ) (t : Told) → restCode most 265 (avps m) ≡ firstOf (lastTwo (avps m)) → typeOf (avps m) ≡ 1
+      → Listed m (policyCode most (avps m)) (policyOf (avps m)) t → Listed m (restCode most 265 (avps m)) (requestOf 265 (avps m)) t
+  unfolding lastTwo policyCode policyOf requestOf askOf pick
+  of-type-1 m t e z l = rw (e, z) l
+
+-- THE POLICIES AS A FIELD
+
+-- policies that must be there: an answer other than Brought gives a code; those that need not: an answer other than Wrong gives none
+routes-real : (most : ℕ) (m : List ℕ) (g : Routes) → RoutesRead most m g → OneOf (1 ∷ 2 ∷ []) (tagOf routes-type g) → 1 ≤ routesCode true g
+unfolding routesCode require
+routes-real most m (Brought a b c) r o = ⊎-elim (λ (e : _≡_ {A = ℕ} 0 1). absurd (omega arith)) (λ (e : _≡_ {A = ℕ} 0 2). absurd (omega arith)) o
+routes-real most m Missing r o = omega arith
+routes-real most m (Wrong n) r o = r .real n refl
+
+pub routes-none : (g : Routes) → OneOf (0 ∷ 1 ∷ []) (tagOf routes-type g) → routesCode false g ≡ 0
+unfolding routesCode require
+routes-none (Brought a b c) o = refl
+routes-none Missing o = refl
+routes-none (Wrong n) o = ⊎-elim (λ (e : _≡_ {A = ℕ} 2 0). absurd (omega arith)) (λ (e : _≡_ {A = ℕ} 2 1). absurd (omega arith)) o
+
+module _ (most : ℕ) (m : List ℕ) (cs : List ℕ) (g : Routes) (r : RoutesRead most m g) where
+  pub routes-go : (a b c : Span) → g ≡ Brought a b c → firstOf (fieldCode (avps m) (textsField most routingPolicy true) ∷ cs) ≡ firstOf cs
+  unfolding routesCode
+  routes-go a b c e = first-go (fieldCode (avps m) (textsField most routingPolicy true)) cs (r .code true ∙ ap (routesCode true) e)
+
+  pub routes-stop : (n : ℕ) → OneOf (1 ∷ 2 ∷ []) (tagOf routes-type g) → n ≡ routesCode true g
+      → (firstOf (fieldCode (avps m) (textsField most routingPolicy true) ∷ cs) ≡ n) × (1 ≤ n)
+  routes-stop n o e =
+      let h : 1 ≤ n = rw e (routes-real most m g r o) in
+      (first-stop (fieldCode (avps m) (textsField most routingPolicy true)) n cs (r .code true ∙ sym e) h, h)

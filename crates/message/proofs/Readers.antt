@@ -26,6 +26,7 @@ use Rattle.message.specs.Positions.{names, nameAt, headOf, absent, once,
 use Rattle.message.specs.Spans.{bytesField, codeOf, Reads}
 use Rattle.message.proofs.Walks.{Passed, passes, up4-least}
 use Rattle.message.proofs.Heads.{net24-drop}
+use Rattle.message.proofs.Tested.{tested-none, tested-one, tested-several}
 use Rattle.message.proofs.Gathering.{same-name-eq, says-once, says-absent, says-twice, counted-every}
 
 -- HOW OFTEN, AS LISTS
@@ -42,11 +43,11 @@ one-there a [] e = let z : _≡_ {A = ℕ} 0 1 = cc in absurd (omega arith)
 one-there a (b ∷ []) e = cc
 one-there a (b ∷ (d ∷ xs)) e = let z : _≡_ {A = ℕ} 0 1 = cc in absurd (omega arith)
 
-tested-twice : (f : Field) (xs : List Avp) → twice ≡ howOften xs → testedAs f xs ≡ 5009
-unfolding howOften testedAs
-tested-twice f [] e = let z : _≡_ {A = ℕ} 0 1 = cc in absurd (omega arith)
-tested-twice f (a ∷ []) e = let z : _≡_ {A = ℕ} 0 1 = cc in absurd (omega arith)
-tested-twice f (a ∷ (b ∷ xs)) e = refl
+tested-twice : (f : Field) (xs : List Avp) → f .most ≡ 1 → twice ≡ howOften xs → testedAs f xs ≡ 5009
+unfolding howOften
+tested-twice f [] o e = let z : _≡_ {A = ℕ} 0 1 = cc in absurd (omega arith)
+tested-twice f (a ∷ []) o e = let z : _≡_ {A = ℕ} 0 1 = cc in absurd (omega arith)
+tested-twice f (a ∷ (b ∷ xs)) o e = tested-several f a b xs o
 
 -- HEADERS BY SLOT
 
@@ -112,7 +113,7 @@ module _ (m index : List ℕ) (k : ℕ) (h : k < 14) (g : Gathered m index) wher
     unfolding fieldCode bytesField
     reads-twice z =
         coded 5009 (omega arith)
-        (tested-twice (bytesField (nameAt k) b low high) (having (nameAt k) (avps m)) (sym (says-twice m) ∙ ap (slotSays m) (sym z) ∙ g .says k h))
+        (tested-twice (bytesField (nameAt k) b low high) (having (nameAt k) (avps m)) refl (sym (says-twice m) ∙ ap (slotSays m) (sym z) ∙ g .says k h))
 
   module _ (at : ℕ) (i : getD index k 0 ≡ at) (t : 2 ≤ at) where
     pub stands : Stands m at
@@ -153,9 +154,11 @@ module _ (m index : List ℕ) (k : ℕ) (h : k < 14) (g : Gathered m index) wher
     value-length = ap length value-is ∙ length-part m (at + headOf k) (net24 m (at + 5) - headOf k) (omega (arith, length-least, length-most))
 
     tested : (b : Bool) (low high : ℕ) → fieldCode (avps m) (bytesField (nameAt k) b low high) ≡ require (within low high (net24 m (at + 5) - headOf k)) 5014
-    unfolding fieldCode bytesField testedAs firstOf pick require anything
+    unfolding fieldCode bytesField firstOf pick require anything
     tested b low high =
-        rw (one, value-length) (by-test (within low high (net24 m (at + 5) - headOf k)) (λ e. rw e) (λ e. rw e))
+        let f = bytesField (nameAt k) b low high in
+        ap (testedAs f) one ∙ tested-one f (avpOf (drop at m)) (omega arith)
+        ∙ rw value-length (by-test (within low high (net24 m (at + 5) - headOf k)) (λ e. rw e) (λ e. rw e))
 
     module _ (b : Bool) (low high : ℕ) where
       pub reads-short : net24 m (at + 5) - headOf k < low → Reads m (bytesField (nameAt k) b low high) (Code 5014)
@@ -190,13 +193,15 @@ module _ (m index : List ℕ) (k : ℕ) (h : k < 14) (g : Gathered m index) wher
 tested-number : (n : Name) (low high : ℕ) (xs : List Avp)
     → testedAs (numberField n low high) xs
     ≡ pick (eqb (testedAs (bytesField n true 4 4) xs) 0) (require (numberIn low high (firstValue xs)) 5004) (testedAs (bytesField n true 4 4) xs)
-unfolding testedAs numberField bytesField firstOf require pick firstValue anything
-tested-number n low high [] = refl
+unfolding numberField bytesField firstOf require pick firstValue anything
+tested-number n low high [] = rw (tested-none (numberField n low high), tested-none (bytesField n true 4 4))
 tested-number n low high (a ∷ []) =
-    by-test (within 4 4 (length (a .value)))
+    rw (tested-one (numberField n low high) a (omega arith), tested-one (bytesField n true 4 4) a (omega arith))
+    (by-test (within 4 4 (length (a .value)))
     (λ e. rw e (by-test (numberIn low high (a .value)) (λ d. rw d) (λ d. rw d)))
-    (λ e. rw e)
-tested-number n low high (a ∷ (b ∷ xs)) = refl
+    (λ e. rw e))
+tested-number n low high (a ∷ (b ∷ xs)) =
+    rw (tested-several (numberField n low high) a b xs refl, tested-several (bytesField n true 4 4) a b xs refl)
 
 module _ (m : List ℕ) (n : Name) (low high : ℕ) (g : Got) (r : Reads m (bytesField n true 4 4) g) where
   -- four bytes that are there: the code goes by the number in them

@@ -302,13 +302,19 @@ firstValue (a ∷ xs) = a .value
 unfoldable pub valueOf : Name → List Avp → List ℕ
 valueOf n xs = firstValue (having n xs)
 
+-- The value of the i-th of them, counted from 0; no bytes where there are fewer.
+unfoldable pub valueAt : ℕ → Name → List Avp → List ℕ
+valueAt i n xs = firstValue (drop i (having n xs))
+
 unfoldable pub present : Name → List Avp → Bool
 present n xs = not (eqb (length (having n xs)) 0)
 
--- An AVP of a list: whether it must be there, how many bytes its value may have, and which values it may have.
+-- An AVP of a list: whether it must be there, how often it may be there, how many bytes its value may have, and which values
+-- it may have.
 pub record Field : Type 0 where
   pub name : Name
   pub required : Bool
+  pub most : ℕ
   pub low : ℕ
   pub high : ℕ
   pub allowed : List ℕ → Bool
@@ -319,23 +325,36 @@ anything v = true
 unfoldable pub numberIn : ℕ → ℕ → List ℕ → Bool
 numberIn low high v = within low high (net32 v 0)
 
--- Text has 1 to 128 bytes, a label 1 to 100, a number 4.
+-- Text has 1 to 128 bytes, a label 1 to 100, a number 4. Each may be there once.
 unfoldable pub textField : Name → Bool → Field
-textField n required = record { name = n; required = required; low = 1; high = 128; allowed = anything }
+textField n required = record { name = n; required = required; most = 1; low = 1; high = 128; allowed = anything }
 
 unfoldable pub labelField : Name → Bool → Field
-labelField n required = record { name = n; required = required; low = 1; high = 100; allowed = anything }
+labelField n required = record { name = n; required = required; most = 1; low = 1; high = 100; allowed = anything }
 
 unfoldable pub numberField : Name → ℕ → ℕ → Field
-numberField n low high = record { name = n; required = true; low = 4; high = 4; allowed = numberIn low high }
+numberField n low high = record { name = n; required = true; most = 1; low = 4; high = 4; allowed = numberIn low high }
 
--- For each, in order: absent where it is required, 5005; there twice or more, 5009; a wrong length, 5014;
--- a wrong value, 5004.
+-- A text that may be there several times (W5).
+unfoldable pub textsField : (most : ℕ) → Name → (required : Bool) → Field
+textsField most n required = record { name = n; required = required; most = most; low = 1; high = 128; allowed = anything }
+
+-- Each AVP of a name in its order: a wrong length, 5014; a wrong value, 5004.
+unfoldable pub eachCode : Field → List Avp → ℕ
+eachCode f [] = 0
+eachCode f (a ∷ xs) =
+    firstOf
+    (require (within (f .low) (f .high) (length (a .value))) 5014
+    ∷ require (f .allowed (a .value)) 5004
+    ∷ eachCode f xs
+    ∷ [])
+
+-- For each field, in order: absent where it is required, 5005; there more often than it may be, 5009; then the AVPs of its
+-- name one by one. For a field that may be there once this is: there twice or more, 5009; a wrong length, 5014; a wrong value,
+-- 5004 (`tested-none`, `tested-one` and `tested-several` of proofs/Tested.antt).
 unfoldable pub testedAs : Field → List Avp → ℕ
 testedAs f [] = require (not (f .required)) 5005
-testedAs f (a ∷ []) =
-    firstOf (require (within (f .low) (f .high) (length (a .value))) 5014 ∷ require (f .allowed (a .value)) 5004 ∷ [])
-testedAs f (a ∷ (b ∷ xs)) = 5009
+testedAs f (a ∷ xs) = firstOf (require (leb (length (a ∷ xs)) (f .most)) 5009 ∷ eachCode f (a ∷ xs) ∷ [])
 
 unfoldable pub fieldCode : List Avp → Field → ℕ
 fieldCode xs f = testedAs f (having (f .name) xs)
@@ -361,40 +380,41 @@ abbrev pub typeOf : List Avp → ℕ
 typeOf xs = net32 (valueOf sessionRequestType xs) 0
 
 -- 265: Auth-Request-Type, 2; Destination-Host; User-Name; Session-Request-Type, 0 or 1; a visited network, which may be
--- absent; the W-APN, required for type 0; the policy, required for type 1. What the type has no use for is tested all the same.
-unfoldable pub for265 : List Avp → List Field
-for265 xs =
+-- absent; the W-APN, required for type 0; the policies, required for type 1. What the type has no use for is tested all the same.
+-- `most` is how many policies a request may bring: 1 where the table is of form 1, 3 where it is of form 2 (W5).
+unfoldable pub for265 : (most : ℕ) → List Avp → List Field
+for265 most xs =
     numberField authRequestType 2 2
     ∷ textField destinationHost true
     ∷ textField userName true
     ∷ numberField sessionRequestType 0 1
     ∷ textField visitedNetwork false
     ∷ labelField wlanApnId (eqb (typeOf xs) 0)
-    ∷ textField routingPolicy (eqb (typeOf xs) 1)
+    ∷ textsField most routingPolicy (eqb (typeOf xs) 1)
     ∷ []
 
 -- 275: Termination-Cause, 1 to 8; Destination-Host; User-Name; the W-APN.
 unfoldable pub for275 : List Field
 for275 = numberField terminationCause 1 8 ∷ textField destinationHost true ∷ textField userName true ∷ labelField wlanApnId true ∷ []
 
-unfoldable pub fields : ℕ → List Avp → List Field
-fields c xs = forBoth ++ pick (eqb c 265) (for265 xs) for275
+unfoldable pub fields : (most : ℕ) → ℕ → List Avp → List Field
+fields most c xs = forBoth ++ pick (eqb c 265) (for265 most xs) for275
 
 -- The code of the first that fails, AVP by AVP in list order, 0 where none does.
-unfoldable pub listCode : ℕ → List Avp → ℕ
-listCode c xs = firstOf (require (startsWith sessionId xs) 5005 ∷ map (fieldCode xs) (fields c xs))
+unfoldable pub listCode : (most : ℕ) → ℕ → List Avp → ℕ
+listCode most c xs = firstOf (require (startsWith sessionId xs) 5005 ∷ map (fieldCode xs) (fields most c xs))
 
 -- Header, then the whole walk, then the lists: the code of the first failing test, 0 where none fails.
-unfoldable pub readingCode : List ℕ → ℕ
-readingCode m = firstOf (headerCode m ∷ walkCode m ∷ listCode (command m) (avps m) ∷ [])
+unfoldable pub readingCode : (most : ℕ) → List ℕ → ℕ
+readingCode most m = firstOf (headerCode m ∷ walkCode m ∷ listCode most (command m) (avps m) ∷ [])
 
 -- WHAT IS ASKED
 
 pub data Ask : Type 0 where
-  -- 265 of type 0: may a tunnel open? Session-Id, Origin-Host, W-APN, and whether a visited network is named
-  tunnel : (session host label : List ℕ) → (visited : Bool) → Ask
-  -- 265 of type 1: Session-Id and policy
-  policy : (session route : List ℕ) → Ask
+  -- 265 of type 0: may a tunnel open? Session-Id, Origin-Host, Origin-Realm, W-APN, and whether a visited network is named
+  tunnel : (session host realm label : List ℕ) → (visited : Bool) → Ask
+  -- 265 of type 1: Session-Id, and the first, the second and the third policy, no bytes where there is none
+  policy : (session first second third : List ℕ) → Ask
   -- 275: Session-Id and W-APN
   termination : (session label : List ℕ) → Ask
 
@@ -406,8 +426,8 @@ unfoldable pub askOf : ℕ → List Avp → Ask
 askOf c xs =
     pick (eqb c 275) (termination (valueOf sessionId xs) (valueOf wlanApnId xs))
     (pick (eqb (typeOf xs) 0)
-    (tunnel (valueOf sessionId xs) (valueOf originHost xs) (valueOf wlanApnId xs) (present visitedNetwork xs))
-    (policy (valueOf sessionId xs) (valueOf routingPolicy xs)))
+    (tunnel (valueOf sessionId xs) (valueOf originHost xs) (valueOf originRealm xs) (valueOf wlanApnId xs) (present visitedNetwork xs))
+    (policy (valueOf sessionId xs) (valueAt 0 routingPolicy xs) (valueAt 1 routingPolicy xs) (valueAt 2 routingPolicy xs)))
 
 unfoldable pub requestOf : ℕ → List Avp → Request
 requestOf c xs = record { user = valueOf userName xs; ask = askOf c xs }
@@ -417,5 +437,5 @@ pub data Reading : Type 0 where
   refused : ℕ → Reading
   request : Request → Reading
 
-unfoldable pub read : List ℕ → Reading
-read m = pick (eqb (readingCode m) 0) (request (requestOf (command m) (avps m))) (refused (readingCode m))
+unfoldable pub read : (most : ℕ) → List ℕ → Reading
+read most m = pick (eqb (readingCode most m) 0) (request (requestOf (command m) (avps m))) (refused (readingCode most m))

@@ -44,9 +44,12 @@ gate = 103 ∷ 97 ∷ 116 ∷ 101 ∷ []
 unfoldable pub session : ℕ → List ℕ
 session letter = 115 ∷ 59 ∷ letter ∷ []
 
--- "gw", the gateway; "aaa" and "r", the server's own host and realm
+-- "gw" and "gr", the gateway and its realm; "aaa" and "r", the server's own host and realm
 unfoldable pub gateway : List ℕ
 gateway = 103 ∷ 119 ∷ []
+
+unfoldable pub gatewayRealm : List ℕ
+gatewayRealm = 103 ∷ 114 ∷ []
 
 unfoldable pub ownHost : List ℕ
 ownHost = 97 ∷ 97 ∷ 97 ∷ []
@@ -67,7 +70,7 @@ requestBytes command body = 1 ∷ in24 (20 + length body) ++ (192 ∷ in24 comma
 
 -- The five AVPs of both lists.
 unfoldable pub bothAvps : List ℕ → List ℕ
-bothAvps sid = avpBytes 263 sid ++ avpBytes 258 (in32 1) ++ avpBytes 264 gateway ++ avpBytes 296 ownRealm ++ avpBytes 283 ownRealm
+bothAvps sid = avpBytes 263 sid ++ avpBytes 258 (in32 1) ++ avpBytes 264 gateway ++ avpBytes 296 gatewayRealm ++ avpBytes 283 ownRealm
 
 -- A 265 for that user, of a type, with more AVPs behind its type.
 unfoldable pub aaRequest : (user sid : List ℕ) → (type : ℕ) → List ℕ → List ℕ
@@ -75,7 +78,7 @@ aaRequest user sid type more =
     requestBytes 265
     (bothAvps sid ++ avpBytes 274 (in32 2) ++ avpBytes 293 ownHost ++ avpBytes 1 user ++ vendorBytes 10415 311 (in32 type) ++ more)
 
--- Type 0 on a label, at home and from a visited network; type 1 with a policy; a termination.
+-- Type 0 on a label, at home and from a visited network; type 1 with a policy, and with several; a termination.
 unfoldable pub openAt : (sid label : List ℕ) → List ℕ
 openAt sid label = aaRequest name sid 0 (vendorBytes 10415 100 label)
 
@@ -84,6 +87,13 @@ openVisited sid label = aaRequest name sid 0 (vendorBytes 10415 600 ownRealm ++ 
 
 unfoldable pub routeBy : (sid route : List ℕ) → List ℕ
 routeBy sid route = aaRequest name sid 1 (vendorBytes 10415 312 route)
+
+unfoldable pub routeAvps : List (List ℕ) → List ℕ
+routeAvps [] = []
+routeAvps (p ∷ ps) = vendorBytes 10415 312 p ++ routeAvps ps
+
+unfoldable pub routeByAll : (sid : List ℕ) → (routes : List (List ℕ)) → List ℕ
+routeByAll sid routes = aaRequest name sid 1 (routeAvps routes)
 
 unfoldable pub endAt : (sid label : List ℕ) → List ℕ
 endAt sid label =

@@ -1,14 +1,14 @@
 // Reading a request over the caller's bytes, up to its fields: nothing is copied, a text is a part of the message.
 ghost use mathlib.Core.Path.{_≡_};
-ghost use mathlib.Core.Bool.{Bool, true};
-ghost use Prim.Native.Nat.{_+_, _*_, _≤_, _<_};
-ghost use lib.ListN.{length, drop};
+ghost use mathlib.Core.Bool.{Bool, true, false, _&&_};
+ghost use Prim.Native.Nat.{ℕ, _+_, _*_, _≤_, _<_};
+ghost use lib.ListN.{length, getD, drop};
 ghost use Rattle.octets.specs.Texts.{zeros};
 ghost use Rattle.octets.specs.Numbers.{net32};
 ghost use Rattle.message.specs.CallsThatGetNoAnswer.{messageNumber};
-ghost use Rattle.message.specs.ReadingAMessage.{base, vendor, avpOf, supported, command, headerCode, walkCode, numberField};
+ghost use Rattle.message.specs.ReadingAMessage.{base, vendor, sameName, routingPolicy, avpCode, avpOf, supported, command, headerCode, requestWalk, avps, walkCode, numberField, textsField, fieldCode};
 ghost use Rattle.message.specs.Positions.{slotOf, nameAt, headOf, headAt, Gathered};
-ghost use Rattle.message.specs.Spans.{bytesField, codeOf, Reads};
+ghost use Rattle.message.specs.Spans.{bytesField, codeOf, Reads, RouteFrom, howMany, isFit, routesCode, RoutesRead};
 
 // Which kind of code a call is answered with.
 pub enum Kind {
@@ -243,6 +243,13 @@ pub enum Got {
     Code(u32),
 }
 
+// What the reader of the policies answers: the first, the second and the third, with no bytes where there is none.
+pub enum Routes {
+    Brought(Span, Span, Span),
+    Missing,
+    Wrong(u32),
+}
+
 // How long the header of an AVP in a slot is: the last four have V.
 fn head_of(slot: usize) -> usize
     ensures { λ r. ⌜ r ≡ headOf slot ⌝ }
@@ -316,25 +323,200 @@ pub fn refusal(g: Got) -> u32
     }
 }
 
+// THE POLICIES
+
+// A Routing-Policy: whether it is there, its value, and where the AVP behind it starts.
+pub struct Route {
+    pub there: bool,
+    pub span: Span,
+    pub next: usize,
+}
+
+// Whether the AVP at a place, which passes the four tests, is a Routing-Policy.
+fn is_route(m: &[u8], at: usize) -> bool
+    requires { ⌜ (at ≤ length (now m)) × (avpCode (drop at (now m)) ≡ 0) ⌝ }
+    ensures { λ r. ⌜ r ≡ sameName routingPolicy ((avpOf (drop at (now (m .entry)))) .name) ⌝ }
+{
+    if m[at + 4] < 128 {
+        return false;
+    }
+    if octets::read32(m, at + 8) != 10415 {
+        return false;
+    }
+    octets::read32(m, at) == 312
+}
+
+// The first Routing-Policy from a place on, in a message whose walk passes from there on, so that no AVP is tested again. Where there is
+// none the next place is the message's end, and whoever goes on from there finds none either.
+fn route_from(m: &[u8], from: usize) -> Route
+    requires { ⌜ (20 ≤ from) × (from ≤ length (now m)) × ((requestWalk (drop from (now m))) .code ≡ 0) ⌝ }
+    ensures { λ r. ⌜ RouteFrom (now (m .entry)) from r ⌝ }
+{
+    let mut at = from;
+    while at < m.len() {
+        let n = octets::read24(m, at + 5);
+        let next = at + (n + 3) / 4 * 4;
+        if is_route(m, at) {
+            return Route {
+                there: true,
+                span: Span {
+                    at: at + 12,
+                    len: n - 12,
+                },
+                next,
+            };
+        }
+        at = next;
+    }
+    Route {
+        there: false,
+        span: Span { at: 0, len: 0 },
+        next: m.len(),
+    }
+}
+
+// How many there are, up to four, by whether there is a second, a third and a fourth.
+fn how_many(second: bool, third: bool, fourth: bool) -> usize
+    ensures { λ r. ⌜ r ≡ howMany second third fourth ⌝ }
+{
+    if fourth {
+        return 4;
+    }
+    if third {
+        return 3;
+    }
+    if second {
+        return 2;
+    }
+    1
+}
+
+// Whether one has 1 to 128 bytes, if it is there.
+fn is_fit(r: Route) -> bool
+    ensures { λ b. ⌜ b ≡ isFit r ⌝ }
+{
+    if !r.there {
+        return true;
+    }
+    if r.span.len < 1 {
+        return false;
+    }
+    r.span.len <= 128
+}
+
+fn all_fit(a: Route, b: Route, c: Route) -> bool
+    ensures { λ r. ⌜ r ≡ isFit a && (isFit b && isFit c) ⌝ }
+{
+    if !is_fit(a) {
+        return false;
+    }
+    if !is_fit(b) {
+        return false;
+    }
+    is_fit(c)
+}
+
+// The Routing-Policies of a message whose walk passed, by a walk of their own that stops at the fourth: more than `most`, up to 3,
+// are too many.
+fn all_routes(m: &[u8], most: usize) -> Routes
+    requires { ⌜ (20 ≤ length (now m)) × (walkCode (now m) ≡ 0) × (most ≤ 3) ⌝ }
+    ensures { λ r. ⌜ RoutesRead most (now (m .entry)) r ⌝ }
+{
+    let a = route_from(m, 20);
+    let b = route_from(m, a.next);
+    let c = route_from(m, b.next);
+    let d = route_from(m, c.next);
+    if !a.there {
+        return Routes::Missing;
+    }
+    if most < how_many(b.there, c.there, d.there) {
+        return Routes::Wrong(5009);
+    }
+    if !all_fit(a, b, c) {
+        return Routes::Wrong(5014);
+    }
+    let first = a.span;
+    let second = b.span;
+    let third = c.span;
+    Routes::Brought(first, second, third)
+}
+
+// The field of Routing-Policy by what the walk that gathers has noted, for any number of them that is allowed, if only one is where there
+// are more.
+fn one_route(m: &[u8], index: &[usize]) -> Routes
+    requires { ⌜ Gathered (now m) (now index) ⌝ }
+    ensures { λ r. ⌜ ((most : ℕ) → 1 ≤ most → (getD (now (index .entry)) 13 0 ≡ 1 → most ≡ 1) → RoutesRead most (now (m .entry)) r) ⌝ }
+{
+    let g = text_field(m, index, 13, 1, 128);
+    match g {
+        Got::Found(first) => Routes::Brought(first, Span { at: 0, len: 0 }, Span { at: 0, len: 0 }),
+        Got::Absent => Routes::Missing,
+        Got::Code(n) => Routes::Wrong(n),
+    }
+}
+
+// The field of Routing-Policy, of which a request may bring up to `most`. The walk that gathers has seen whether there is more than one;
+// only then, and only where more are allowed, the message is walked again.
+pub fn routes_field(m: &[u8], index: &[usize], most: usize) -> Routes
+    requires { ⌜ (20 ≤ length (now m)) × (walkCode (now m) ≡ 0) × (1 ≤ most) × (most ≤ 3) × Gathered (now m) (now index) ⌝ }
+    ensures { λ r. ⌜ RoutesRead most (now (m .entry)) r ⌝ }
+{
+    if index[13] == 1 {
+        if 1 < most {
+            return all_routes(m, most);
+        }
+    }
+    one_route(m, index)
+}
+
+// The code of policies that need not be there, 0 where they pass: most requests that ask for a tunnel bring none.
+pub fn routes_code(m: &[u8], index: &[usize], most: usize) -> u32
+    requires { ⌜ (20 ≤ length (now m)) × (walkCode (now m) ≡ 0) × (1 ≤ most) × (most ≤ 3) × Gathered (now m) (now index) ⌝ }
+    ensures { λ r. ⌜ r ≡ fieldCode (avps (now (m .entry))) (textsField most routingPolicy false) ⌝ }
+{
+    if index[13] == 0 {
+        return 0;
+    }
+    let g = routes_field(m, index, most);
+    match g {
+        Routes::Wrong(n) => n,
+        _ => 0,
+    }
+}
+
+// What policies that are required and were not found are refused with.
+pub fn routes_refusal(g: Routes) -> u32
+    ensures { λ r. ⌜ r ≡ routesCode true g ⌝ }
+{
+    match g {
+        Routes::Brought(_, _, _) => 0,
+        Routes::Missing => 5005,
+        Routes::Wrong(n) => n,
+    }
+}
+
 // WHAT THE LISTS GIVE
 
-// The first five fields, of both requests: Session-Id and Origin-Host, or the code of the first that fails.
+// The first five fields, of both requests: Session-Id, Origin-Host and Origin-Realm, or the code of the first that fails.
 pub enum Both {
-    Held(Span, Span),
+    Held(Span, Span, Span),
     Failed(u32),
 }
 
-// What is asked, by parts of the message.
+// What is asked, by parts of the message; a second and a third policy that are not there have no bytes.
 pub enum Asked {
     Tunnel {
         session: Span,
         host: Span,
+        realm: Span,
         label: Span,
         visited: bool,
     },
     Policy {
         session: Span,
-        route: Span,
+        first: Span,
+        second: Span,
+        third: Span,
     },
     Termination {
         session: Span,

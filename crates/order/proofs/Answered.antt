@@ -9,10 +9,10 @@ use Rattle.octets.specs.Choice.{pick}
 use Rattle.octets.proofs.Lists.{by-test}
 use Rattle.message.specs.Codes.{Code, plain, userUnknown, numberOf}
 use Rattle.message.specs.ReadingAMessage.{read, readingCode}
-use Rattle.table.specs.TheTable.{Found, row, nothing, isFound, rowAt, readRow}
+use Rattle.table.specs.TheTable.{Table, Found, row, nothing, isFound, rowAt, readRow}
 use Rattle.table.specs.Soundness.{sound}
 use Rattle.rules.specs.Deciding.{Verdict, decide}
-use Rattle.rules.specs.Calls.{Call, callNumber, silent, refusal, settled, onRow, onReading, handle}
+use Rattle.rules.specs.Calls.{Call, callNumber, silent, refusal, settled, mostPolicies, onRow, onReading, handle}
 use Rattle.order.specs.ChecksInOrder.{Check, pass, noRow, unsoundRow, check, firstFailed, codeGiven, firstFailing, noneFails, readingChecks, decidingChecks}
 use Rattle.order.specs.Demand2.{requestIn, found, rowFound, rowBefore, said, checks}
 use Rattle.order.proofs.Read.{first-of, none-of, Gives, passes, fails, reading-gives}
@@ -24,44 +24,48 @@ pub record Stops (code : Code) (cs : List Check) : Type 0 where
   pub none : noneFails cs ≡ false
   pub other-code : eqb (numberOf code) 2001 ≡ false
 
-module _ (m : List ℕ) (cs : List Check) where
-  stops-at : eqb (readingCode m) 0 ≡ false → Gives (readingCode m) (readingChecks m) → Stops (plain (readingCode m)) (readingChecks m ++ cs)
+module _ (most : ℕ) (m : List ℕ) (cs : List Check) where
+  stops-at : eqb (readingCode most m) 0 ≡ false → Gives (readingCode most m) (readingChecks most m) → Stops (plain (readingCode most m)) (readingChecks most m ++ cs)
   unfolding firstFailed codeGiven firstFailing noneFails numberOf
-  stops-at h (passes z p) = absurd (eqb-false (readingCode m) 0 h z)
+  stops-at h (passes z p) = absurd (eqb-false (readingCode most m) 0 h z)
   stops-at h (fails what z o p) =
       record {
-        first = ap codeGiven (first-of (readingChecks m) cs) ∙ rw p;
-        none = none-of (readingChecks m) cs ∙ rw p;
+        first = ap codeGiven (first-of (readingChecks most m) cs) ∙ rw p;
+        none = none-of (readingChecks most m) cs ∙ rw p;
         other-code = o;
       }
 
-  all-pass : readingCode m ≡ 0 → Gives (readingCode m) (readingChecks m) → firstFailed (readingChecks m) ≡ pass
+  all-pass : readingCode most m ≡ 0 → Gives (readingCode most m) (readingChecks most m) → firstFailed (readingChecks most m) ≡ pass
   all-pass h (passes z p) = p
-  all-pass h (fails what z o p) = absurd (eqb-false (readingCode m) 0 z h)
+  all-pass h (fails what z o p) = absurd (eqb-false (readingCode most m) 0 z h)
 
-  reading-stops : eqb (readingCode m) 0 ≡ false → Stops (plain (readingCode m)) (readingChecks m ++ cs)
-  reading-stops h = stops-at h (reading-gives m)
+  reading-stops : eqb (readingCode most m) 0 ≡ false → Stops (plain (readingCode most m)) (readingChecks most m ++ cs)
+  reading-stops h = stops-at h (reading-gives most m)
 
-  module _ (h : readingCode m ≡ 0) where
-    reading-first : firstFailing (readingChecks m ++ cs) ≡ firstFailing cs
+  module _ (h : readingCode most m ≡ 0) where
+    reading-first : firstFailing (readingChecks most m ++ cs) ≡ firstFailing cs
     unfolding firstFailed firstFailing
-    reading-first = ap codeGiven (first-of (readingChecks m) cs) ∙ rw (all-pass h (reading-gives m))
+    reading-first = ap codeGiven (first-of (readingChecks most m) cs) ∙ rw (all-pass h (reading-gives most m))
 
-    reading-none : noneFails (readingChecks m ++ cs) ≡ noneFails cs
+    reading-none : noneFails (readingChecks most m ++ cs) ≡ noneFails cs
     unfolding noneFails
-    reading-none = none-of (readingChecks m) cs ∙ rw (all-pass h (reading-gives m))
+    reading-none = none-of (readingChecks most m) cs ∙ rw (all-pass h (reading-gives most m))
 
 -- HOW A CALL GOES
 
-module _ (t : List ℕ) (c : Call) where
+module _ (t : Table) (c : Call) where
+  -- how many policies its message may bring
+  abbrev pub may : ℕ
+  may = mostPolicies (t .form)
+
   abbrev pub verdict : ℕ → Verdict
-  verdict i = decide ((requestIn c) .ask) (c .wag) (readRow (rowAt t i))
+  verdict i = decide (t .form) ((requestIn c) .ask) (c .wag) (readRow (rowAt t i))
 
   abbrev pub decisive : ℕ → List Check
   decisive i = decidingChecks ((requestIn c) .ask) (c .wag) (readRow (rowAt t i))
 
   pub record OnRow (i : ℕ) : Type 0 where
-    pub was-read : readingCode (c .message) ≡ 0
+    pub was-read : readingCode may (c .message) ≡ 0
     pub at : found t c ≡ row i
     pub before : rowBefore t c ≡ rowAt t i
     pub was-sound : sound (rowAt t i) ≡ true
@@ -85,22 +89,22 @@ module _ (t : List ℕ) (c : Call) where
   no-answer e = rw e
 
   module _ (answered : eqb (callNumber t c) 0 ≡ true) where
-    unread : eqb (readingCode (c .message)) 0 ≡ false → handle t c ≡ refusal t c (plain (readingCode (c .message)))
+    unread : eqb (readingCode may (c .message)) 0 ≡ false → handle t c ≡ refusal t c (plain (readingCode may (c .message)))
     unfolding handle read onReading pick
     unread h = rw (answered, h)
 
-    module _ (h : readingCode (c .message) ≡ 0) where
+    module _ (h : readingCode may (c .message) ≡ 0) where
       on-row : handle t c ≡ onRow t c (requestIn c) (found t c)
       unfolding handle read onReading requestIn found pick
       on-row = rw (answered, h)
 
       first-is : firstFailing (checks t c) ≡ firstFailing behind
       unfolding checks
-      first-is = reading-first (c .message) behind h
+      first-is = reading-first may (c .message) behind h
 
       none-is : noneFails (checks t c) ≡ noneFails behind
       unfolding checks
-      none-is = reading-none (c .message) behind h
+      none-is = reading-none may (c .message) behind h
 
       unknown : found t c ≡ nothing → Went
       unfolding onRow check isFound firstFailed codeGiven firstFailing noneFails numberOf
@@ -139,7 +143,7 @@ module _ (t : List ℕ) (c : Call) where
   unfolding checks
   went =
       by-test (eqb (callNumber t c) 0)
-      (λ a. by-test (eqb (readingCode (c .message)) 0)
-      (λ r. by-found a (eqb-true (readingCode (c .message)) 0 r) (found t c) refl)
-      (λ r. stopped (plain (readingCode (c .message))) a (reading-stops (c .message) behind r) (unread a r)))
+      (λ a. by-test (eqb (readingCode may (c .message)) 0)
+      (λ r. by-found a (eqb-true (readingCode may (c .message)) 0 r) (found t c) refl)
+      (λ r. stopped (plain (readingCode may (c .message))) a (reading-stops may (c .message) behind r) (unread a r)))
       (λ a. unanswered a (no-answer a))

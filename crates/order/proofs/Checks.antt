@@ -11,7 +11,7 @@ use Rattle.octets.specs.Choice.{pick}
 use Rattle.octets.proofs.Lists.{by-test, and-left, and-right}
 use Rattle.message.specs.Codes.{Code, plain, numberOf, kindOf}
 use Rattle.message.specs.ReadingAMessage.{Ask}
-use Rattle.table.specs.TheTable.{Access, Subscriber, isFound, rowAt, withRow, readRow, rowBytes}
+use Rattle.table.specs.TheTable.{Access, Subscriber, Table, isFound, rowAt, withRow, readRow, rowBytes}
 use Rattle.table.proofs.Sound.{says-good}
 use Rattle.rules.specs.Deciding.{Verdict, refuse}
 use Rattle.rules.specs.Calls.{Call, Left, callNumber, silent, reply, refusal, tableAfter, settled, resultOf, noticeRoom, handle}
@@ -48,7 +48,7 @@ module _ (n place : ℕ) (code : Code) where
   unfolding resultOf
   no-cut cut h = rw h
 
-module _ (t : List ℕ) (c : Call) (i : ℕ) (v : Verdict) where
+module _ (t : Table) (c : Call) (i : ℕ) (v : Verdict) where
   settled-code : (settled t c i v) .reply .result .code ≡ numberOf (v .code)
   unfolding settled reply
   settled-code = result-code _ _ _ (v .cut)
@@ -101,11 +101,11 @@ module _ (cs : List Check) (won : Verdict) (s : Subscriber) (v : Verdict) where
 
 -- THE CODE
 
-module _ (t : List ℕ) (c : Call) where
-  abbrev how : (i : ℕ) → Decided (decisive t c i) (granting ((requestIn c) .ask) (readRow (rowAt t i))) (readRow (rowAt t i)) (verdict t c i)
-  how i = decided ((requestIn c) .ask) (c .wag) (readRow (rowAt t i))
+module _ (t : Table) (c : Call) where
+  abbrev how : (i : ℕ) → Decided (decisive t c i) (granting (t .form) ((requestIn c) .ask) (readRow (rowAt t i))) (readRow (rowAt t i)) (verdict t c i)
+  how i = decided (t .form) ((requestIn c) .ask) (c .wag) (readRow (rowAt t i))
 
-  grants-2001 : (i : ℕ) → (granting ((requestIn c) .ask) (readRow (rowAt t i))) .code ≡ plain 2001
+  grants-2001 : (i : ℕ) → (granting (t .form) ((requestIn c) .ask) (readRow (rowAt t i))) .code ≡ plain 2001
   unfolding granting
   grants-2001 i = refl
 
@@ -132,7 +132,7 @@ success-exactly t c = success-went t c (went t c)
 
 -- A REFUSAL
 
-module _ (t : List ℕ) (c : Call) where
+module _ (t : Table) (c : Call) where
   refused-went : succeeds t c ≡ false → Went t c → Unchanged t c (handle t c)
   unfolding succeeds silent refusal reply resultOf noticeRoom
   refused-went h (unanswered a l) =
@@ -169,12 +169,12 @@ refused-changes-nothing t c h = refused-went t c (sym (success-exactly t c) ∙ 
 
 -- THE CUT
 
-module _ (t : List ℕ) (c : Call) where
+module _ (t : Table) (c : Call) where
   abbrev pub asked : Ask
   asked = (requestIn c) .ask
 
   module _ (i : ℕ) (o : OnRow t c i) (h : noneFails (checks t c) ≡ true) where
-    pub granted : verdict t c i ≡ granting asked (readRow (rowAt t i))
+    pub granted : verdict t c i ≡ granting (t .form) asked (readRow (rowAt t i))
     granted = granted-is _ _ _ _ (how t c i) (sym (o .none) ∙ h)
 
     cut-is : (verdict t c i) .cut ≡ cutBy asked (readRow (rowAt t i))
@@ -192,7 +192,7 @@ module _ (t : List ℕ) (c : Call) where
         rw (o .leaves, e) (settled-one t c i (verdict t c i) (ap length (cut-is ∙ f .first) ∙ f .some)))
         (λ e. rw (o .leaves, e) (settled-none t c i (verdict t c i) (cut-is ∙ cut-none asked (readRow (rowAt t i)) e)))
 
-    pub written : (settled t c i (verdict t c i)) .table ≡ withRow t i (rowBytes (afterwards asked (readRow (rowAt t i))))
+    pub written : (settled t c i (verdict t c i)) .table ≡ withRow t i (rowBytes (t .form) (afterwards (t .form) asked (readRow (rowAt t i))))
     unfolding tableAfter settled granting numberOf pick
     written = rw granted
 
@@ -245,7 +245,7 @@ success-reply t c h = reply-won t c (won-went t c h (went t c))
 
 -- THE ROWS
 
-module _ (t : List ℕ) (c : Call) where
+module _ (t : Table) (c : Call) where
   finds-won : Won t c → isFound (found t c) ≡ true
   unfolding isFound
   finds-won (won i o a h) = rw (o .at)

@@ -88,7 +88,7 @@ unfolding firstAlone
 one-alone [] l = absurd (omega arith)
 one-alone (x ∷ a) l = refl
 
-module _ (n : ℕ) (s : Subscriber) (g : Good s) (ex : within 1 (length (s .entries)) n ≡ true) (full : atLimit n s ≡ true) where
+module _ {fm : ℕ} (n : ℕ) (s : Subscriber) (g : Good fm s) (ex : within 1 (length (s .entries)) n ≡ true) (full : atLimit n s ≡ true) where
   at-least-one : 1 ≤ length (onEntry n (s .accesses))
   unfolding atLimit
   at-least-one =
@@ -99,21 +99,21 @@ module _ (n : ℕ) (s : Subscriber) (g : Good s) (ex : within 1 (length (s .entr
   first-cut = record { some = one-alone _ at-least-one; first = first-at _ (s .accesses) (g .accesses-good .places-once) at-least-one }
 
 -- an opening that succeeds names an entry
-pub entry-there : (session host label : List ℕ) (visited wag : Bool) (s : Subscriber)
-    → noneFails (decidingChecks (tunnel session host label visited) wag s) ≡ true → eqb (entryNamed label s) 0 ≡ false
+pub entry-there : (session host realm label : List ℕ) (visited wag : Bool) (s : Subscriber)
+    → noneFails (decidingChecks (tunnel session host realm label visited) wag s) ≡ true → eqb (entryNamed label s) 0 ≡ false
 unfolding decidingChecks check noneFails
-entry-there session host label visited wag s h =
+entry-there session host realm label visited wag s h =
     by-test (eqb (entryNamed label s) 0) (λ e. let z : false ≡ true = rw e at h in cc) (λ e. e)
 
-pub cut-first : (q : Ask) (wag : Bool) (s : Subscriber) → Good s → noneFails (decidingChecks q wag s) ≡ true → exceeds q s ≡ true → FirstCut (cutBy q s) (onAsked q s)
+pub cut-first : {fm : ℕ} (q : Ask) (wag : Bool) (s : Subscriber) → Good fm s → noneFails (decidingChecks q wag s) ≡ true → exceeds q s ≡ true → FirstCut (cutBy q s) (onAsked q s)
 unfolding exceeds onAsked cutBy pick
-cut-first (tunnel session host label visited) wag s g h e =
-    rw e (first-cut (entryNamed label s) s g (entry-found label s (entry-there session host label visited wag s h)) e)
-cut-first (policy session route) wag s g h e = let y : _≡_ {A = ℕ} 0 1 = cc in absurd (omega arith)
+cut-first (tunnel session host realm label visited) wag s g h e =
+    rw e (first-cut (entryNamed label s) s g (entry-found label s (entry-there session host realm label visited wag s h)) e)
+cut-first (policy session first second third) wag s g h e = let y : _≡_ {A = ℕ} 0 1 = cc in absurd (omega arith)
 cut-first (termination session label) wag s g h e = let y : _≡_ {A = ℕ} 0 1 = cc in absurd (omega arith)
 
 pub cut-none : (q : Ask) (s : Subscriber) → exceeds q s ≡ false → cutBy q s ≡ []
 unfolding exceeds cutBy pick
-cut-none (tunnel session host label visited) s e = rw e
-cut-none (policy session route) s e = refl
+cut-none (tunnel session host realm label visited) s e = rw e
+cut-none (policy session first second third) s e = refl
 cut-none (termination session label) s e = refl

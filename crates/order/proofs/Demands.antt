@@ -1,7 +1,7 @@
 -- The demands, each a statement of specs/ with its proof, which stands in the file that is cited.
 use Rattle.order.specs.Demand2.{FirstFailingCheck, SuccessExactly, RefusedChangesNothing, UnansweredLeaves, RefusedLeaves, CutExactly, OneToCut, SuccessReply, SuccessFindsRow, SuccessReplacesRow, OtherRowsStay, SoundStaysSound, SoundStaysInList}
 use Rattle.order.specs.ChecksInOrder.{TellsTheByte, TellsTheUnknown}
-use Rattle.order.specs.Demand3.{OneReplyEach, EachInTurn, LastTable, RepliesAlone, RecordAlone, LookupStays, BroughtDecides, RoomsAfter, SameTable, SameReplies, SameRecord, NobodysReply, NobodyChangesNothing, NobodysReplies, SubjectCounts, SenderCounts, NoSender, RepliesAloneBy, RecordAloneBy, SameTableBy, SameRepliesBy, SameRecordBy}
+use Rattle.order.specs.Demand3.{FormStays, OneReplyEach, EachInTurn, LastTable, RepliesAlone, RecordAlone, LookupStays, BroughtDecides, RoomsAfter, SameTable, SameReplies, SameRecord, NobodysReply, NobodyChangesNothing, NobodysReplies, SubjectCounts, SenderCounts, NoSender, RepliesAloneBy, RecordAloneBy, SameTableBy, SameRepliesBy, SameRecordBy}
 use Rattle.order.specs.OpenedFirst.{LineIsHistory, EntriesStay, CutOpenedFirst, SecondRowStays, UnsoundRowStays}
 use Rattle.order.specs.OpenedAgain.{OpenedAgainStandsLast}
 use Rattle.order.specs.NoSecondAnswer.{OneClearing, OneEntering, OneAdding, OneAnswer}
@@ -119,6 +119,10 @@ pub last-table : LastTable
 last-table = Lists.last-table
 
 -- DEMAND 3
+
+-- all calls of a list meet a table of one form
+pub form-stays : FormStays
+form-stays = Lists.form-stays
 
 -- each subscriber's answers and cuts are those of its calls alone
 pub replies-alone : RepliesAlone

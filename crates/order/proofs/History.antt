@@ -16,10 +16,10 @@ use Rattle.octets.proofs.Lists.{by-test, same-eq, within-high}
 use Rattle.octets.proofs.Texts.{length-filled}
 use Rattle.message.specs.Codes.{plain}
 use Rattle.message.specs.ReadingAMessage.{Ask, tunnel, policy, termination}
-use Rattle.table.specs.TheTable.{Access, Subscriber, line}
+use Rattle.table.specs.TheTable.{Access, Policies, Subscriber, line}
 use Rattle.table.specs.Soundness.{onEntry}
 use Rattle.table.proofs.Good.{Good, Standing, goodAccess, standing}
-use Rattle.changes.specs.Changes.{freed, hold, newAccess, opened, routed}
+use Rattle.changes.specs.Changes.{Opening, freed, hold, newAccess, opened, routed}
 use Rattle.rules.specs.Deciding.{entryAt, entryNamed, none, placeOf, withSession}
 use Rattle.rules.specs.Calls.{Call, Reply, noticeRoom, reply, resultOf}
 use Rattle.plans.proofs.Stay.{entry-found}
@@ -45,25 +45,25 @@ unfolding none
 not-none [] h = let z : _≡_ {A = ℕ} 0 1 = cc in absurd (omega arith)
 not-none (a ∷ others) h = first a others refl
 
-module _ (s : Subscriber) (g : Good s) (f : Access → Bool) (a : Access) (others : List Access) (e : keep f (s .accesses) ≡ a ∷ others) where
+module _ {fm : ℕ} (s : Subscriber) (g : Good fm s) (f : Access → Bool) (a : Access) (others : List Access) (e : keep f (s .accesses) ≡ a ∷ others) where
   freed-one : tunnels (freed (placeOf (keep f (s .accesses))) s) ≡ without (a .session) (tunnels s)
   unfolding tunnels freed tunnelOf entryAt placeOf line firstOr
   freed-one = rw e (taken s f (s .accesses) a others (g .accesses-good .places-once) (g .accesses-good .sids-once) e)
 
-  pub fitting : Standing (length (s .entries)) a
-  fitting = standing _ a (first-kept f (goodAccess (length (s .entries))) (s .accesses) a others (g .accesses-good .each) e)
+  pub fitting : Standing fm (length (s .entries)) a
+  fitting = standing _ a (first-kept f (goodAccess fm (length (s .entries))) (s .accesses) a others (g .accesses-good .each) e)
 
-new-last : (n : ℕ) (session host : List ℕ) (s : Subscriber)
-    → tunnels (opened n session host s) ≡ tunnels s ++ (record { session = session; host = host; label = (entryAt n s) .label } ∷ [])
+new-last : (n : ℕ) (o : Opening) (s : Subscriber)
+    → tunnels (opened n o s) ≡ tunnels s ++ (record { session = o .session; host = o .host; label = (entryAt n s) .label } ∷ [])
 unfolding tunnels opened newAccess tunnelOf entryAt
-new-last n session host s = map-append _ (s .accesses) _
+new-last n o s = map-append _ (s .accesses) _
 
-shown-held : (s : Subscriber) (k : ℕ) (route : List ℕ) (xs : List Access) → map (tunnelOf s) (map (hold k route) xs) ≡ map (tunnelOf s) xs
+shown-held : (s : Subscriber) (k : ℕ) (route : Policies) (xs : List Access) → map (tunnelOf s) (map (hold k route) xs) ≡ map (tunnelOf s) xs
 unfolding hold tunnelOf pick
 shown-held s k route [] = refl
 shown-held s k route (x ∷ xs) = by-test (eqb (x .place) k) (λ e. rw (e, shown-held s k route xs)) (λ e. rw (e, shown-held s k route xs))
 
-line-held : (k : ℕ) (route : List ℕ) (s : Subscriber) → tunnels (routed k route s) ≡ tunnels s
+line-held : (k : ℕ) (route : Policies) (s : Subscriber) → tunnels (routed k route s) ≡ tunnels s
 unfolding tunnels routed tunnelOf entryAt
 line-held k route s = shown-held s k route (s .accesses)
 
@@ -76,11 +76,11 @@ entry-spared : (n : ℕ) (q : Ask) (s : Subscriber) → entryAt n (spared q s) �
 unfolding entryAt
 entry-spared n q s = rw (spared-entries q s)
 
-pub same-entries : (q : Ask) (s : Subscriber) → (afterwards q s) .entries ≡ s .entries
+pub same-entries : (fm : ℕ) (q : Ask) (s : Subscriber) → (afterwards fm q s) .entries ≡ s .entries
 unfolding afterwards opened routed freed
-same-entries (tunnel session host label visited) s = spared-entries _ s
-same-entries (policy session route) s = refl
-same-entries (termination session label) s = refl
+same-entries fm (tunnel session host realm label visited) s = spared-entries _ s
+same-entries fm (policy session one two three) s = refl
+same-entries fm (termination session label) s = refl
 
 -- THE NOTICE
 
@@ -90,7 +90,7 @@ text-filled x rest h =
     take-append-le (length x) (filled x 128) rest (rw (length-filled x 128) h)
     ∙ take-take (length x) 128 (x ++ zeros 128) h ∙ take-at x (zeros 128) (length x) refl
 
-module _ (c : Call) (place : ℕ) (n : ℕ) (a : Access) (fits : Standing n a) where
+module _ {fm : ℕ} (c : Call) (place : ℕ) (n : ℕ) (a : Access) (fits : Standing fm n a) where
   abbrev pub told : Reply
   told = reply c (plain 2001) place (a ∷ [])
 
@@ -108,11 +108,11 @@ module _ (c : Call) (place : ℕ) (n : ℕ) (a : Access) (fits : Standing n a) w
 
 -- A REQUEST THAT SUCCEEDS
 
-module _ (c : Call) (place : ℕ) (s : Subscriber) (g : Good s) where
+module _ {fm : ℕ} (c : Call) (place : ℕ) (s : Subscriber) (g : Good fm s) where
   -- what was cut, if anything, and the line that is left
-  module _ (session host label : List ℕ) (visited : Bool) where
+  module _ (session host realm label : List ℕ) (visited : Bool) where
     abbrev asked : Ask
-    asked = tunnel session host label visited
+    asked = tunnel session host realm label visited
 
     abbrev replied : Reply
     replied = reply c (plain 2001) place (cutFor asked s)
@@ -128,13 +128,13 @@ module _ (c : Call) (place : ℕ) (s : Subscriber) (g : Good s) where
     unfolding spared cutFor reply resultOf pick
     spared-all e = rw e
 
-    line-tunnel : (wag : Bool) → noneFails (decidingChecks asked wag s) ≡ true → tunnels (afterwards asked s) ≡ lineAfter (s .entries) asked replied (tunnels s)
+    line-tunnel : (form : ℕ) (wag : Bool) → noneFails (decidingChecks asked wag s) ≡ true → tunnels (afterwards form asked s) ≡ lineAfter (s .entries) asked replied (tunnels s)
     unfolding afterwards lineAfter
-    line-tunnel wag h =
-        let there : eqb (entryNamed label s) 0 ≡ false = entry-there session host label visited wag s h in
+    line-tunnel form wag h =
+        let there : eqb (entryNamed label s) 0 ≡ false = entry-there session host realm label visited wag s h in
         let left : tunnels (spared asked s) ≡ pick (eqb (replied .result .cut) 1) (without (sessionCut replied) (tunnels s)) (tunnels s) =
         by-test (exceeds asked s) (λ e. spared-cut e (first-alone _ ((cut-first asked wag s g h e) .some))) (λ e. spared-all e) in
-        rw (label-is label s there, ← left, ← entry-spared (entryNamed label s) asked s) (new-last (entryNamed label s) session host (spared asked s))
+        rw (label-is label s there, ← left, ← entry-spared (entryNamed label s) asked s) (new-last (entryNamed label s) _ (spared asked s))
 
   module _ (session label : List ℕ) where
     abbrev pub ended : List Access
@@ -154,18 +154,18 @@ module _ (c : Call) (place : ℕ) (s : Subscriber) (g : Good s) where
     ended-one wag h = not-none ended (by-test (none ended) (λ e. let z : false ≡ true = rw e at h in cc) (λ e. e))
 
 -- what a request that succeeds leaves on the line is what its reply shows
-pub line-after : (c : Call) (place : ℕ) (q : Ask) (wag : Bool) (s : Subscriber) → Good s → noneFails (decidingChecks q wag s) ≡ true
-    → tunnels (afterwards q s) ≡ lineAfter (s .entries) q (reply c (plain 2001) place (cutFor q s)) (tunnels s)
+pub line-after : {fm : ℕ} (form : ℕ) (c : Call) (place : ℕ) (q : Ask) (wag : Bool) (s : Subscriber) → Good fm s → noneFails (decidingChecks q wag s) ≡ true
+    → tunnels (afterwards form q s) ≡ lineAfter (s .entries) q (reply c (plain 2001) place (cutFor q s)) (tunnels s)
 unfolding afterwards lineAfter
-line-after c place (tunnel session host label visited) wag s g h = line-tunnel c place s g session host label visited wag h
-line-after c place (policy session route) wag s g h = line-held _ route s
-line-after c place (termination session label) wag s g h = line-ended c place s g session label (ended-one c place s g session label wag h)
+line-after form c place (tunnel session host realm label visited) wag s g h = line-tunnel c place s g session host realm label visited form wag h
+line-after form c place (policy session one two three) wag s g h = line-held _ _ s
+line-after form c place (termination session label) wag s g h = line-ended c place s g session label (ended-one c place s g session label wag h)
 
 -- THE CUT
 
-module _ (c : Call) (place : ℕ) (s : Subscriber) (g : Good s) (session host label : List ℕ) (visited : Bool) (there : eqb (entryNamed label s) 0 ≡ false) where
+module _ {fm : ℕ} (c : Call) (place : ℕ) (s : Subscriber) (g : Good fm s) (session host realm label : List ℕ) (visited : Bool) (there : eqb (entryNamed label s) 0 ≡ false) where
   abbrev opening : Ask
-  opening = tunnel session host label visited
+  opening = tunnel session host realm label visited
 
   abbrev answered : Reply
   answered = reply c (plain 2001) place (cutFor opening s)
@@ -180,10 +180,10 @@ module _ (c : Call) (place : ℕ) (s : Subscriber) (g : Good s) (session host la
       rw (label-is label s there, line, e, on, tunnel-told c place _ a (fitting s g _ a others on), ← own)
 
 -- at the limit, the first on the label that is asked for is the one that the notice names
-pub cut-named : (c : Call) (place : ℕ) (q : Ask) (wag : Bool) (s : Subscriber) → Good s → noneFails (decidingChecks q wag s) ≡ true → exceeds q s ≡ true
+pub cut-named : {fm : ℕ} (c : Call) (place : ℕ) (q : Ask) (wag : Bool) (s : Subscriber) → Good fm s → noneFails (decidingChecks q wag s) ≡ true → exceeds q s ≡ true
     → take 1 (onLabel (labelIn (s .entries) (labelAsked q)) (tunnels s)) ≡ tunnelCut (labelIn (s .entries) (labelAsked q)) (reply c (plain 2001) place (cutFor q s)) ∷ []
 unfolding exceeds labelAsked
-cut-named c place (tunnel session host label visited) wag s g h e =
-    first-named c place s g session host label visited (entry-there session host label visited wag s h) e (first-alone _ ((cut-first (tunnel session host label visited) wag s g h e) .some))
-cut-named c place (policy session route) wag s g h e = cc
+cut-named c place (tunnel session host realm label visited) wag s g h e =
+    first-named c place s g session host realm label visited (entry-there session host realm label visited wag s h) e (first-alone _ ((cut-first (tunnel session host realm label visited) wag s g h e) .some))
+cut-named c place (policy session one two three) wag s g h e = cc
 cut-named c place (termination session label) wag s g h e = cc

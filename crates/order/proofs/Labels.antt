@@ -66,7 +66,7 @@ one-entry (x ∷ es) (suc i) (suc j) d a b e =
     ap suc (one-entry es i j (and-right (every (λ y. not (sameLabel (x .label) y)) (labels es)) _ d) (omega arith) (omega arith) e)
 
 -- the accesses on an entry are the tunnels on its label
-module _ (s : Subscriber) (g : Good s) (n : ℕ) (ex : within 1 (length (s .entries)) n ≡ true) where
+module _ {fm : ℕ} (s : Subscriber) (g : Good fm s) (n : ℕ) (ex : within 1 (length (s .entries)) n ≡ true) where
   label-entry : (m : ℕ) → within 1 (length (s .entries)) m ≡ true → same ((entryAt m s) .label) ((entryAt n s) .label) ≡ eqb m n
   unfolding entryAt
   label-entry m w =
@@ -81,10 +81,10 @@ module _ (s : Subscriber) (g : Good s) (n : ℕ) (ex : within 1 (length (s .entr
       absurd (eqb-false m n e (omega arith)))
       (λ d. d ∙ sym e))
 
-  pub on-label : (xs : List Access) → every (goodAccess (length (s .entries))) xs ≡ true → onLabel ((entryAt n s) .label) (map (tunnelOf s) xs) ≡ map (tunnelOf s) (onEntry n xs)
+  pub on-label : (xs : List Access) → every (goodAccess fm (length (s .entries))) xs ≡ true → onLabel ((entryAt n s) .label) (map (tunnelOf s) xs) ≡ map (tunnelOf s) (onEntry n xs)
   unfolding onLabel onEntry tunnelOf keep every pick
   on-label [] h = refl
   on-label (x ∷ xs) h =
-      let w : within 1 (length (s .entries)) (x .entry) ≡ true = (standing _ x (and-left (goodAccess (length (s .entries)) x) _ h)) .entry-in in
-      let rest : onLabel ((entryAt n s) .label) (map (tunnelOf s) xs) ≡ map (tunnelOf s) (onEntry n xs) = on-label xs (and-right (goodAccess (length (s .entries)) x) _ h) in
+      let w : within 1 (length (s .entries)) (x .entry) ≡ true = (standing _ x (and-left (goodAccess fm (length (s .entries)) x) _ h)) .entry-in in
+      let rest : onLabel ((entryAt n s) .label) (map (tunnelOf s) xs) ≡ map (tunnelOf s) (onEntry n xs) = on-label xs (and-right (goodAccess fm (length (s .entries)) x) _ h) in
       rw (label-entry (x .entry) w) (by-test (eqb (x .entry) n) (λ e. rw (e, rest)) (λ e. rw (e, rest)))

@@ -10,19 +10,20 @@ use lib.Dec.{eqb}
 use lib.ListN.{getD, length, take}
 use Rattle.octets.specs.Choice.{pick}
 use Rattle.octets.proofs.Lists.{and-left, and-right, by-test}
-use Rattle.message.specs.ReadingAMessage.{Ask, readingCode, command, avps, requestOf, request, read}
-use Rattle.table.specs.TheTable.{Account, Entry, Subscriber, Found, row, nothing, later, firstRow, lookup, rows, isRowOf, rowAt, rowLength, tableNumber, readRow}
+use Rattle.message.specs.ReadingAMessage.{Ask, command, avps, requestOf}
+use Rattle.table.specs.TheTable.{Account, Entry, Subscriber, Table, Found, row, nothing, later, firstRow, lookup, rows, isRowOf, rowAt, width, tableNumber, readRow}
 use Rattle.table.specs.Soundness.{sound}
 use Rattle.table.proofs.Sound.{says-good}
 use Rattle.table.proofs.Rows.{nth-row, whole-rows}
-use Rattle.rules.specs.Calls.{account, Call, handle, run, ranFirst, callNumber}
+use Rattle.rules.specs.Calls.{account, Call, handle, mostPolicies, run, ranFirst, callNumber}
 use Rattle.order.specs.Demand2.{requestIn, found, said, succeeds, exceeds, placeTaken}
 use Rattle.order.specs.Demand3.{subscriber, isOf, subject, ownNumber}
 use Rattle.order.specs.OpenedFirst.{lineAfter, history, lineOf, entriesOf, labelIn, labelAsked, onLabel, tunnelCut}
 use Rattle.order.specs.OpenedFirst.{LineIsHistory, EntriesStay, CutOpenedFirst, SecondRowStays, UnsoundRowStays}
 use Rattle.order.proofs.Finding.{finds, finds-owner, subject-eq, subject-refl, same-row}
+use Rattle.order.proofs.Read.{read-is}
 use Rattle.order.proofs.Handling.{was-read, number-good}
-use Rattle.order.proofs.Lists.{lookup-stays}
+use Rattle.order.proofs.Lists.{form-stays, lookup-stays}
 use Rattle.order.proofs.Checks.{cut-exactly, success-exactly, success-reply, refused-changes-nothing, Won, won, won-went}
 use Rattle.order.proofs.Answered.{OnRow, went}
 use Rattle.order.proofs.Rest.{success-replaces-row, other-rows-stay, rows-there, in-table}
@@ -44,14 +45,14 @@ unfolding Passes firstRow pick
 passes f [] = tt
 passes f (r ∷ rs) = by-test (f r) (λ e. rw e e) (λ e. rw e (passes-later f r rs (firstRow f rs) (passes f rs)))
 
-found-row : (t : List ℕ) (who : Account) (i : ℕ) → lookup t who ≡ row i → isRowOf who (getD (rows t) i []) ≡ true
+found-row : (t : Table) (who : Account) (i : ℕ) → lookup t who ≡ row i → isRowOf who (getD (rows t) i []) ≡ true
 unfolding lookup Passes
 found-row t who i e = rw e at (passes (isRowOf who) (rows t))
 
-found-at : (t : List ℕ) (who : Account) (i : ℕ) → tableNumber t ≡ 0 → lookup t who ≡ row i → isRowOf who (rowAt t i) ≡ true
+found-at : (t : Table) (who : Account) (i : ℕ) → tableNumber t ≡ 0 → lookup t who ≡ row i → isRowOf who (rowAt t i) ≡ true
 unfolding lookup rows
 found-at t who i good e =
-    let r : getD (rows t) i [] ≡ rowAt t i = nth-row (length t / rowLength) t (whole-rows t good) i (in-table (isRowOf who) t i e) in
+    let r : getD (rows t) i [] ≡ rowAt t i = nth-row (length (t .bytes) / width t) t (whole-rows t good) i (in-table (isRowOf who) t i e) in
     rw r at (found-row t who i e)
 
 one-owner : (a b : Account) (r : List ℕ) → isRowOf a r ≡ true → isRowOf b r ≡ true → subscriber a ≡ subscriber b
@@ -63,33 +64,29 @@ not-nothing i e = let y : _≡_ {A = ℕ} 0 1 = cc in omega arith
 
 -- A CALL THAT SUCCEEDS
 
-read-is : (m : List ℕ) → readingCode m ≡ 0 → read m ≡ request (requestOf (command m) (avps m))
-unfolding read pick
-read-is m h = rw h
-
-subject-won : (t : List ℕ) (c : Call) (j : ℕ) → OnRow t c j → callNumber t c ≡ 0 → subject c ≡ subscriber (account c (requestIn c))
+subject-won : (t : Table) (c : Call) (j : ℕ) → OnRow t c j → callNumber t c ≡ 0 → subject (t .form) c ≡ subscriber (account c (requestIn c))
 unfolding requestIn
 subject-won t c j o a =
     let own : eqb (ownNumber c) 0 ≡ true = eq-eqb (ownNumber c) 0 (sym (number-good t c (rows-there t c a)) ∙ a) in
-    was-read c (requestOf (command (c .message)) (avps (c .message))) own (read-is (c .message) (o .was-read))
+    was-read (t .form) c (requestOf (command (c .message)) (avps (c .message))) own (read-is (mostPolicies (t .form)) (c .message) (o .was-read))
 
 same-account : (a b : Account) → subscriber a ≡ subscriber b → a ≡ b
 same-account a b e = cc
 
-module _ (t : List ℕ) (who : Account) (i : ℕ) (here : lookup t who ≡ row i) (c : Call) where
+module _ (t : Table) (who : Account) (i : ℕ) (here : lookup t who ≡ row i) (c : Call) where
   -- one on this row is its subscriber's, and one of its subscriber is on this row
-  own-call : found t c ≡ row i → Won t c → isOf (subscriber who) c ≡ true
+  own-call : found t c ≡ row i → Won t c → isOf (t .form) (subscriber who) c ≡ true
   unfolding isOf found
   own-call e (won j o a h) =
-      let s : subject c ≡ subscriber who = subject-won t c j o a ∙ one-owner _ _ _ (found-row t _ i e) (found-row t who i here) in
+      let s : subject (t .form) c ≡ subscriber who = subject-won t c j o a ∙ one-owner _ _ _ (found-row t _ i e) (found-row t who i here) in
       rw s (subject-refl (subscriber who))
 
-  own-row : subject c ≡ subscriber who → Won t c → found t c ≡ row i
+  own-row : subject (t .form) c ≡ subscriber who → Won t c → found t c ≡ row i
   unfolding found
   own-row of (won j o n h) = ap (lookup t) (same-account _ _ (sym (subject-won t c j o n) ∙ of)) ∙ here
 
 -- what its reply shows of the row that it is on
-module _ (t : List ℕ) (c : Call) (i : ℕ) (e : found t c ≡ row i) where
+module _ (t : Table) (c : Call) (i : ℕ) (e : found t c ≡ row i) where
   abbrev asks : Ask
   asks = (requestIn c) .ask
 
@@ -97,18 +94,18 @@ module _ (t : List ℕ) (c : Call) (i : ℕ) (e : found t c ≡ row i) where
   shows s (won j o a h) =
       let q : j ≡ i = same-row j i (sym (o .at) ∙ e) in
       rw ((success-replaces-row t c i s e) .says, success-reply t c s, o .before, q)
-      (line-after c (placeTaken asks (readRow (rowAt t i))) asks (c .wag) (readRow (rowAt t i)) (says-good (rowAt t i) (rw q at (o .was-sound))) (rw q at (sym (o .none) ∙ h)))
+      (line-after (t .form) c (placeTaken asks (readRow (rowAt t i))) asks (c .wag) (readRow (rowAt t i)) (says-good (rowAt t i) (rw q at (o .was-sound))) (rw q at (sym (o .none) ∙ h)))
 
 -- ANY CALL
 
 not-both : {P : Type 0} (b : Bool) → b ≡ true → b ≡ false → P
 not-both b p q = let z : _≡_ {A = ℕ} 0 1 = cc in absurd (omega arith)
 
-won-success : (t : List ℕ) (c : Call) → succeeds t c ≡ true → Won t c
+won-success : (t : Table) (c : Call) → succeeds t c ≡ true → Won t c
 won-success t c s = won-went t c s (went t c)
 
 -- a row is the one that a call which succeeds is on, or it stays
-module _ (t : List ℕ) (c : Call) (i : ℕ) where
+module _ (t : Table) (c : Call) (i : ℕ) where
   data Touched : Type 0 where
     on : succeeds t c ≡ true → found t c ≡ row i → Touched
     stays : rowAt ((handle t c) .table) i ≡ rowAt t i → Touched
@@ -124,19 +121,19 @@ module _ (t : List ℕ) (c : Call) (i : ℕ) where
   touched =
       by-test (succeeds t c)
       (λ h. by-found h (found t c) refl)
-      (λ h. stays (ap (λ (u : List ℕ). rowAt u i) ((refused-changes-nothing t c (success-exactly t c ∙ h)) .table)))
+      (λ h. stays (ap (λ (u : Table). rowAt u i) ((refused-changes-nothing t c (success-exactly t c ∙ h)) .table)))
 
   entries-one : Touched → entriesOf ((handle t c) .table) i ≡ entriesOf t i
-  entries-one (on h e) = ap (λ (s : Subscriber). s .entries) ((success-replaces-row t c i h e) .says) ∙ same-entries _ _
+  entries-one (on h e) = ap (λ (s : Subscriber). s .entries) ((success-replaces-row t c i h e) .says) ∙ same-entries _ _ _
   entries-one (stays e) = ap (λ (r : List ℕ). (readRow r) .entries) e
 
   unsound-one : sound (rowAt t i) ≡ false → Touched → rowAt ((handle t c) .table) i ≡ rowAt t i
   unsound-one u (on h e) = not-both _ ((success-replaces-row t c i h e) .was-sound) u
   unsound-one u (stays e) = e
 
-module _ (t : List ℕ) (who : Account) (i : ℕ) (here : lookup t who ≡ row i) (c : Call) where
+module _ (t : Table) (who : Account) (i : ℕ) (here : lookup t who ≡ row i) (c : Call) where
   abbrev granted : Bool
-  granted = isOf (subscriber who) c && eqb ((handle t c) .reply .result .code) 2001
+  granted = isOf (t .form) (subscriber who) c && eqb ((handle t c) .reply .result .code) 2001
 
   line-stays : granted ≡ false → Touched t c i → lineOf ((handle t c) .table) i ≡ lineOf t i
   line-stays b (on h e) = not-both granted (rw (own-call t who i here c e (won-success t c h), success-exactly t c ∙ h)) b
@@ -146,8 +143,8 @@ module _ (t : List ℕ) (who : Account) (i : ℕ) (here : lookup t who ≡ row i
   unfolding isOf pick
   one-call =
       by-test granted
-      (λ b. let h : succeeds t c ≡ true = sym (success-exactly t c) ∙ and-right (isOf (subscriber who) c) _ b in
-      let of : subject c ≡ subscriber who = subject-eq (subject c) (subscriber who) (and-left (isOf (subscriber who) c) _ b) in
+      (λ b. let h : succeeds t c ≡ true = sym (success-exactly t c) ∙ and-right (isOf (t .form) (subscriber who) c) _ b in
+      let of : subject (t .form) c ≡ subscriber who = subject-eq (subject (t .form) c) (subscriber who) (and-left (isOf (t .form) (subscriber who) c) _ b) in
       rw b (shows t c i (own-row t who i here c of (won-success t c h)) h (won-success t c h)))
       (λ b. rw b (line-stays b (touched t c i)))
 
@@ -186,10 +183,11 @@ pub line-is-history : LineIsHistory
 unfolding run ranFirst history
 line-is-history t [] who i here = refl
 line-is-history t (c ∷ cs) who i here =
-    let u : List ℕ = (handle t c) .table in
+    let u : Table = (handle t c) .table in
     line-is-history u cs who i (lookup-stays t (c ∷ []) who ∙ here)
-    ∙ ap (λ (es : List Entry). history who es cs ((run u cs) .replies) (lineOf u i)) (entries-one t c i (touched t c i))
-    ∙ ap (history who (entriesOf t i) cs ((run u cs) .replies)) (one-call t who i here c)
+    ∙ ap (λ (f : ℕ). history f who (entriesOf u i) cs ((run u cs) .replies) (lineOf u i)) (form-stays t (c ∷ []))
+    ∙ ap (λ (es : List Entry). history (t .form) who es cs ((run u cs) .replies) (lineOf u i)) (entries-one t c i (touched t c i))
+    ∙ ap (history (t .form) who (entriesOf t i) cs ((run u cs) .replies)) (one-call t who i here c)
 
 -- THE CUT
 
@@ -198,7 +196,7 @@ unfolding pick
 cuts true e = refl
 cuts false e = absurd (omega arith)
 
-module _ (t : List ℕ) (c : Call) (i : ℕ) (e : found t c ≡ row i) where
+module _ (t : Table) (c : Call) (i : ℕ) (e : found t c ≡ row i) where
   abbrev labelHere : List ℕ
   labelHere = labelIn (entriesOf t i) (labelAsked ((requestIn c) .ask))
 
@@ -212,10 +210,10 @@ module _ (t : List ℕ) (c : Call) (i : ℕ) (e : found t c ≡ row i) where
 
 pub cut-opened-first : CutOpenedFirst
 cut-opened-first t before c who i here of cut =
-    let u : List ℕ = (run t before) .table in
+    let u : Table = (run t before) .table in
     let both : succeeds u c && exceeds ((requestIn c) .ask) (said u c) ≡ true = cuts _ (sym (cut-exactly u c) ∙ cut) in
     let h : succeeds u c ≡ true = and-left (succeeds u c) _ both in
-    let e : found u c ≡ row i = own-row u who i (lookup-stays t before who ∙ here) c of (won-success u c h) in
-    let line : lineOf u i ≡ history who (entriesOf t i) before ((run t before) .replies) (lineOf t i) = line-is-history t before who i here in
+    let e : found u c ≡ row i = own-row u who i (lookup-stays t before who ∙ here) c (ap (λ (f : ℕ). subject f c) (form-stays t before) ∙ of) (won-success u c h) in
+    let line : lineOf u i ≡ history (t .form) who (entriesOf t i) before ((run t before) .replies) (lineOf t i) = line-is-history t before who i here in
     let entries : entriesOf u i ≡ entriesOf t i = entries-stay t before i in
     rw (← line, ← entries) (names-first u c i e h (and-right (succeeds u c) _ both) (won-success u c h))

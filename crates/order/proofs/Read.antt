@@ -5,7 +5,7 @@ use mathlib.Core.Bool.{Bool, true, false, _&&_, _||_, not}
 use mathlib.Core.List.{List, [], _∷_, _++_, map, flatMap}
 use Prim.Native.Nat.{ℕ, zero, suc, _+_, _-_, _/_, _%_, _<_}
 use native.Mathlib.Omega.{arith}
-use borrow.Author.Tests.{eq-eqb, eqb-false, le-leb, lt-leb}
+use borrow.Author.Tests.{eq-eqb, eqb-false, le-leb}
 use lib.Dec.{eqb, leb}
 use lib.ListN.{length, getD, drop}
 use Rattle.octets.specs.Choice.{pick, require, firstOf, within}
@@ -14,14 +14,14 @@ use Rattle.octets.specs.Numbers.{net24, net32, up4}
 use Rattle.octets.proofs.Lists.{and-left, and-right, both, by-test}
 use Rattle.message.specs.Codes.{plain}
 use Rattle.message.specs.CallsThatGetNoAnswer.{messageNumber}
-use Rattle.message.specs.ReadingAMessage.{Avp, Field, flags, command, application, headerCode, sameName, namedIn01, codesOfAARequest, codesOfTermination, knownAvps, isOneOf, known, headLength, avpLength, avpCode, avpOf, supported, requestCode, behind, requestWalk, body, avps, walkCode, sessionId, having, startsWith, testedAs, fieldCode, fields, listCode, readingCode, requestOf, request, read}
+use Rattle.message.specs.ReadingAMessage.{Avp, Field, flags, command, application, headerCode, sameName, namedIn01, codesOfAARequest, codesOfTermination, knownAvps, isOneOf, known, headLength, avpLength, avpCode, avpOf, supported, requestCode, behind, requestWalk, body, avps, walkCode, sessionId, having, startsWith, eachCode, testedAs, fieldCode, fields, listCode, readingCode, requestOf, request, read}
 use Rattle.message.proofs.Walks.{rest-shorter, walk-end, walk-bad, walk-one, request-four}
 use Rattle.message.proofs.Gathering.{next-on}
-use Rattle.table.specs.TheTable.{tableNumber}
-use Rattle.rules.specs.Calls.{Call, callNumber}
+use Rattle.table.specs.TheTable.{Table, isForm, tableNumber}
+use Rattle.rules.specs.Calls.{Call, callNumber, mostPolicies}
 use Rattle.decision.proofs.Answered.{request-fits}
 use Rattle.plans.specs.Plans.{fitting}
-use Rattle.order.specs.ChecksInOrder.{Failure, sessionIdNotFirst, Check, pass, fail, check, firstFailed, noneFails, headerChecks, avpChecks, walkFrom, walkChecks, fieldChecks, listChecks, readingChecks, shortSecond, TellsTheByte, unknownSecond, TellsTheUnknown}
+use Rattle.order.specs.ChecksInOrder.{Failure, sessionIdNotFirst, wrongLength, wrongValue, Check, pass, fail, check, firstFailed, noneFails, headerChecks, avpChecks, walkFrom, walkChecks, valueChecks, fieldChecks, listChecks, readingChecks, shortSecond, TellsTheByte, unknownSecond, TellsTheUnknown}
 
 -- CHECKS BEFORE OTHERS
 
@@ -137,19 +137,40 @@ pub there-is : (required : Bool) → not required || true ≡ true
 there-is true = refl
 there-is false = refl
 
+-- one test
+one-gives : (what : Failure) (b : Bool) (n : ℕ) → eqb n 0 ≡ false → eqb n 2001 ≡ false → Gives (require b n) (check what b (plain n) ∷ [])
+unfolding require check firstFailed
+one-gives what true n z o = passes refl refl
+one-gives what false n z o = fails what z o refl
+
+-- AVP by AVP
+pub each-gives : (f : Field) (there : List Avp) → Gives (eachCode f there) (flatMap (valueChecks f) there)
+unfolding eachCode valueChecks firstFailed flatMap
+each-gives f [] = passes refl refl
+each-gives f (a ∷ xs) =
+    part _ _ (check (wrongLength (f .name)) (within (f .low) (f .high) (length (a .value))) (plain 5014) ∷ []) _ (one-gives _ _ 5014 refl refl)
+    (part _ _ (check (wrongValue (f .name)) (f .allowed (a .value)) (plain 5004) ∷ []) _ (one-gives _ _ 5004 refl refl)
+    (last _ _ (each-gives f xs)))
+
+-- one is there, so that none is absent; they are too many, or as many as may be
+module _ (f : Field) (a : Avp) (xs : List Avp) where
+  some : leb 1 (length (a ∷ xs)) ≡ true
+  some = le-leb 1 (length (a ∷ xs)) (omega arith)
+
+  too-many : leb (length (a ∷ xs)) (f .most) ≡ false → Gives (testedAs f (a ∷ xs)) (fieldChecks f (a ∷ xs))
+  unfolding testedAs fieldChecks firstOf require check firstFailed pick
+  too-many e = rw (some, there-is (f .required), e) (fails _ refl refl refl)
+
+  not-many : leb (length (a ∷ xs)) (f .most) ≡ true → Gives (testedAs f (a ∷ xs)) (fieldChecks f (a ∷ xs))
+  unfolding testedAs fieldChecks firstOf require check firstFailed pick
+  not-many e = rw (some, there-is (f .required), e) (past _ (pass ∷ pass ∷ []) _ refl (last _ _ (each-gives f (a ∷ xs))))
+
 pub field-gives : (f : Field) (there : List Avp) → Gives (testedAs f there) (fieldChecks f there)
-unfolding testedAs fieldChecks firstOf require check firstFailed every pick
-field-gives f [] = by-test (f .required) (λ e. rw e (fails _ refl refl refl)) (λ e. rw e (passes refl refl))
-field-gives f (a ∷ []) =
-    by-test (within (f .low) (f .high) (length (a .value)))
-    (λ e. by-test (f .allowed (a .value))
-    (λ d. rw (there-is (f .required), e, d) (passes refl refl))
-    (λ d. rw (there-is (f .required), e, d) (fails _ refl refl refl)))
-    (λ e. rw (there-is (f .required), e) (fails _ refl refl refl))
-field-gives f (a ∷ (b ∷ xs)) =
-    let some : leb 1 (length (a ∷ b ∷ xs)) ≡ true = le-leb 1 (length (a ∷ b ∷ xs)) (omega arith) in
-    let more : leb (length (a ∷ b ∷ xs)) 1 ≡ false = lt-leb (length (a ∷ b ∷ xs)) 1 (omega arith) in
-    rw (some, there-is (f .required), more) (fails _ refl refl refl)
+unfolding testedAs fieldChecks require check firstFailed flatMap
+field-gives f [] =
+    let few : leb (length {A = Avp} []) (f .most) ≡ true = le-leb 0 (f .most) (omega arith) in
+    by-test (f .required) (λ e. rw e (fails _ refl refl refl)) (λ e. rw (e, few) (passes refl refl))
+field-gives f (a ∷ xs) = by-test (leb (length (a ∷ xs)) (f .most)) (λ e. not-many f a xs e) (λ e. too-many f a xs e)
 
 fields-give : (xs : List Avp) (fs : List Field) → Gives (firstOf (map (fieldCode xs) fs)) (flatMap (λ (f : Field). fieldChecks f (having (f .name) xs)) fs)
 unfolding fieldCode flatMap
@@ -160,24 +181,24 @@ first-is : (m : List ℕ) → Gives (require (startsWith sessionId (avps m)) 500
 unfolding require check firstFailed
 first-is m = by-test (startsWith sessionId (avps m)) (λ e. rw e (passes refl refl)) (λ e. rw e (fails _ refl refl refl))
 
-list-gives : (m : List ℕ) → Gives (listCode (command m) (avps m)) (listChecks m)
+list-gives : (most : ℕ) (m : List ℕ) → Gives (listCode most (command m) (avps m)) (listChecks most m)
 unfolding listCode listChecks
-list-gives m =
-    part _ _ (check sessionIdNotFirst (startsWith sessionId (avps m)) (plain 5005) ∷ []) _ (first-is m) (fields-give (avps m) (fields (command m) (avps m)))
+list-gives most m =
+    part _ _ (check sessionIdNotFirst (startsWith sessionId (avps m)) (plain 5005) ∷ []) _ (first-is m) (fields-give (avps m) (fields most (command m) (avps m)))
 
-pub reading-gives : (m : List ℕ) → Gives (readingCode m) (readingChecks m)
+pub reading-gives : (most : ℕ) (m : List ℕ) → Gives (readingCode most m) (readingChecks most m)
 unfolding readingCode readingChecks
-reading-gives m =
-    part _ _ (headerChecks m) _ (header-gives m) (part _ _ (walkChecks m) (listChecks m) (walk-gives m) (last _ _ (list-gives m)))
+reading-gives most m =
+    part _ _ (headerChecks m) _ (header-gives m) (part _ _ (walkChecks m) (listChecks most m) (walk-gives m) (last _ _ (list-gives most m)))
 
 -- the byte where an AVP starts that fails, in a case
 pub tells-the-byte : TellsTheByte
 unfolding readingChecks headerChecks walkChecks walkFrom avpChecks check firstFailed shortSecond pick net24 net32 up4 avpOf supported known isOneOf knownAvps namedIn01 codesOfAARequest codesOfTermination sameName
-tells-the-byte = refl
+tells-the-byte most = refl
 
 pub tells-the-unknown : TellsTheUnknown
 unfolding readingChecks headerChecks walkChecks walkFrom avpChecks check firstFailed unknownSecond pick net24 net32 up4 avpOf supported known isOneOf knownAvps namedIn01 codesOfAARequest codesOfTermination sameName
-tells-the-unknown = refl
+tells-the-unknown most = refl
 
 -- NO NUMBER IS 2001
 
@@ -199,16 +220,16 @@ unfolding messageNumber every other
 message-other m =
     first-other _ (both (require-other _ 5 refl) (both (require-other _ 6 refl) (both (require-other _ 7 refl) (both (require-other _ 8 refl) refl))))
 
-pub call-other : (t : List ℕ) (c : Call) → other (callNumber t c) ≡ true
+pub call-other : (t : Table) (c : Call) → other (callNumber t c) ≡ true
 unfolding callNumber tableNumber every other
 call-other t c =
     first-other _ (both (require-other _ 1 refl) (both (require-other _ 33 refl) (both (require-other _ 2 refl) (both (require-other _ 3 refl) (both (require-other _ 4 refl) (both (message-other (c .message)) refl))))))
 
 -- THE TEXTS OF A REQUEST FIT A ROW
 
-read-is : (m : List ℕ) → readingCode m ≡ 0 → read m ≡ request (requestOf (command m) (avps m))
+pub read-is : (most : ℕ) (m : List ℕ) → readingCode most m ≡ 0 → read most m ≡ request (requestOf (command m) (avps m))
 unfolding read pick
-read-is m h = rw (eq-eqb (readingCode m) 0 h)
+read-is most m h = rw (eq-eqb (readingCode most m) 0 h)
 
-pub ask-fits : (m : List ℕ) → readingCode m ≡ 0 → fitting ((requestOf (command m) (avps m)) .ask) ≡ true
-ask-fits m h = request-fits m (requestOf (command m) (avps m)) (read-is m h)
+pub ask-fits : (fm : ℕ) → isForm fm ≡ true → (m : List ℕ) → readingCode (mostPolicies fm) m ≡ 0 → fitting fm ((requestOf (command m) (avps m)) .ask) ≡ true
+ask-fits fm f m h = request-fits fm f m (requestOf (command m) (avps m)) (read-is (mostPolicies fm) m h)

@@ -20,13 +20,14 @@ use Rattle.message.specs.Codes.{Code, plain, userUnknown}
 use Rattle.message.specs.CallsThatGetNoAnswer.{messageNumber}
 use Rattle.message.specs.ReadingAMessage.{Request, Reading, refused, request, read}
 use Rattle.message.specs.WritingTheAnswer.{answer, answerRoom}
-use Rattle.table.specs.TheTable.{Access, Found, row, nothing, lookup, rowAt, readRow, tableNumber}
+use Rattle.table.specs.TheTable.{Access, Found, Table, row, nothing, lookup, rowAt, readRow, tableNumber}
 use Rattle.table.specs.Soundness.{sound}
 use Rattle.changes.proofs.Steps.{keep-map}
 use Rattle.rules.specs.Deciding.{Verdict, decide}
-use Rattle.rules.specs.Calls.{account, Call, Left, answerLeast, noticeLength, callNumber, silent, noticeRoom, resultOf, reply, refusal, settled, onRow, onReading, handle, Ran, ranFirst, run}
+use Rattle.rules.specs.Calls.{account, Call, Left, answerLeast, noticeLength, callNumber, silent, noticeRoom, resultOf, reply, refusal, settled, mostPolicies, onRow, onReading, handle, Ran, ranFirst, run}
 use Rattle.order.specs.Demand3.{Subject, subscriber, sameSubject, ownNumber, sentBy, nobody, subject, isOf, callsOf, recordOf, Brought, brought, Told, told, SameLeft, RoomsOf}
 use Rattle.order.specs.Demand3.{SameBrought, SameTable, SameReplies, SameRecord}
+use Rattle.order.proofs.Handling.{readIn}
 use Rattle.order.proofs.Lists.{equal-calls, replies-alone, record-alone}
 
 -- WHAT AN ANSWERED CALL IS TOLD, and what its rooms hold then
@@ -92,11 +93,11 @@ told-is c code place cut i = record { result = (reply c code place cut) .result;
 
 -- A CALL: the rooms afterwards
 
-rooms-silent : (t : List ℕ) (c : Call) (n : ℕ) → RoomsOf c ((silent t c n) .reply)
+rooms-silent : (t : Table) (c : Call) (n : ℕ) → RoomsOf c ((silent t c n) .reply)
 unfolding silent told pick
 rooms-silent t c n = record { answer = sym (put-nothing (c .answer) 0); notice = sym (put-nothing (c .notice) 0) }
 
-module _ (t : List ℕ) (c : Call) where
+module _ (t : Table) (c : Call) where
   abbrev Roomed : Left → Type 0
   Roomed l = RoomsOf c (l .reply)
 
@@ -112,7 +113,7 @@ module _ (t : List ℕ) (c : Call) where
 
   pub rooms-after : RoomsOf c ((handle t c) .reply)
   unfolding handle
-  rooms-after = by-pick Roomed (eqb (callNumber t c) 0) (λ h. rooms-reading (read (c .message))) (λ h. rooms-silent t c (callNumber t c))
+  rooms-after = by-pick Roomed (eqb (callNumber t c) 0) (λ h. rooms-reading (readIn (t .form) c)) (λ h. rooms-silent t c (callNumber t c))
 
 -- A CALL: what else it leaves depends on what it brings
 
@@ -126,7 +127,7 @@ tests b =
     ∷ messageNumber (b .message)
     ∷ []
 
-module _ (t : List ℕ) (c d : Call) (e : brought c ≡ brought d) where
+module _ (t : Table) (c d : Call) (e : brought c ≡ brought d) where
   same-number : callNumber t c ≡ callNumber t d
   unfolding callNumber tests brought
   same-number = ap (λ (b : Brought). firstOf (tableNumber t ∷ tests b)) e
@@ -163,7 +164,7 @@ module _ (t : List ℕ) (c d : Call) (e : brought c ≡ brought d) where
   same-row q nothing = same-refusal userUnknown
   same-row q (row i) =
       by-test (sound (rowAt t i))
-      (λ h. rw h (subst (λ (w : Bool). SameLeft (settled t c i (decide (q .ask) (c .wag) (readRow (rowAt t i)))) (settled t d i (decide (q .ask) w (readRow (rowAt t i))))) same-word (same-settled i _)))
+      (λ h. rw h (subst (λ (w : Bool). SameLeft (settled t c i (decide (t .form) (q .ask) (c .wag) (readRow (rowAt t i)))) (settled t d i (decide (t .form) (q .ask) w (readRow (rowAt t i))))) same-word (same-settled i _)))
       (λ h. rw h (same-refusal (plain 5012)))
 
   same-reading : (g : Reading) → SameLeft (onReading t c g) (onReading t d g)
@@ -176,7 +177,7 @@ module _ (t : List ℕ) (c d : Call) (e : brought c ≡ brought d) where
   unfolding handle pick
   brought-decides =
       by-test (eqb (callNumber t d) 0)
-      (λ h. rw (same-number, h) (subst (λ (m : List ℕ). SameLeft (onReading t c (read (c .message))) (onReading t d (read m))) same-message (same-reading (read (c .message)))))
+      (λ h. rw (same-number, h) (subst (λ (m : List ℕ). SameLeft (onReading t c (readIn (t .form) c)) (onReading t d (read (mostPolicies (t .form)) m))) same-message (same-reading (readIn (t .form) c))))
       (λ h. rw (same-number, h) (same-silent (callNumber t d)))
 
 -- A LIST OF CALLS
@@ -185,7 +186,7 @@ pub record SameRan (r s : Ran) : Type 0 where
   pub table : r .table ≡ s .table
   pub replies : map told (r .replies) ≡ map told (s .replies)
 
-pub same-run : (t : List ℕ) (cs ds : List Call) → map brought cs ≡ map brought ds → SameRan (run t cs) (run t ds)
+pub same-run : (t : Table) (cs ds : List Call) → map brought cs ≡ map brought ds → SameRan (run t cs) (run t ds)
 unfolding run ranFirst
 same-run t [] [] h = record { table = refl; replies = refl }
 same-run t [] (d ∷ ds) h = absurd (omega (arith, ap length h))
@@ -199,15 +200,15 @@ same-run t (c ∷ cs) (d ∷ ds) h =
 
 -- THE CALLS OF ONE SUBJECT, by what they bring
 
-ofBrought : Subject → Brought → Bool
-ofBrought who b = sameSubject (pick (eqb (firstOf (tests b)) 0) (sentBy (b .operator) (read (b .message))) nobody) who
+ofBrought : (fm : ℕ) → Subject → Brought → Bool
+ofBrought fm who b = sameSubject (pick (eqb (firstOf (tests b)) 0) (sentBy (b .operator) (read (mostPolicies fm) (b .message))) nobody) who
 
-brought-of : (who : Subject) (cs : List Call) → map brought (callsOf who cs) ≡ keep (ofBrought who) (map brought cs)
+brought-of : (fm : ℕ) (who : Subject) (cs : List Call) → map brought (callsOf fm who cs) ≡ keep (ofBrought fm who) (map brought cs)
 unfolding callsOf isOf subject ownNumber tests ofBrought brought
-brought-of who cs = sym (keep-map brought (ofBrought who) cs)
+brought-of fm who cs = sym (keep-map brought (ofBrought fm who) cs)
 
-pub same-of : (who : Subject) (cs ds : List Call) → map brought cs ≡ map brought ds → SameBrought who cs ds
-same-of who cs ds h = brought-of who cs ∙ ap (keep (ofBrought who)) h ∙ sym (brought-of who ds)
+pub same-of : (fm : ℕ) (who : Subject) (cs ds : List Call) → map brought cs ≡ map brought ds → SameBrought fm who cs ds
+same-of fm who cs ds h = brought-of fm who cs ∙ ap (keep (ofBrought fm who)) h ∙ sym (brought-of fm who ds)
 
 -- CALLS WITH ROOMS OF ZEROS, or with none where they are not large enough
 
@@ -242,34 +243,34 @@ zeroed-bring : (cs : List Call) → map brought (zeroed cs) ≡ map brought cs
 zeroed-bring [] = refl
 zeroed-bring (c ∷ cs) = rw (roomed-brings (brought c), zeroed-bring cs)
 
-roomed-is : (who : Subject) (b : Brought) → isOf who (roomed b) ≡ ofBrought who b
+roomed-is : (fm : ℕ) (who : Subject) (b : Brought) → isOf fm who (roomed b) ≡ ofBrought fm who b
 unfolding isOf subject ownNumber tests ofBrought brought
-roomed-is who b = ap (ofBrought who) (roomed-brings b)
+roomed-is fm who b = ap (ofBrought fm who) (roomed-brings b)
 
-zeroed-of : (who : Subject) (cs : List Call) → callsOf who (zeroed cs) ≡ zeroed (callsOf who cs)
+zeroed-of : (fm : ℕ) (who : Subject) (cs : List Call) → callsOf fm who (zeroed cs) ≡ zeroed (callsOf fm who cs)
 unfolding callsOf
-zeroed-of who cs =
-    keep-map roomed (isOf who) (map brought cs)
-    ∙ ap (λ (f : Brought → Bool). map roomed (keep f (map brought cs))) (fun-ext (roomed-is who))
-    ∙ ap (map roomed) (sym (brought-of who cs))
+zeroed-of fm who cs =
+    keep-map roomed (isOf fm who) (map brought cs)
+    ∙ ap (λ (f : Brought → Bool). map roomed (keep f (map brought cs))) (fun-ext (roomed-is fm who))
+    ∙ ap (map roomed) (sym (brought-of fm who cs))
 
-zeroed-same : (who : Subject) (cs ds : List Call) → SameBrought who cs ds → callsOf who (zeroed cs) ≡ callsOf who (zeroed ds)
-zeroed-same who cs ds h = zeroed-of who cs ∙ ap (map roomed) h ∙ sym (zeroed-of who ds)
+zeroed-same : (fm : ℕ) (who : Subject) (cs ds : List Call) → SameBrought fm who cs ds → callsOf fm who (zeroed cs) ≡ callsOf fm who (zeroed ds)
+zeroed-same fm who cs ds h = zeroed-of fm who cs ∙ ap (map roomed) h ∙ sym (zeroed-of fm who ds)
 
 -- DEMAND 3
 
 pub same-table : SameTable
 same-table t cs ds h =
     sym ((same-run t (zeroed cs) cs (zeroed-bring cs)) .table)
-    ∙ equal-calls t (zeroed cs) (zeroed ds) (λ name. zeroed-same (subscriber name) cs ds (h name))
+    ∙ equal-calls t (zeroed cs) (zeroed ds) (λ name. zeroed-same (t .form) (subscriber name) cs ds (h name))
     ∙ (same-run t (zeroed ds) ds (zeroed-bring ds)) .table
 
 pub same-replies : SameReplies
 same-replies t cs ds who h =
-    ap (map told) (replies-alone t cs who) ∙ (same-run t (callsOf who cs) (callsOf who ds) h) .replies ∙ ap (map told) (sym (replies-alone t ds who))
+    ap (map told) (replies-alone t cs who) ∙ (same-run t (callsOf (t .form) who cs) (callsOf (t .form) who ds) h) .replies ∙ ap (map told) (sym (replies-alone t ds who))
 
 pub same-record : SameRecord
 same-record t cs ds name h =
     record-alone t cs name
-    ∙ ap (recordOf name) ((same-run t (callsOf (subscriber name) cs) (callsOf (subscriber name) ds) h) .table)
+    ∙ ap (recordOf name) ((same-run t (callsOf (t .form) (subscriber name) cs) (callsOf (t .form) (subscriber name) ds) h) .table)
     ∙ sym (record-alone t ds name)

@@ -14,11 +14,11 @@ use Rattle.octets.specs.Texts.{allZero, filled, pieces, zeros}
 use Rattle.octets.proofs.Choice.{first-passes, others-pass, passed}
 use Rattle.octets.proofs.Lists.{and-left, both, by-test, same-refl, within-high}
 use Rattle.octets.proofs.Pieces.{length-pieces}
-use Rattle.table.specs.TheTable.{Account, Entry, Subscriber, firstNumber, hasName, Found, row, nothing, later, isFound, firstRow, rows, lookup, isRowOf, rowAt, withRow, rowLength, tableNumber, readRow, rowBytes}
+use Rattle.table.specs.TheTable.{Account, Entry, Subscriber, Table, formOf, firstNumber, hasName, Found, row, nothing, later, isFound, firstRow, rows, lookup, isRowOf, rowAt, width, withRow, tableNumber, readRow, rowBytes}
 use Rattle.table.specs.Soundness.{isName, limits, sound}
 use Rattle.table.proofs.Bytes.{length-row, read-row}
 use Rattle.table.proofs.Good.{Good, goodEntry}
-use Rattle.table.proofs.Rows.{first-operator, first-table, found-by, length-withRow, row-other, row-with, rows-with, whole-rows}
+use Rattle.table.proofs.Rows.{first-operator, form-in, rowAt-form, first-table, form-with, found-by, length-withRow, row-other, row-with, rows-with, whole-rows}
 use Rattle.table.proofs.Sound.{says-good, sound-row}
 use Rattle.setup.specs.SetUp.{SetUp, leaving, clear, enter, enterNumber, add, addAt, entryNumber, withRowAt}
 use Rattle.changes.specs.Changes.{named, withEntry}
@@ -30,15 +30,15 @@ use Rattle.order.proofs.Rest.{in-table}
 
 -- REFUSALS
 
-leaving-refused : (n : ℕ) (t u : List ℕ) → eqb ((leaving n t u) .number) 0 ≡ false → (leaving n t u) .table ≡ t
+leaving-refused : (n : ℕ) (t u : Table) → eqb ((leaving n t u) .number) 0 ≡ false → (leaving n t u) .table ≡ t
 unfolding leaving pick
 leaving-refused n t u h = rw h
 
-leaving-done : (n : ℕ) (t u : List ℕ) → n ≡ 0 → (leaving n t u) .table ≡ u
+leaving-done : (n : ℕ) (t u : Table) → n ≡ 0 → (leaving n t u) .table ≡ u
 unfolding leaving pick
 leaving-done n t u h = rw h
 
-leaving-number : (n : ℕ) (t u : List ℕ) → (leaving n t u) .number ≡ n
+leaving-number : (n : ℕ) (t u : Table) → (leaving n t u) .number ≡ n
 unfolding leaving
 leaving-number n t u = refl
 
@@ -48,13 +48,13 @@ clear-refused t h = leaving-refused _ t _ h
 
 pub cleared-zero : ClearedZero
 unfolding clear
-cleared-zero t h = leaving-done _ t _ (sym (leaving-number (tableNumber t) t (zeros (length t))) ∙ h)
+cleared-zero t h = leaving-done _ t _ (sym (leaving-number (tableNumber t) t _) ∙ h)
 
 pub enter-refused : EnterRefused
 unfolding enter
 enter-refused t shares a h = leaving-refused _ t _ h
 
-at-refused : (F : Found) (t : List ℕ) (e : Entry) → eqb ((addAt F t e) .number) 0 ≡ false → (addAt F t e) .table ≡ t
+at-refused : (F : Found) (t : Table) (e : Entry) → eqb ((addAt F t e) .number) 0 ≡ false → (addAt F t e) .table ≡ t
 unfolding addAt
 at-refused nothing t e h = leaving-refused 12 t t h
 at-refused (row i) t e h = leaving-refused _ t _ h
@@ -68,20 +68,22 @@ add-refused t a e h =
 
 -- A GOOD SUBSCRIBER IS WRITTEN
 
-module _ (t : List ℕ) (good : tableNumber t ≡ 0) (i : ℕ) (there : i < length t / rowLength) (s : Subscriber) (g : Good s) where
-  wrote : Wrote t i s (withRow t i (rowBytes s))
+module _ (t : Table) (good : tableNumber t ≡ 0) (i : ℕ) (there : i < length (t .bytes) / width t) (s : Subscriber) (g : Good (t .form) s) where
+  wrote : Wrote t i s (withRow t i (rowBytes (t .form) s))
   wrote =
-      let n : ℕ = length t / rowLength in
-      let at : rowAt (withRow t i (rowBytes s)) i ≡ rowBytes s = row-with n t (whole-rows t good) i there (rowBytes s) (length-row s) in
+      let n : ℕ = length (t .bytes) / width t in
+      let r : List ℕ = rowBytes (t .form) s in
+      let at : rowAt (withRow t i r) i ≡ r = row-with n t (whole-rows t good) i there r (length-row (t .form) s) in
       record {
-        sound-row = rw at (sound-row s g);
-        row-says = rw at (read-row s g);
-        others-stay = λ j ne. row-other n t (whole-rows t good) i there (rowBytes s) (length-row s) j ne;
+        sound-row = rw at (sound-row (t .form) s g);
+        row-says = rw at (read-row (t .form) s g);
+        others-stay = λ j ne. row-other n t (whole-rows t good) i there r (length-row (t .form) s) j ne;
+        same-form = form-with t i r;
       }
 
 -- ENTERING
 
-module _ (t shares : List ℕ) (a : Account) (h : enterNumber t shares a ≡ 0) where
+module _ (t : Table) (shares : List ℕ) (a : Account) (h : enterNumber t shares a ≡ 0) where
   enter-first : firstNumber t (a .operator) ≡ 0
   unfolding enterNumber
   enter-first = first-passes _ _ h
@@ -93,8 +95,8 @@ module _ (t shares : List ℕ) (a : Account) (h : enterNumber t shares a ≡ 0) 
   unfolding enterNumber
   enter-name = passed _ 9 (omega arith) (first-passes _ _ (others-pass _ _ (others-pass _ _ h)))
 
-  enter-good : Good (named a)
-  enter-good = good-named a enter-name (first-operator t (a .operator) enter-first)
+  enter-good : Good (t .form) (named a)
+  enter-good = good-named (t .form) a (form-in t enter-rows) enter-name (first-operator t (a .operator) enter-first)
 
 pub enter-writes : EnterWrites
 unfolding enter withRowAt
@@ -129,31 +131,33 @@ module _ (r : List ℕ) (e : Entry) (h : entryNumber r e ≡ 0) where
         sum-room = rw (sum-snoc (limits ((readRow r) .entries)) (e .limit)) (leb-true _ 8 (passed _ 17 (omega arith) (first-passes _ _ h4)));
       }
 
-add-first : (t : List ℕ) (a : Account) (e : Entry) → (add t a e) .number ≡ 0 → firstNumber t (a .operator) ≡ 0
+add-first : (t : Table) (a : Account) (e : Entry) → (add t a e) .number ≡ 0 → firstNumber t (a .operator) ≡ 0
 unfolding add pick leaving
 add-first t a e h =
     by-test (eqb (firstNumber t (a .operator)) 0)
     (λ z. eqb-true (firstNumber t (a .operator)) 0 z)
     (λ z. rw z at h)
 
-add-is : (t : List ℕ) (a : Account) (e : Entry) (i : ℕ) → firstNumber t (a .operator) ≡ 0 → lookup t a ≡ row i
-    → add t a e ≡ leaving (entryNumber (rowAt t i) e) t (withRow t i (rowBytes (withEntry e (readRow (rowAt t i)))))
+add-is : (t : Table) (a : Account) (e : Entry) (i : ℕ) → firstNumber t (a .operator) ≡ 0 → lookup t a ≡ row i
+    → add t a e ≡ leaving (entryNumber (rowAt t i) e) t (withRow t i (rowBytes (t .form) (withEntry e (readRow (rowAt t i)))))
 unfolding add addAt pick
 add-is t a e i z f = rw (z, f)
 
-found-in : (t : List ℕ) (a : Account) (i : ℕ) → lookup t a ≡ row i → i < length t / rowLength
+found-in : (t : Table) (a : Account) (i : ℕ) → lookup t a ≡ row i → i < length (t .bytes) / width t
 unfolding lookup
 found-in t a i f = in-table (isRowOf a) t i f
 
 pub add-writes : AddWrites
 add-writes t a e i h f =
     let z : firstNumber t (a .operator) ≡ 0 = add-first t a e h in
-    let u : List ℕ = withRow t i (rowBytes (withEntry e (readRow (rowAt t i)))) in
+    let u : Table = withRow t i (rowBytes (t .form) (withEntry e (readRow (rowAt t i)))) in
     let is : add t a e ≡ leaving (entryNumber (rowAt t i) e) t u = add-is t a e i z f in
     let n : entryNumber (rowAt t i) e ≡ 0 = sym (leaving-number (entryNumber (rowAt t i) e) t u) ∙ ap (λ (x : SetUp). x .number) (sym is) ∙ h in
+    let good : tableNumber t ≡ 0 = first-table t (a .operator) z in
+    let form : formOf (rowAt t i) ≡ t .form = rowAt-form t i good (found-in t a i f) in
+    let said : Good (t .form) (readRow (rowAt t i)) = rw form at (says-good (rowAt t i) (entry-sound (rowAt t i) e n)) in
     rw (is, leaving-done (entryNumber (rowAt t i) e) t u n)
-    (wrote t (first-table t (a .operator) z) i (found-in t a i f) (withEntry e (readRow (rowAt t i)))
-    (good-entered e (readRow (rowAt t i)) (may-enter (rowAt t i) e n) (says-good (rowAt t i) (entry-sound (rowAt t i) e n))))
+    (wrote t good i (found-in t a i f) (withEntry e (readRow (rowAt t i))) (good-entered e (readRow (rowAt t i)) (may-enter (rowAt t i) e n) said))
 
 -- A NAME THAT WAS ENTERED IS FOUND
 
@@ -188,24 +192,26 @@ front-found a h =
     both (eq-eqb (a .operator) (a .operator) refl)
     (both w (both (eq-eqb (length name) (length name) refl) (rw (name-part name (within-high 1 15 _ w)) (same-refl name))))
 
-new-found : (a : Account) → isName (a .name) ≡ true → isRowOf a (rowBytes (named a)) ≡ true
+new-found : (fm : ℕ) (a : Account) → isName (a .name) ≡ true → isRowOf a (rowBytes fm (named a)) ≡ true
 unfolding named
-new-found a h = found-by a (rowBytes (named a)) _ (row-account (named a)) ∙ front-found a h
+new-found fm a h = found-by a (rowBytes fm (named a)) _ (row-account fm (named a)) ∙ front-found a h
 
-module _ (t shares : List ℕ) (a : Account) (h : enterNumber t shares a ≡ 0) where
+module _ (t : Table) (shares : List ℕ) (a : Account) (h : enterNumber t shares a ≡ 0) where
   not-held : isFound (lookup t a) ≡ false
   unfolding enterNumber
   not-held = not-true (isFound (lookup t a)) (passed _ 10 (omega arith) (first-passes _ _ (others-pass _ _ (others-pass _ _ (others-pass _ _ h)))))
 
-  look-after : (i : ℕ) → i < length t / rowLength → lookup (withRow t i (rowBytes (named a))) a ≡ row i
+  look-after : (i : ℕ) → i < length (t .bytes) / width t → lookup (withRow t i (rowBytes (t .form) (named a))) a ≡ row i
   unfolding lookup rows
   look-after i l =
-      let n : ℕ = length t / rowLength in
-      let size : length t ≡ rowLength * n = whole-rows t (enter-rows t shares a h) in
-      let r : List ℕ = rowBytes (named a) in
-      ap (λ (k : ℕ). firstRow (isRowOf a) (pieces rowLength (k / rowLength) (withRow t i r))) (length-withRow n t size i l r (length-row (named a)))
-      ∙ ap (firstRow (isRowOf a)) (rows-with n t size i l r (length-row (named a)))
-      ∙ found-put (isRowOf a) (pieces rowLength n t) i r not-held (new-found a (enter-name t shares a h)) (rw (length-pieces rowLength n t) l)
+      let n : ℕ = length (t .bytes) / width t in
+      let size : length (t .bytes) ≡ width t * n = whole-rows t (enter-rows t shares a h) in
+      let r : List ℕ = rowBytes (t .form) (named a) in
+      let u : Table = withRow t i r in
+      rw (form-with t i r)
+      (ap (λ (k : ℕ). firstRow (isRowOf a) (pieces (width t) (k / width t) (u .bytes))) (length-withRow n t size i l r (length-row (t .form) (named a)))
+      ∙ ap (firstRow (isRowOf a)) (rows-with n t size i l r (length-row (t .form) (named a)))
+      ∙ found-put (isRowOf a) (pieces (width t) n (t .bytes)) i r not-held (new-found (t .form) a (enter-name t shares a h)) (rw (length-pieces (width t) n (t .bytes)) l))
 
 pub entered-found : EnteredFound
 unfolding enter withRowAt

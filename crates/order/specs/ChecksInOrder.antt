@@ -6,7 +6,6 @@ use Prim.Native.Nat.{ℕ, zero, suc, _-_, _/_, _%_}
 use lib.Dec.{eqb, leb}
 use lib.ListN.{length, getD}
 use Rattle.octets.specs.Choice.{pick, within}
-use Rattle.octets.specs.Lists.{every}
 use Rattle.octets.specs.Numbers.{up4}
 use Rattle.message.specs.Codes.{Code, plain, noSubscription, roamingNotAllowed, unusedByUser}
 use Rattle.message.specs.ReadingAMessage.{Name, Avp, Field, Ask, tunnel, policy, termination, flags, command, application, hasV, avpLength, avpOf, supported, body, avps, sessionId, having, startsWith, fields}
@@ -29,10 +28,10 @@ pub data Failure : Type 0 where
   shortLength : (at : ℕ) → Failure
   pastTheEnd : (at : ℕ) → Failure
   unsupported : (at : ℕ) → Failure
-  -- the lists: Session-Id is not the first AVP; the AVP of this name
+  -- the lists: Session-Id is not the first AVP; an AVP of this name, or that there is none
   sessionIdNotFirst : Failure
   absent : Name → Failure
-  twice : Name → Failure
+  tooOften : Name → Failure
   wrongLength : Name → Failure
   wrongValue : Name → Failure
   -- any request
@@ -113,24 +112,30 @@ walkFrom at zero (b ∷ s) = avpChecks at (b ∷ s) ++ walkFrom (suc at) (up4 (a
 unfoldable pub walkChecks : List ℕ → List Check
 walkChecks m = walkFrom 20 0 (body m)
 
--- A field of a list, by the AVPs of its name: one is there, if it is required; no two are there; the length is right; the value
--- is right.
+-- An AVP of a field: the length is right; the value is right.
+unfoldable pub valueChecks : Field → Avp → List Check
+valueChecks f a =
+    check (wrongLength (f .name)) (within (f .low) (f .high) (length (a .value))) (plain 5014)
+    ∷ check (wrongValue (f .name)) (f .allowed (a .value)) (plain 5004)
+    ∷ []
+
+-- A field of a list, by the AVPs of its name: one is there, if it is required; no more are there than may be; then AVP by AVP. Only
+-- Routing-Policy may be there more than once, and only where the table is of form 2 (W5).
 unfoldable pub fieldChecks : Field → (there : List Avp) → List Check
 fieldChecks f there =
     check (absent (f .name)) (not (f .required) || leb 1 (length there)) (plain 5005)
-    ∷ check (twice (f .name)) (leb (length there) 1) (plain 5009)
-    ∷ check (wrongLength (f .name)) (every (λ (a : Avp). within (f .low) (f .high) (length (a .value))) there) (plain 5014)
-    ∷ check (wrongValue (f .name)) (every (λ (a : Avp). f .allowed (a .value)) there) (plain 5004)
-    ∷ []
+    ∷ check (tooOften (f .name)) (leb (length there) (f .most)) (plain 5009)
+    ∷ flatMap (valueChecks f) there
 
--- The lists: Session-Id is there, as the first AVP; then field by field, those of both requests before those of the one.
-unfoldable pub listChecks : List ℕ → List Check
-listChecks m =
+-- The lists: Session-Id is there, as the first AVP; then field by field, those of both requests before those of the one. `most` is how many
+-- policies a request may bring.
+unfoldable pub listChecks : (most : ℕ) → List ℕ → List Check
+listChecks most m =
     check sessionIdNotFirst (startsWith sessionId (avps m)) (plain 5005)
-    ∷ flatMap (λ (f : Field). fieldChecks f (having (f .name) (avps m))) (fields (command m) (avps m))
+    ∷ flatMap (λ (f : Field). fieldChecks f (having (f .name) (avps m))) (fields most (command m) (avps m))
 
-unfoldable pub readingChecks : List ℕ → List Check
-readingChecks m = headerChecks m ++ (walkChecks m ++ listChecks m)
+unfoldable pub readingChecks : (most : ℕ) → List ℕ → List Check
+readingChecks most m = headerChecks m ++ (walkChecks m ++ listChecks most m)
 
 -- DECIDING
 
@@ -138,18 +143,18 @@ readingChecks m = headerChecks m ++ (walkChecks m ++ listChecks m)
 -- Session-Id is not in the row. Type 1: an access has the Session-Id; the WAG says yes. Termination: an access has the
 -- Session-Id on this W-APN.
 unfoldable pub decidingChecks : Ask → (wag : Bool) → Subscriber → List Check
-decidingChecks (tunnel session host label visited) wag s =
+decidingChecks (tunnel session host realm label visited) wag s =
     check notEntered (not (eqb (entryNamed label s) 0)) noSubscription
     ∷ check entryBarred (not (barred (entryAt (entryNamed label s) s))) (plain 5003)
     ∷ check mayNotRoam (not (visited && not (mayRoam (entryAt (entryNamed label s) s)))) roamingNotAllowed
     ∷ check sessionHeld (none (withSession session (s .accesses))) (plain 5012)
     ∷ []
-decidingChecks (policy session route) wag s =
+decidingChecks (policy session first second third) wag s =
     check noAccess (not (none (withSession session (s .accesses)))) (plain 5012) ∷ check gatewaySaysNo wag (plain 5012) ∷ []
 decidingChecks (termination session label) wag s =
     check unused (not (none (withSession session (onEntry (entryNamed label s) (s .accesses))))) unusedByUser ∷ []
 
--- A CASE: a request 265 with two AVPs, of which the second, at byte 32, gives its length as 4.
+-- A CASE, of a table of either form: a request 265 with two AVPs, of which the second, at byte 32, gives its length as 4.
 unfoldable pub shortSecond : List ℕ
 shortSecond =
     (1 ∷ 0 ∷ 0 ∷ 40 ∷ 128 ∷ 0 ∷ 1 ∷ 9 ∷ 0 ∷ 0 ∷ 0 ∷ 1 ∷ 0 ∷ 0 ∷ 0 ∷ 1 ∷ 0 ∷ 0 ∷ 0 ∷ 1 ∷ [])
@@ -157,7 +162,7 @@ shortSecond =
     ++ (0 ∷ 0 ∷ 1 ∷ 2 ∷ 64 ∷ 0 ∷ 0 ∷ 4 ∷ []))
 
 abbrev pub TellsTheByte : Type 0
-TellsTheByte = firstFailed (readingChecks shortSecond) ≡ fail (shortLength 32) (plain 5014)
+TellsTheByte = (most : ℕ) → firstFailed (readingChecks most shortSecond) ≡ fail (shortLength 32) (plain 5014)
 
 -- Another: the second of three AVPs is not known and has M set; the third gives its length as 4.
 unfoldable pub unknownSecond : List ℕ
@@ -167,4 +172,4 @@ unknownSecond =
     ++ ((0 ∷ 0 ∷ 0 ∷ 33 ∷ 64 ∷ 0 ∷ 0 ∷ 8 ∷ []) ++ (0 ∷ 0 ∷ 1 ∷ 2 ∷ 64 ∷ 0 ∷ 0 ∷ 4 ∷ [])))
 
 abbrev pub TellsTheUnknown : Type 0
-TellsTheUnknown = firstFailed (readingChecks unknownSecond) ≡ fail (unsupported 32) (plain 5001)
+TellsTheUnknown = (most : ℕ) → firstFailed (readingChecks most unknownSecond) ≡ fail (unsupported 32) (plain 5001)

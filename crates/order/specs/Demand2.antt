@@ -1,4 +1,6 @@
--- Demand 2: the first failing check gives the code, success is given exactly when none fails, what is cut, and what stays.
+-- Demand 2: the first failing check gives the code, success is given exactly when none fails, what is cut, and what stays. All of it is said
+-- of tables of either form (W5): the form of the table decides how many policies a request may bring, what is kept of it, and how a row is laid
+-- out.
 use mathlib.Core.Path.{_≡_}
 use mathlib.Core.Bool.{Bool, true, false, _&&_}
 use mathlib.Core.List.{List, [], _∷_, _++_}
@@ -8,11 +10,11 @@ use lib.ListN.{length}
 use Rattle.octets.specs.Choice.{pick}
 use Rattle.message.specs.Codes.{Code, plain, userUnknown, numberOf, kindOf}
 use Rattle.message.specs.ReadingAMessage.{Ask, tunnel, policy, termination, Request, command, avps, requestOf}
-use Rattle.table.specs.TheTable.{Access, Subscriber, Found, row, nothing, isFound, lookup, rowAt, withRow, readRow, rowBytes}
+use Rattle.table.specs.TheTable.{Access, Subscriber, Table, Found, row, nothing, isFound, lookup, rowAt, withRow, readRow, rowBytes}
 use Rattle.table.specs.Soundness.{sound, onEntry}
-use Rattle.changes.specs.Changes.{freed, lowestFree, opened, routed}
+use Rattle.changes.specs.Changes.{freed, keptIn, lowestFree, opened, routed}
 use Rattle.rules.specs.Deciding.{entryNamed, withSession, atLimit, placeOf}
-use Rattle.rules.specs.Calls.{account, Call, Left, callNumber, silent, reply, refusal, handle, run}
+use Rattle.rules.specs.Calls.{account, Call, Left, callNumber, silent, reply, refusal, handle, mostPolicies, run}
 use Rattle.order.specs.ChecksInOrder.{Check, noRow, unsoundRow, check, firstFailing, noneFails, readingChecks, decidingChecks}
 
 -- THE CHECKS OF A CALL
@@ -21,43 +23,43 @@ use Rattle.order.specs.ChecksInOrder.{Check, noRow, unsoundRow, check, f
 unfoldable pub requestIn : Call → Request
 requestIn c = requestOf (command (c .message)) (avps (c .message))
 
-unfoldable pub found : List ℕ → Call → Found
+unfoldable pub found : Table → Call → Found
 found t c = lookup t (account c (requestIn c))
 
-unfoldable pub rowFound : List ℕ → Found → List ℕ
+unfoldable pub rowFound : Table → Found → List ℕ
 rowFound t nothing = []
 rowFound t (row i) = rowAt t i
 
-unfoldable pub rowBefore : List ℕ → Call → List ℕ
+unfoldable pub rowBefore : Table → Call → List ℕ
 rowBefore t c = rowFound t (found t c)
 
-abbrev pub said : List ℕ → Call → Subscriber
+abbrev pub said : Table → Call → Subscriber
 said t c = readRow (rowBefore t c)
 
 -- In the paper's order: reading; there is a row; it is sound; deciding.
-unfoldable pub checks : List ℕ → Call → List Check
+unfoldable pub checks : Table → Call → List Check
 checks t c =
-    readingChecks (c .message)
+    readingChecks (mostPolicies (t .form)) (c .message)
     ++ (check noRow (isFound (found t c)) userUnknown
     ∷ check unsoundRow (sound (rowBefore t c)) (plain 5012)
     ∷ decidingChecks ((requestIn c) .ask) (c .wag) (said t c))
 
 -- A call succeeds if it is one that gets an answer and none of its checks fails.
-unfoldable pub succeeds : List ℕ → Call → Bool
+unfoldable pub succeeds : Table → Call → Bool
 succeeds t c = eqb (callNumber t c) 0 && noneFails (checks t c)
 
 -- THE CUT
 
 -- A tunnel is asked for on an entry that is at its limit.
 unfoldable pub exceeds : Ask → Subscriber → Bool
-exceeds (tunnel session host label visited) s = atLimit (entryNamed label s) s
-exceeds (policy session route) s = false
+exceeds (tunnel session host realm label visited) s = atLimit (entryNamed label s) s
+exceeds (policy session first second third) s = false
 exceeds (termination session label) s = false
 
 -- The accesses on the entry that is asked for, first on the order line first.
 unfoldable pub onAsked : Ask → Subscriber → List Access
-onAsked (tunnel session host label visited) s = onEntry (entryNamed label s) (s .accesses)
-onAsked (policy session route) s = []
+onAsked (tunnel session host realm label visited) s = onEntry (entryNamed label s) (s .accesses)
+onAsked (policy session first second third) s = []
 onAsked (termination session label) s = []
 
 -- The first of a list, alone.
@@ -75,18 +77,20 @@ spared q s = pick (exceeds q s) (freed (placeOf (onAsked q s)) s) s
 
 -- A new tunnel takes the lowest place that is free then.
 unfoldable pub placeTaken : Ask → Subscriber → ℕ
-placeTaken (tunnel session host label visited) s = lowestFree ((spared (tunnel session host label visited) s) .accesses)
-placeTaken (policy session route) s = 0
+placeTaken (tunnel session host realm label visited) s = lowestFree ((spared (tunnel session host realm label visited) s) .accesses)
+placeTaken (policy session first second third) s = 0
 placeTaken (termination session label) s = 0
 
--- What the row says after success: the new access stands behind those that are left; or the policy replaces what was held;
--- or the place is freed.
-unfoldable pub afterwards : Ask → Subscriber → Subscriber
-afterwards (tunnel session host label visited) s = opened (entryNamed label s) session host (spared (tunnel session host label visited) s)
-afterwards (policy session route) s = routed (placeOf (withSession session (s .accesses))) route s
-afterwards (termination session label) s = freed (placeOf (withSession session (onEntry (entryNamed label s) (s .accesses)))) s
+-- What the row says after success, in a table of the form: the new access stands behind those that are left; or the policies replace what
+-- was held; or the place is freed.
+unfoldable pub afterwards : (form : ℕ) → Ask → Subscriber → Subscriber
+afterwards f (tunnel session host realm label visited) s =
+    opened (entryNamed label s) (record { session = session; host = host; realm = keptIn f realm }) (spared (tunnel session host realm label visited) s)
+afterwards f (policy session first second third) s =
+    routed (placeOf (withSession session (s .accesses))) (record { first = first; second = second; third = third }) s
+afterwards f (termination session label) s = freed (placeOf (withSession session (onEntry (entryNamed label s) (s .accesses)))) s
 
--- THE STATEMENTS, for any table and any call.
+-- THE STATEMENTS, for any table of any form and any call.
 
 -- A call that gets an answer gets the code, and the kind of code, of the first of its checks that fails.
 pub record CodeOf (code : Code) (l : Left) : Type 0 where
@@ -94,14 +98,14 @@ pub record CodeOf (code : Code) (l : Left) : Type 0 where
   pub kind : l .reply .result .kind ≡ kindOf code
 
 abbrev pub FirstFailingCheck : Type 0
-FirstFailingCheck = (t : List ℕ) (c : Call) → callNumber t c ≡ 0 → CodeOf (firstFailing (checks t c)) (handle t c)
+FirstFailingCheck = (t : Table) (c : Call) → callNumber t c ≡ 0 → CodeOf (firstFailing (checks t c)) (handle t c)
 
 -- 2001 is given exactly when none fails.
 abbrev pub SuccessExactly : Type 0
-SuccessExactly = (t : List ℕ) (c : Call) → eqb ((handle t c) .reply .result .code) 2001 ≡ succeeds t c
+SuccessExactly = (t : Table) (c : Call) → eqb ((handle t c) .reply .result .code) 2001 ≡ succeeds t c
 
 -- Any other code, or no answer: the table and the notice room stay as they were, and there is no place and no cut.
-pub record Unchanged (t : List ℕ) (c : Call) (l : Left) : Type 0 where
+pub record Unchanged (t : Table) (c : Call) (l : Left) : Type 0 where
   pub table : l .table ≡ t
   pub notice : l .reply .notice ≡ c .notice
   pub place : l .reply .result .place ≡ 0
@@ -110,51 +114,51 @@ pub record Unchanged (t : List ℕ) (c : Call) (l : Left) : Type 0 where
   pub cut-host : l .reply .result .cutHost ≡ 0
 
 abbrev pub RefusedChangesNothing : Type 0
-RefusedChangesNothing = (t : List ℕ) (c : Call) → eqb ((handle t c) .reply .result .code) 2001 ≡ false → Unchanged t c (handle t c)
+RefusedChangesNothing = (t : Table) (c : Call) → eqb ((handle t c) .reply .result .code) 2001 ≡ false → Unchanged t c (handle t c)
 
 -- All that these two leave: no answer, with the number of the first of the eight tests that fails; or a refusal with the code
 -- of the first check that fails.
 abbrev pub UnansweredLeaves : Type 0
-UnansweredLeaves = (t : List ℕ) (c : Call) → eqb (callNumber t c) 0 ≡ false → handle t c ≡ silent t c (callNumber t c)
+UnansweredLeaves = (t : Table) (c : Call) → eqb (callNumber t c) 0 ≡ false → handle t c ≡ silent t c (callNumber t c)
 
 abbrev pub RefusedLeaves : Type 0
-RefusedLeaves = (t : List ℕ) (c : Call) → callNumber t c ≡ 0 → succeeds t c ≡ false → handle t c ≡ refusal t c (firstFailing (checks t c))
+RefusedLeaves = (t : Table) (c : Call) → callNumber t c ≡ 0 → succeeds t c ≡ false → handle t c ≡ refusal t c (firstFailing (checks t c))
 
 -- A cut is made exactly when a call succeeds that asks for a tunnel on an entry that is at its limit.
 abbrev pub CutExactly : Type 0
-CutExactly = (t : List ℕ) (c : Call) → (handle t c) .reply .result .cut ≡ pick (succeeds t c && exceeds ((requestIn c) .ask) (said t c)) 1 0
+CutExactly = (t : Table) (c : Call) → (handle t c) .reply .result .cut ≡ pick (succeeds t c && exceeds ((requestIn c) .ask) (said t c)) 1 0
 
 -- There is then an access to cut.
 abbrev pub OneToCut : Type 0
-OneToCut = (t : List ℕ) (c : Call) → succeeds t c && exceeds ((requestIn c) .ask) (said t c) ≡ true → length (cutFor ((requestIn c) .ask) (said t c)) ≡ 1
+OneToCut = (t : Table) (c : Call) → succeeds t c && exceeds ((requestIn c) .ask) (said t c) ≡ true → length (cutFor ((requestIn c) .ask) (said t c)) ≡ 1
 
 -- The whole reply to a call that succeeds: 2001, the place taken, and the cut.
 abbrev pub SuccessReply : Type 0
 SuccessReply =
-    (t : List ℕ) (c : Call) → succeeds t c ≡ true
+    (t : Table) (c : Call) → succeeds t c ≡ true
     → (handle t c) .reply ≡ reply c (plain 2001) (placeTaken ((requestIn c) .ask) (said t c)) (cutFor ((requestIn c) .ask) (said t c))
 
 -- On success the row that the lookup finds, a sound one, is replaced by the bytes of what it says afterwards. That is sound
 -- again, and reads as it was meant.
-pub record Replaced (t : List ℕ) (c : Call) (i : ℕ) (l : Left) : Type 0 where
+pub record Replaced (t : Table) (c : Call) (i : ℕ) (l : Left) : Type 0 where
   pub was-sound : sound (rowAt t i) ≡ true
-  pub table : l .table ≡ withRow t i (rowBytes (afterwards ((requestIn c) .ask) (readRow (rowAt t i))))
+  pub table : l .table ≡ withRow t i (rowBytes (t .form) (afterwards (t .form) ((requestIn c) .ask) (readRow (rowAt t i))))
   pub is-sound : sound (rowAt (l .table) i) ≡ true
-  pub says : readRow (rowAt (l .table) i) ≡ afterwards ((requestIn c) .ask) (readRow (rowAt t i))
+  pub says : readRow (rowAt (l .table) i) ≡ afterwards (t .form) ((requestIn c) .ask) (readRow (rowAt t i))
 
 abbrev pub SuccessFindsRow : Type 0
-SuccessFindsRow = (t : List ℕ) (c : Call) → succeeds t c ≡ true → isFound (found t c) ≡ true
+SuccessFindsRow = (t : Table) (c : Call) → succeeds t c ≡ true → isFound (found t c) ≡ true
 
 abbrev pub SuccessReplacesRow : Type 0
-SuccessReplacesRow = (t : List ℕ) (c : Call) (i : ℕ) → succeeds t c ≡ true → found t c ≡ row i → Replaced t c i (handle t c)
+SuccessReplacesRow = (t : Table) (c : Call) (i : ℕ) → succeeds t c ≡ true → found t c ≡ row i → Replaced t c i (handle t c)
 
 -- Every other row stays as it was, whatever the call.
 abbrev pub OtherRowsStay : Type 0
-OtherRowsStay = (t : List ℕ) (c : Call) (j : ℕ) → (found t c ≡ row j → ⊥) → rowAt ((handle t c) .table) j ≡ rowAt t j
+OtherRowsStay = (t : Table) (c : Call) (j : ℕ) → (found t c ≡ row j → ⊥) → rowAt ((handle t c) .table) j ≡ rowAt t j
 
 -- A sound row stays sound under every call, and so under every list of calls.
 abbrev pub SoundStaysSound : Type 0
-SoundStaysSound = (t : List ℕ) (c : Call) (j : ℕ) → sound (rowAt t j) ≡ true → sound (rowAt ((handle t c) .table) j) ≡ true
+SoundStaysSound = (t : Table) (c : Call) (j : ℕ) → sound (rowAt t j) ≡ true → sound (rowAt ((handle t c) .table) j) ≡ true
 
 abbrev pub SoundStaysInList : Type 0
-SoundStaysInList = (t : List ℕ) (cs : List Call) (j : ℕ) → sound (rowAt t j) ≡ true → sound (rowAt ((run t cs) .table) j) ≡ true
+SoundStaysInList = (t : Table) (cs : List Call) (j : ℕ) → sound (rowAt t j) ≡ true → sound (rowAt ((run t cs) .table) j) ≡ true

@@ -34,21 +34,23 @@ cutting letter =
       notice = filled (session letter) 128 ++ filled gateway 128;
     }
 
--- a and b are opened, a is ended, and a is opened again.
-unfoldable pub again : List Tunnel
-again =
-    history (of 0) entered
+-- a and b are opened, a is ended, and a is opened again, in a table of a form.
+unfoldable pub again : (form : ℕ) → List Tunnel
+again f =
+    history f (of 0) entered
     (calling (openAt (session 97) board) ∷ calling (openAt (session 98) board) ∷ calling (endAt (session 97) board) ∷ calling (openAt (session 97) board) ∷ [])
     (granted ∷ granted ∷ granted ∷ granted ∷ [])
     []
 
 -- Then c is opened, which cuts b.
-unfoldable pub andThenC : List Tunnel
-andThenC = history (of 0) entered (calling (openAt (session 99) board) ∷ []) (cutting 98 ∷ []) again
+unfoldable pub andThenC : (form : ℕ) → List Tunnel
+andThenC f = history f (of 0) entered (calling (openAt (session 99) board) ∷ []) (cutting 98 ∷ []) (again f)
 
 unfoldable pub named : List Tunnel → List (List ℕ)
 named line = map (λ (x : Tunnel). x .session) line
 
--- The line is b a, and then a c.
+-- The line is b a, and then a c, in both forms.
 abbrev pub OpenedAgainStandsLast : Type 0
-OpenedAgainStandsLast = named again ∷ named andThenC ∷ [] ≡ (session 98 ∷ session 97 ∷ []) ∷ (session 97 ∷ session 99 ∷ []) ∷ []
+OpenedAgainStandsLast =
+    (named (again 1) ∷ named (andThenC 1) ∷ [] ≡ (session 98 ∷ session 97 ∷ []) ∷ (session 97 ∷ session 99 ∷ []) ∷ [])
+    × (named (again 2) ∷ named (andThenC 2) ∷ [] ≡ (session 98 ∷ session 97 ∷ []) ∷ (session 97 ∷ session 99 ∷ []) ∷ [])

@@ -10,7 +10,7 @@ use Rattle.octets.specs.Choice.{pick}
 use Rattle.octets.specs.Lists.{keep}
 use Rattle.octets.specs.Texts.{same}
 use Rattle.message.specs.ReadingAMessage.{Ask, tunnel, policy, termination}
-use Rattle.table.specs.TheTable.{Account, Entry, Access, Subscriber, row, lookup, isRowOf, rowAt, readRow}
+use Rattle.table.specs.TheTable.{Account, Entry, Access, Subscriber, Table, row, lookup, isRowOf, rowAt, readRow}
 use Rattle.table.specs.Soundness.{sound, sameLabel}
 use Rattle.rules.specs.Deciding.{entryAt}
 use Rattle.rules.specs.Calls.{Call, Reply, handle, run}
@@ -41,20 +41,21 @@ without session line = keep (λ (x : Tunnel). not (same (x .session) session)) l
 -- A request that is answered 2001. Type 0: if there was a cut, the tunnel that the notice names is taken away; then the new
 -- tunnel stands at the end. Type 1: the line stays. Termination: the tunnel with its Session-Id is taken away.
 unfoldable pub lineAfter : List Entry → Ask → Reply → List Tunnel → List Tunnel
-lineAfter es (tunnel session host label visited) r line =
+lineAfter es (tunnel session host realm label visited) r line =
     pick (eqb (r .result .cut) 1) (without (sessionCut r) line) line
     ++ (record { session = session; host = host; label = labelIn es label } ∷ [])
-lineAfter es (policy session route) r line = line
+lineAfter es (policy session first second third) r line = line
 lineAfter es (termination session label) r line = without session line
 
 -- The subscriber's line after a list of calls, of whomever, from the line before it: each of the subscriber's calls that is
--- answered 2001 changes it, and no other call does. `rs` holds a reply for each call of `cs`, and `es` are the row's entries.
-unfoldable pub history : (a : Account) → (es : List Entry) → (cs : List Call) → (rs : List Reply) → (line : List Tunnel) → List Tunnel
-history a es [] rs line = line
-history a es (c ∷ cs) [] line = line
-history a es (c ∷ cs) (r ∷ rs) line =
-    let own : Bool = isOf (subscriber a) c && eqb (r .result .code) 2001 in
-    history a es cs rs (pick own (lineAfter es ((requestIn c) .ask) r line) line)
+-- answered 2001 changes it, and no other call does. `rs` holds a reply for each call of `cs`, and `es` are the row's entries; the form is
+-- that of the table, one for all calls.
+unfoldable pub history : (form : ℕ) → (a : Account) → (es : List Entry) → (cs : List Call) → (rs : List Reply) → (line : List Tunnel) → List Tunnel
+history f a es [] rs line = line
+history f a es (c ∷ cs) [] line = line
+history f a es (c ∷ cs) (r ∷ rs) line =
+    let own : Bool = isOf f (subscriber a) c && eqb (r .result .code) 2001 in
+    history f a es cs rs (pick own (lineAfter es ((requestIn c) .ask) r line) line)
 
 -- THE ORDER LINE
 
@@ -65,26 +66,26 @@ tunnelOf s a = record { session = a .session; host = a .host; label = (entryAt (
 unfoldable pub tunnels : Subscriber → List Tunnel
 tunnels s = map (tunnelOf s) (s .accesses)
 
-abbrev pub lineOf : List ℕ → ℕ → List Tunnel
+abbrev pub lineOf : Table → ℕ → List Tunnel
 lineOf t i = tunnels (readRow (rowAt t i))
 
-abbrev pub entriesOf : List ℕ → ℕ → List Entry
+abbrev pub entriesOf : Table → ℕ → List Entry
 entriesOf t i = (readRow (rowAt t i)) .entries
 
--- THE STATEMENTS, for any table and any calls.
+-- THE STATEMENTS, for any table of any form and any calls.
 
 -- After any list of calls the order line of a subscriber's row is its history from the line before them. The row may be
 -- unsound, too: then both stay as they were.
 abbrev pub LineIsHistory : Type 0
 LineIsHistory =
-    (t : List ℕ) (cs : List Call) (a : Account) (i : ℕ) → lookup t a ≡ row i
-    → lineOf ((run t cs) .table) i ≡ history a (entriesOf t i) cs ((run t cs) .replies) (lineOf t i)
+    (t : Table) (cs : List Call) (a : Account) (i : ℕ) → lookup t a ≡ row i
+    → lineOf ((run t cs) .table) i ≡ history (t .form) a (entriesOf t i) cs ((run t cs) .replies) (lineOf t i)
 
 -- The label that is asked for; no bytes where a policy is. The tunnels on a label, in their order. The tunnel that a cut notice
 -- names, on that label.
 unfoldable pub labelAsked : Ask → List ℕ
-labelAsked (tunnel session host label visited) = label
-labelAsked (policy session route) = []
+labelAsked (tunnel session host realm label visited) = label
+labelAsked (policy session first second third) = []
 labelAsked (termination session label) = label
 
 unfoldable pub onLabel : (label : List ℕ) → List Tunnel → List Tunnel
@@ -97,24 +98,24 @@ tunnelCut label r = record { session = sessionCut r; host = take (r .result .cut
 -- `before` it has them, the first is the one that its notice names.
 abbrev pub CutOpenedFirst : Type 0
 CutOpenedFirst =
-    (t : List ℕ) (before : List Call) (c : Call) (a : Account) (i : ℕ) → lookup t a ≡ row i → subject c ≡ subscriber a
+    (t : Table) (before : List Call) (c : Call) (a : Account) (i : ℕ) → lookup t a ≡ row i → subject (t .form) c ≡ subscriber a
     → let r : Reply = (handle ((run t before) .table) c) .reply in
     let label : List ℕ = labelIn (entriesOf t i) (labelAsked ((requestIn c) .ask)) in
     r .result .cut ≡ 1
-    → take 1 (onLabel label (history a (entriesOf t i) before ((run t before) .replies) (lineOf t i))) ≡ tunnelCut label r ∷ []
+    → take 1 (onLabel label (history (t .form) a (entriesOf t i) before ((run t before) .replies) (lineOf t i))) ≡ tunnelCut label r ∷ []
 
 -- WHAT NO CALL CHANGES
 
 -- The entries of a row.
 abbrev pub EntriesStay : Type 0
-EntriesStay = (t : List ℕ) (cs : List Call) (i : ℕ) → entriesOf ((run t cs) .table) i ≡ entriesOf t i
+EntriesStay = (t : Table) (cs : List Call) (i : ℕ) → entriesOf ((run t cs) .table) i ≡ entriesOf t i
 
 -- A second row of an account: the lookup finds the first.
 abbrev pub SecondRowStays : Type 0
 SecondRowStays =
-    (t : List ℕ) (cs : List Call) (a : Account) (i j : ℕ) → lookup t a ≡ row i → (j ≡ i → ⊥) → isRowOf a (rowAt t j) ≡ true
+    (t : Table) (cs : List Call) (a : Account) (i j : ℕ) → lookup t a ≡ row i → (j ≡ i → ⊥) → isRowOf a (rowAt t j) ≡ true
     → rowAt ((run t cs) .table) j ≡ rowAt t j
 
 -- An unsound row.
 abbrev pub UnsoundRowStays : Type 0
-UnsoundRowStays = (t : List ℕ) (cs : List Call) (j : ℕ) → sound (rowAt t j) ≡ false → rowAt ((run t cs) .table) j ≡ rowAt t j
+UnsoundRowStays = (t : Table) (cs : List Call) (j : ℕ) → sound (rowAt t j) ≡ false → rowAt ((run t cs) .table) j ≡ rowAt t j

@@ -8,7 +8,7 @@ use lib.ListN.{length, drop, getD, drop-of-length-le}
 use lib.Seq.{drop-cons}
 use Rattle.octets.specs.Choice.{pick}
 use Rattle.octets.specs.Texts.{part}
-use Rattle.table.specs.TheTable.{Entry, block, entriesRoom, readEntry, readRow}
+use Rattle.table.specs.TheTable.{Entry, entriesRoom, head, readEntry, readRow}
 use Rattle.table.specs.Soundness.{sound, sameLabel}
 use Rattle.table.proofs.Entries.{entry-at, label-size}
 use Rattle.table.proofs.Sound.{clauses}
@@ -38,12 +38,12 @@ module _ (l : List ℕ) (es : List Entry) (n : ℕ) (one : 1 ≤ n) where
 -- entry n of a sound row, counted from 1
 module _ (r : List ℕ) (h : sound r ≡ true) where
   module _ (n : ℕ) (one : 1 ≤ n) (le : n ≤ length ((readRow r) .entries)) where
-    inside : n - 1 < getD (block r 0) 18 0
+    inside : n - 1 < getD (head r) 18 0
     inside = omega (arith, count-is r)
 
     pub entry-is : entryAt n (readRow r) ≡ readEntry (part (entriesRoom r) (104 * (n - 1)) 104)
     unfolding entryAt readRow
-    entry-is = entry-at (getD (block r 0) 18 0) (n - 1) (entriesRoom r) noEntry inside
+    entry-is = entry-at (getD (head r) 18 0) (n - 1) (entriesRoom r) noEntry inside
 
     pub label-short : getD (entriesRoom r) (104 * (n - 1)) 0 ≤ 100
-    label-short = label-size (getD (block r 0) 18 0) (n - 1) (entriesRoom r) inside ((clauses r h) .entries-form)
+    label-short = label-size (getD (head r) 18 0) (n - 1) (entriesRoom r) inside ((clauses r h) .entries-form)

@@ -11,8 +11,8 @@ use Rattle.octets.specs.Choice.{pick, within}
 use Rattle.octets.specs.Lists.{every, keep, firstOr}
 use Rattle.octets.specs.Texts.{same}
 use Rattle.octets.proofs.Lists.{by-test, and-left, and-right, within-low, every-keep, every-map}
-use Rattle.table.specs.TheTable.{Access, places, line, orderLine, block, readRow, readAccess}
-use Rattle.table.specs.Soundness.{sound, hasForm, sumsAgree, lineExact, onEntry}
+use Rattle.table.specs.TheTable.{Access, accessAt, head, line, orderLine, places, readAccess, readRow}
+use Rattle.table.specs.Soundness.{hasForm, lineExact, onEntry, placeSums, sound, sumsAgree}
 use Rattle.table.proofs.Form.{line-read}
 use Rattle.changes.proofs.Steps.{keep-map}
 use Rattle.rules.specs.Deciding.{withSession, placeOf, firstOn, none}
@@ -20,22 +20,22 @@ use Rattle.plans.proofs.Search.{hunt, all-in}
 
 pub line-sound : (r : List ℕ) → sound r ≡ true → lineExact r ≡ true
 unfolding sound
-line-sound r h = and-left (lineExact r) _ (and-right (every (sumsAgree r) (0 ∷ places)) _ (and-right (hasForm r) _ h))
+line-sound r h = and-left (lineExact r) _ (and-right (sumsAgree (head r) && every (placeSums r) places) _ (and-right (hasForm r) _ h))
 
 -- the access at place k is on entry n; it has this Session-Id; both
 abbrev pub entryIs : List ℕ → ℕ → ℕ → Bool
-entryIs r n k = eqb ((readAccess k (block r k)) .entry) n
+entryIs r n k = eqb ((accessAt r k) .entry) n
 
 abbrev pub sessionIs : List ℕ → List ℕ → ℕ → Bool
-sessionIs r s k = same ((readAccess k (block r k)) .session) s
+sessionIs r s k = same ((accessAt r k) .session) s
 
 abbrev pub bothAre : List ℕ → ℕ → List ℕ → ℕ → Bool
 bothAre r n s k = entryIs r n k && sessionIs r s k
 
 -- places kept by a test of their accesses
 kept-line : (r : List ℕ) (f : Access → Bool) (l : List ℕ)
-    → line (keep f (map (λ (k : ℕ). readAccess k (block r k)) l)) ≡ keep (λ k. f (readAccess k (block r k))) l
-kept-line r f l = ap line (keep-map (λ (k : ℕ). readAccess k (block r k)) f l) ∙ line-read r _
+    → line (keep f (map (accessAt r) l)) ≡ keep (λ k. f (accessAt r k)) l
+kept-line r f l = ap line (keep-map (accessAt r) f l) ∙ line-read r _
 
 pub first-is : (r : List ℕ) (n : ℕ) → firstOn n ((readRow r) .accesses) ≡ hunt (entryIs r n) (orderLine r) 0
 unfolding firstOn placeOf onEntry readRow hunt
@@ -69,7 +69,7 @@ none-is (x ∷ a) h =
     ne-eqb (suc (length a)) 0 (omega arith) ∙ sym (ne-eqb (x .place) 0 (omega (arith, within-low 1 8 (x .place) w)))
 
 pub places-in : (r : List ℕ) → sound r ≡ true → every (λ (x : Access). within 1 8 (x .place)) ((readRow r) .accesses) ≡ true
-unfolding readRow readAccess
+unfolding readRow accessAt readAccess
 places-in r h = rw every-map (all-in r h)
 
 pub none-with : (r s : List ℕ) → sound r ≡ true → none (withSession s ((readRow r) .accesses)) ≡ eqb (placeOf (withSession s ((readRow r) .accesses))) 0

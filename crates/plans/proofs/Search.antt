@@ -15,7 +15,7 @@ use Rattle.octets.specs.Lists.{every, keep, firstOr, upTo0, isOn}
 use Rattle.octets.specs.Texts.{allZero}
 use Rattle.octets.proofs.Lists.{by-test, and-left, and-right, within-low, on-first}
 use Rattle.octets.proofs.Texts.{zero-cons}
-use Rattle.table.specs.TheTable.{block, lineRoom, orderLine}
+use Rattle.table.specs.TheTable.{head, lineRoom, orderLine}
 use Rattle.table.specs.Soundness.{sound, zeroBehind}
 use Rattle.table.proofs.Form.{up-to-length}
 use Rattle.table.proofs.Sound.{clauses, head-of, on-more}
@@ -27,7 +27,7 @@ all-in r h = (clauses r h) .line-in
 
 pub short : (r : List ℕ) → length (orderLine r) ≤ 8
 unfolding orderLine
-short r = omega (arith, up-to-length (lineRoom r), length-take 8 (drop 20 (block r 0)))
+short r = omega (arith, up-to-length (lineRoom r), length-take 8 (drop 20 (head r)))
 
 zero-at : (l : List ℕ) (i : ℕ) → allZero l ≡ true → getD l i 0 ≡ 0
 zero-at [] i z = refl
@@ -44,7 +44,7 @@ up-to-at (x ∷ l) (suc i) z = by-test (eqb x 0) (λ e. rw e (sym (zero-at (x �
 -- in a sound row the i-th byte of the line's room is the i-th place, or 0
 pub line-byte : (r : List ℕ) (i : ℕ) → sound r ≡ true → getD (orderLine r) i 0 ≡ getD (lineRoom r) i 0
 unfolding orderLine
-line-byte r i h = up-to-at (lineRoom r) i (head-of (block r 0) ((clauses r h) .head) .0 .line-end)
+line-byte r i h = up-to-at (lineRoom r) i (head-of (head r) ((clauses r h) .head-form) .0 .line-end)
 
 -- SEARCHING A LIST OF PLACES
 

@@ -10,26 +10,27 @@ use Rattle.message.specs.Codes.{noSubscription, plain, roamingNotAllowed, unuse
 use Rattle.octets.specs.Choice.{pick, within}
 use Rattle.octets.specs.Lists.{every, firstOr, isOn}
 use Rattle.table.specs.Soundness.{onEntry, sound}
-use Rattle.table.specs.TheTable.{Access, Subscriber, barred, line, mayRoam, orderLine, readRow}
+use Rattle.changes.specs.Changes.{Opening, freed}
+use Rattle.table.specs.TheTable.{Access, Policies, Subscriber, barred, line, mayRoam, orderLine, readRow}
 use Rattle.row.proofs.Entries.{most-four}
 use Rattle.plans.proofs.Found.{bothAre, ended-is, entryIs, first-is, on-places, session-is, sessionIs}
 use Rattle.plans.proofs.Search.{hunt-on}
 use Rattle.plans.proofs.Stay.{limit-is, limit-some, room-left}
 use Rattle.rules.specs.Deciding.{admit, atLimit, entryAt, entryNamed, firstOn, grant, heldAlready, none, placeOf, refuse, terminate, type0, type1, withSession}
 use Rattle.plans.specs.declared.Plan.the-variants.{Open, Route}
-use Rattle.plans.specs.Plans.{fitPlan, planned}
+use Rattle.plans.specs.Plans.{Brought, fitPlan, planned}
 use Rattle.octets.proofs.Lists.{and-left, both, in-within, within-low}
 use Rattle.table.proofs.Sound.{says-good}
 
 -- AN OPENING
 
-module _ (n : ℕ) (session host route : List ℕ) (s : Subscriber) where
-  pub opens : length (onEntry n (s .accesses)) < (entryAt n s) .limit → planned session host route (Open n 0) s ≡ admit n session host s
+module _ (n : ℕ) (b : Brought) (s : Subscriber) where
+  pub opens : length (onEntry n (s .accesses)) < (entryAt n s) .limit → planned b (Open n 0) s ≡ admit n (b .opening) s
   unfolding planned admit atLimit pick
   opens h = rw (lt-ltb _ _ h)
 
   pub cuts : (entryAt n s) .limit ≤ length (onEntry n (s .accesses)) → (firstOn n (s .accesses) ≡ 0 → ⊥)
-      → planned session host route (Open n (firstOn n (s .accesses))) s ≡ admit n session host s
+      → planned b (Open n (firstOn n (s .accesses))) s ≡ admit n (b .opening) s
   unfolding planned admit atLimit pick
   cuts h nz = rw (le-ltb _ _ h, ne-eqb (firstOn n (s .accesses)) 0 nz)
 
@@ -48,44 +49,44 @@ one-to-cut r n h one le full =
 
 -- TYPE 0
 
-module _ (session host label : List ℕ) (visited : Bool) (s : Subscriber) where
-  pub not-subscribed : entryNamed label s ≡ 0 → type0 session host label visited s ≡ refuse noSubscription s
+module _ (o : Opening) (label : List ℕ) (visited : Bool) (s : Subscriber) where
+  pub not-subscribed : entryNamed label s ≡ 0 → type0 o label visited s ≡ refuse noSubscription s
   unfolding type0 pick
   not-subscribed e = rw (eq-eqb (entryNamed label s) 0 e)
 
   module _ (entered : entryNamed label s ≡ 0 → ⊥) where
-    pub is-barred : (entryAt (entryNamed label s) s) .flags % 2 ≡ 1 → type0 session host label visited s ≡ refuse (plain 5003) s
+    pub is-barred : (entryAt (entryNamed label s) s) .flags % 2 ≡ 1 → type0 o label visited s ≡ refuse (plain 5003) s
     unfolding type0 barred pick
     is-barred e = rw (ne-eqb (entryNamed label s) 0 entered, eq-eqb _ 1 e)
 
     module _ (unbarred : (entryAt (entryNamed label s) s) .flags % 2 ≡ 1 → ⊥) where
-      pub no-roaming : visited && not (mayRoam (entryAt (entryNamed label s) s)) ≡ true → type0 session host label visited s ≡ refuse roamingNotAllowed s
+      pub no-roaming : visited && not (mayRoam (entryAt (entryNamed label s) s)) ≡ true → type0 o label visited s ≡ refuse roamingNotAllowed s
       unfolding type0 barred pick
       no-roaming e = rw (ne-eqb (entryNamed label s) 0 entered, ne-eqb _ 1 unbarred, e)
 
       module _ (at-home : visited && not (mayRoam (entryAt (entryNamed label s) s)) ≡ false) where
-        pub is-held : none (withSession session (s .accesses)) ≡ false → type0 session host label visited s ≡ refuse (plain 5012) s
+        pub is-held : none (withSession (o .session) (s .accesses)) ≡ false → type0 o label visited s ≡ refuse (plain 5012) s
         unfolding type0 barred heldAlready pick
         is-held e = rw (ne-eqb (entryNamed label s) 0 entered, ne-eqb _ 1 unbarred, at-home, e)
 
-        pub is-admitted : none (withSession session (s .accesses)) ≡ true → type0 session host label visited s ≡ admit (entryNamed label s) session host s
+        pub is-admitted : none (withSession (o .session) (s .accesses)) ≡ true → type0 o label visited s ≡ admit (entryNamed label s) o s
         unfolding type0 barred pick
         is-admitted e = rw (ne-eqb (entryNamed label s) 0 entered, ne-eqb _ 1 unbarred, at-home, e)
 
 -- TYPE 1 AND TERMINATION
 
-module _ (session route : List ℕ) (s : Subscriber) where
-  pub no-access : (wag : Bool) → none (withSession session (s .accesses)) ≡ true → type1 session route wag s ≡ refuse (plain 5012) s
+module _ (session : List ℕ) (s : Subscriber) where
+  pub no-access : (p : Policies) (wag : Bool) → none (withSession session (s .accesses)) ≡ true → type1 session p wag s ≡ refuse (plain 5012) s
   unfolding type1 pick
-  no-access wag e = rw e
+  no-access p wag e = rw e
 
-  pub gateway-no : none (withSession session (s .accesses)) ≡ false → type1 session route false s ≡ refuse (plain 5012) s
+  pub gateway-no : (p : Policies) → none (withSession session (s .accesses)) ≡ false → type1 session p false s ≡ refuse (plain 5012) s
   unfolding type1 pick
-  gateway-no e = rw e
+  gateway-no p e = rw e
 
-  pub gateway-yes : none (withSession session (s .accesses)) ≡ false → type1 session route true s ≡ planned session [] route (Route (placeOf (withSession session (s .accesses)))) s
+  pub gateway-yes : (b : Brought) → none (withSession session (s .accesses)) ≡ false → type1 session (b .policies) true s ≡ planned b (Route (placeOf (withSession session (s .accesses)))) s
   unfolding type1 planned pick
-  gateway-yes e = rw e
+  gateway-yes b e = rw e
 
   module _ (label : List ℕ) where
     pub not-used : none (withSession session (onEntry (entryNamed label s) (s .accesses))) ≡ true → terminate session label s ≡ refuse unusedByUser s
@@ -93,7 +94,7 @@ module _ (session route : List ℕ) (s : Subscriber) where
     not-used e = rw e
 
     pub is-ended : none (withSession session (onEntry (entryNamed label s) (s .accesses))) ≡ false
-        → terminate session label s ≡ grant (Rattle.changes.specs.Changes.freed (placeOf (withSession session (onEntry (entryNamed label s) (s .accesses)))) s)
+        → terminate session label s ≡ grant (freed (placeOf (withSession session (onEntry (entryNamed label s) (s .accesses)))) s)
     unfolding terminate pick
     is-ended e = rw e
 
@@ -105,13 +106,13 @@ module _ (r : List ℕ) (h : sound r ≡ true) where
     entry-in : within 1 4 n ≡ true
     entry-in = in-within 1 4 n one (omega (arith, most-four r h))
 
-    pub fit-open : length (onEntry n ((readRow r) .accesses)) < (entryAt n (readRow r)) .limit → (route : List ℕ) → fitPlan route (Open n 0) r ≡ true
+    pub fit-open : length (onEntry n ((readRow r) .accesses)) < (entryAt n (readRow r)) .limit → (p : Policies) → fitPlan p (Open n 0) r ≡ true
     unfolding fitPlan pick
-    fit-open below route = both entry-in (lt-ltb (length ((readRow r) .accesses)) 8 (room-left n (readRow r) (says-good r h) (in-within 1 _ n one le) below))
+    fit-open below p = both entry-in (lt-ltb (length ((readRow r) .accesses)) 8 (room-left n (readRow r) (says-good r h) (in-within 1 _ n one le) below))
 
-    pub fit-cut : (firstOn n ((readRow r) .accesses) ≡ 0 → ⊥) → (route : List ℕ) → fitPlan route (Open n (firstOn n ((readRow r) .accesses))) r ≡ true
+    pub fit-cut : (firstOn n ((readRow r) .accesses) ≡ 0 → ⊥) → (p : Policies) → fitPlan p (Open n (firstOn n ((readRow r) .accesses))) r ≡ true
     unfolding fitPlan pick
-    fit-cut nz route =
+    fit-cut nz p =
         both entry-in
         (rw (ne-eqb (firstOn n ((readRow r) .accesses)) 0 nz, first-is r n) (hunt-on (entryIs r n) (orderLine r) (λ z. nz (first-is r n ∙ z))))
 

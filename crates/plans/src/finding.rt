@@ -5,8 +5,8 @@ ghost use Prim.Native.Nat.{ℕ, _+_, _-_, _*_, _≤_, _<_};
 ghost use lib.Dec.{eqb};
 ghost use lib.ListN.{length, getD};
 ghost use Rattle.octets.specs.Texts.{same};
-ghost use Rattle.table.specs.TheTable.{block, orderLine, readAccess, readRow, rowLength};
-ghost use Rattle.table.specs.Soundness.{sound, onEntry, sameLabel};
+ghost use Rattle.table.specs.TheTable.{accessAt, orderLine, readRow};
+ghost use Rattle.table.specs.Soundness.{isRow, onEntry, sameLabel, sound};
 ghost use Rattle.rules.specs.Deciding.{entryNamed, entryAt, withSession, placeOf, firstOn};
 
 // The i-th place on the order line, first opened first; 0 where the line is over.
@@ -22,28 +22,28 @@ fn line_at(row: &[u8], i: usize) -> usize
 
 // Whether the access at a place is on this entry.
 fn on_entry(row: &[u8], place: usize, entry: usize) -> bool
-    requires { ⌜ (length (now row) ≡ rowLength) × (place ≤ 8) ⌝ }
-    ensures { λ r. ⌜ r ≡ eqb ((readAccess place (block (now (row .entry)) place)) .entry) entry ⌝ }
+    requires { ⌜ (isRow (now row) ≡ true) × (1 ≤ place) × (place ≤ 8) ⌝ }
+    ensures { λ r. ⌜ r ≡ eqb ((accessAt (now (row .entry)) place) .entry) entry ⌝ }
 {
     octets::long(row::entry_of(row, place)) == entry
 }
 
 // Whether the access at a place has this Session-Id.
 fn has_session(row: &[u8], place: usize, session: &[u8]) -> bool
-    requires { ⌜ (length (now row) ≡ rowLength) × (place ≤ 8) ⌝ }
-    ensures { λ r. ⌜ r ≡ same ((readAccess place (block (now (row .entry)) place)) .session) (now (session .entry)) ⌝ }
+    requires { ⌜ (isRow (now row) ≡ true) × (1 ≤ place) × (place ≤ 8) ⌝ }
+    ensures { λ r. ⌜ r ≡ same ((accessAt (now (row .entry)) place) .session) (now (session .entry)) ⌝ }
 {
     octets::same_bytes(row::session(row, place), session)
 }
 
 // Whether the access at a place is on this entry and has this Session-Id.
 fn is_access(row: &[u8], place: usize, entry: usize, session: &[u8]) -> bool
-    requires { ⌜ (length (now row) ≡ rowLength) × (place ≤ 8) ⌝ }
+    requires { ⌜ (isRow (now row) ≡ true) × (1 ≤ place) × (place ≤ 8) ⌝ }
     ensures { λ r.
         ⌜
         r
-        ≡ eqb ((readAccess place (block (now (row .entry)) place)) .entry) entry
-        && same ((readAccess place (block (now (row .entry)) place)) .session) (now (session .entry))
+        ≡ eqb ((accessAt (now (row .entry)) place) .entry) entry
+        && same ((accessAt (now (row .entry)) place) .session) (now (session .entry))
         ⌝ }
 {
     if on_entry(row, place, entry) {

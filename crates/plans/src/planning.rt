@@ -3,24 +3,23 @@ use super::Plan;
 use super::finding;
 ghost use mathlib.Core.Path.{_≡_};
 ghost use mathlib.Core.Bool.{true, _&&_, not};
-ghost use mathlib.Core.List.{List};
-ghost use Prim.Native.Nat.{ℕ, _≤_, _/_, _%_};
+ghost use Prim.Native.Nat.{_≤_, _/_, _%_};
 ghost use lib.Dec.{eqb};
 ghost use lib.ListN.{length};
-ghost use Rattle.octets.specs.Choice.{within};
-ghost use Rattle.table.specs.TheTable.{readRow};
+ghost use Rattle.changes.specs.Changes.{Opening};
+ghost use Rattle.table.specs.TheTable.{Policies, readRow};
 ghost use Rattle.table.specs.Soundness.{sound};
 ghost use Rattle.rules.specs.Deciding.{type0, type1, terminate, admit};
-ghost use Rattle.plans.specs.Plans.{planned, fitPlan};
+ghost use Rattle.plans.specs.Plans.{fitPlan, fitPolicies, planned};
 
 // An opening on entry n: at its limit, the entry's first-opened access is cut for it.
 fn plan_opening(row: &[u8], n: usize) -> Plan
     requires { ⌜ (sound (now row) ≡ true) × (1 ≤ n) × (n ≤ length ((readRow (now row)) .entries)) ⌝ }
     ensures { λ r.
         ⌜
-        ((session host route : List ℕ)
-        → planned session host route r (readRow (now (row .entry))) ≡ admit n session host (readRow (now (row .entry))))
-        × ((route : List ℕ) → fitPlan route r (now (row .entry)) ≡ true)
+        ((o : Opening) (p : Policies)
+        → planned (record { opening = o; policies = p }) r (readRow (now (row .entry))) ≡ admit n o (readRow (now (row .entry))))
+        × ((p : Policies) → fitPlan p r (now (row .entry)) ≡ true)
         ⌝ }
 {
     if soundness::accesses_on(row, n) < octets::long(finding::limit_of(row, n)) {
@@ -44,10 +43,10 @@ pub fn plan_tunnel(row: &[u8], session: &[u8], label: &[u8], visited: bool) -> P
     requires { ⌜ sound (now row) ≡ true ⌝ }
     ensures { λ r.
         ⌜
-        ((host route : List ℕ)
-        → planned (now (session .entry)) host route r (readRow (now (row .entry)))
-        ≡ type0 (now (session .entry)) host (now (label .entry)) visited (readRow (now (row .entry))))
-        × ((route : List ℕ) → fitPlan route r (now (row .entry)) ≡ true)
+        ((o : Opening) (p : Policies) → o .session ≡ now (session .entry)
+        → planned (record { opening = o; policies = p }) r (readRow (now (row .entry)))
+        ≡ type0 o (now (label .entry)) visited (readRow (now (row .entry))))
+        × ((p : Policies) → fitPlan p r (now (row .entry)) ≡ true)
         ⌝ }
 {
     let n = finding::entry_named(row, label);
@@ -73,10 +72,10 @@ pub fn plan_policy(row: &[u8], session: &[u8], wag: bool) -> Plan
     requires { ⌜ sound (now row) ≡ true ⌝ }
     ensures { λ r.
         ⌜
-        ((host route : List ℕ)
-        → planned (now (session .entry)) host route r (readRow (now (row .entry)))
-        ≡ type1 (now (session .entry)) route wag (readRow (now (row .entry))))
-        × ((route : List ℕ) → within 1 128 (length route) ≡ true → fitPlan route r (now (row .entry)) ≡ true)
+        ((o : Opening) (p : Policies)
+        → planned (record { opening = o; policies = p }) r (readRow (now (row .entry)))
+        ≡ type1 (now (session .entry)) p wag (readRow (now (row .entry))))
+        × ((p : Policies) → fitPolicies p ≡ true → fitPlan p r (now (row .entry)) ≡ true)
         ⌝ }
 {
     let k = finding::place_of(row, session);
@@ -94,10 +93,10 @@ pub fn plan_termination(row: &[u8], session: &[u8], label: &[u8]) -> Plan
     requires { ⌜ sound (now row) ≡ true ⌝ }
     ensures { λ r.
         ⌜
-        ((host route : List ℕ)
-        → planned (now (session .entry)) host route r (readRow (now (row .entry)))
+        ((o : Opening) (p : Policies)
+        → planned (record { opening = o; policies = p }) r (readRow (now (row .entry)))
         ≡ terminate (now (session .entry)) (now (label .entry)) (readRow (now (row .entry))))
-        × ((route : List ℕ) → fitPlan route r (now (row .entry)) ≡ true)
+        × ((p : Policies) → fitPlan p r (now (row .entry)) ≡ true)
         ⌝ }
 {
     let n = finding::entry_named(row, label);

@@ -4,25 +4,24 @@ use mathlib.Core.Bool.{true, false, _&&_, _||_, not}
 use mathlib.Core.List.{List, [], _∷_, _++_, append-assoc, flatMap}
 use Prim.Native.Nat.{ℕ, _+_, _/_, _%_, _≤_, _<_}
 use native.Mathlib.Omega.{arith}
-use borrow.Author.Tests.{eqb-true, eqb-false, eq-eqb, ne-eqb, leb-true, leb-false, le-leb, lt-leb}
+use borrow.Author.Tests.{eqb-true, eqb-false, eq-eqb, ne-eqb, leb-true, leb-false, le-leb}
 use lib.Dec.{eqb, leb}
 use lib.ListN.{length, getD, drop, length-drop}
 use lib.Seq.{drop-drop}
 use Rattle.octets.specs.Choice.{pick, require, firstOf, within}
-use Rattle.octets.specs.Lists.{every}
 use Rattle.octets.specs.Numbers.{up4}
 use Rattle.octets.proofs.Lists.{by-test}
 use Rattle.message.specs.Codes.{plain}
-use Rattle.message.specs.ReadingAMessage.{Name, Avp, Field, flags, command, application, headerCode, headLength, avpLength, avpCode, avpOf, supported, requestCode, avps, walkCode, sessionId, having, startsWith, testedAs, fieldCode, forBoth, for265, for275, fields}
+use Rattle.message.specs.ReadingAMessage.{Name, Avp, Field, flags, command, application, headerCode, headLength, avpLength, avpCode, avpOf, supported, requestCode, avps, walkCode, sessionId, having, startsWith, eachCode, testedAs, fieldCode, forBoth, for265, for275, fields}
 use Rattle.message.proofs.Walks.{Passed, passes as passed, request-four, request-passes, request-refuses}
-use Rattle.message.proofs.Listing.{above-zero}
+use Rattle.message.proofs.Listing.{above-zero, first-one}
 use Rattle.reader.specs.Steps.{faultOf, seenAt, stepAt}
 use Rattle.reader.specs.declared.Seen.{Seen}
 use Rattle.reader.specs.declared.Fault.{Fault}
 use Rattle.reader.specs.declared.Fault.the-variants.{Few, Bits, Short, Past}
 use Rattle.reader.specs.declared.Step.the-variants.{One, End, Bad}
 use Rattle.reader.proofs.Laws.{step-end, step-bad, step-one}
-use Rattle.order.specs.ChecksInOrder.{Check, pass, fail, reservedBits, errorBit, unknownCommand, wrongApplication, fewBytesLeft, reservedAvpBits, shortLength, pastTheEnd, unsupported, sessionIdNotFirst, absent, twice, wrongLength, wrongValue, check, firstFailed, headerChecks, avpChecks, walkFrom, walkChecks, fieldChecks, listChecks, readingChecks}
+use Rattle.order.specs.ChecksInOrder.{Check, pass, fail, reservedBits, errorBit, unknownCommand, wrongApplication, fewBytesLeft, reservedAvpBits, shortLength, pastTheEnd, unsupported, sessionIdNotFirst, absent, tooOften, wrongLength, wrongValue, check, firstFailed, headerChecks, avpChecks, walkFrom, walkChecks, valueChecks, fieldChecks, listChecks, readingChecks}
 use Rattle.order.proofs.Read.{first-of, Gives, passes, fails, header-gives, avp-gives, walk-next, walk-gives, there-is, field-gives}
 use Rattle.reasons.specs.Parts.{firstOfFields}
 
@@ -187,23 +186,31 @@ unfoldable pub fieldEntry : Name → ℕ → Check
 fieldEntry name n =
     pick (eqb n 0) pass
     (pick (eqb n 5005) (fail (absent name) (plain 5005))
-    (pick (eqb n 5009) (fail (twice name) (plain 5009))
+    (pick (eqb n 5009) (fail (tooOften name) (plain 5009))
     (pick (eqb n 5014) (fail (wrongLength name) (plain 5014))
     (fail (wrongValue name) (plain 5004)))))
 
-pub field-entry : (f : Field) (there : List Avp) → fieldEntry (f .name) (testedAs f there) ≡ firstFailed (fieldChecks f there)
-unfolding fieldEntry testedAs fieldChecks firstOf require check firstFailed every pick
-field-entry f [] = by-test (f .required) (λ e. rw e) (λ e. rw e)
-field-entry f (a ∷ []) =
+-- AVP by AVP
+each-entry : (f : Field) (there : List Avp) → fieldEntry (f .name) (eachCode f there) ≡ firstFailed (flatMap (valueChecks f) there)
+unfolding fieldEntry eachCode valueChecks firstOf require check firstFailed flatMap pick
+each-entry f [] = refl
+each-entry f (a ∷ xs) =
     by-test (within (f .low) (f .high) (length (a .value)))
     (λ e. by-test (f .allowed (a .value))
-    (λ d. rw (there-is (f .required), e, d))
-    (λ d. rw (there-is (f .required), e, d)))
-    (λ e. rw (there-is (f .required), e))
-field-entry f (a ∷ (b ∷ xs)) =
-    let some : leb 1 (length (a ∷ b ∷ xs)) ≡ true = le-leb 1 (length (a ∷ b ∷ xs)) (omega arith) in
-    let more : leb (length (a ∷ b ∷ xs)) 1 ≡ false = lt-leb (length (a ∷ b ∷ xs)) 1 (omega arith) in
-    rw (some, there-is (f .required), more)
+    (λ d. rw (e, d) (ap (fieldEntry (f .name)) (first-one (eachCode f xs)) ∙ each-entry f xs))
+    (λ d. rw (e, d)))
+    (λ e. rw e)
+
+pub field-entry : (f : Field) (there : List Avp) → fieldEntry (f .name) (testedAs f there) ≡ firstFailed (fieldChecks f there)
+unfolding fieldEntry testedAs fieldChecks firstOf require check firstFailed flatMap pick
+field-entry f [] =
+    let few : leb (length {A = Avp} []) (f .most) ≡ true = le-leb 0 (f .most) (omega arith) in
+    by-test (f .required) (λ e. rw e) (λ e. rw (e, few))
+field-entry f (a ∷ xs) =
+    let some : leb 1 (length (a ∷ xs)) ≡ true = le-leb 1 (length (a ∷ xs)) (omega arith) in
+    by-test (leb (length (a ∷ xs)) (f .most))
+    (λ e. rw (some, there-is (f .required), e) (ap (fieldEntry (f .name)) (first-one (eachCode f (a ∷ xs))) ∙ each-entry f (a ∷ xs)))
+    (λ e. rw (some, there-is (f .required), e))
 
 pub field-last : (name : Name) (n : ℕ) → (n ≡ 0 → ⊥) → (n ≡ 5005 → ⊥) → (n ≡ 5009 → ⊥) → (n ≡ 5014 → ⊥) → fieldEntry name n ≡ fail (wrongValue name) (plain 5004)
 unfolding fieldEntry pick
@@ -254,30 +261,30 @@ module _ (m : List ℕ) where
 
   -- THE LISTS
 
-  pub not-first : startsWith sessionId (avps m) ≡ false → fail sessionIdNotFirst (plain 5005) ≡ firstFailed (listChecks m)
+  pub not-first : (most : ℕ) → startsWith sessionId (avps m) ≡ false → fail sessionIdNotFirst (plain 5005) ≡ firstFailed (listChecks most m)
   unfolding listChecks check firstFailed
-  not-first e = rw e
+  not-first most e = rw e
 
-  module _ (s : startsWith sessionId (avps m) ≡ true) where
-    pub list-265 : command m ≡ 265 → firstOfFields m (forBoth ++ for265 (avps m)) ≡ firstFailed (listChecks m)
+  module _ (most : ℕ) (s : startsWith sessionId (avps m) ≡ true) where
+    pub list-265 : command m ≡ 265 → firstOfFields m (forBoth ++ for265 most (avps m)) ≡ firstFailed (listChecks most m)
     unfolding listChecks check firstFailed firstOfFields fields pick
     list-265 e = rw (s, eq-eqb (command m) 265 e)
 
-    pub list-275 : (command m ≡ 265 → ⊥) → firstOfFields m (forBoth ++ for275) ≡ firstFailed (listChecks m)
+    pub list-275 : (command m ≡ 265 → ⊥) → firstOfFields m (forBoth ++ for275) ≡ firstFailed (listChecks most m)
     unfolding listChecks check firstFailed firstOfFields fields pick
     list-275 e = rw (s, ne-eqb (command m) 265 e)
 
   -- THE WHOLE MESSAGE
 
-  pub header-first : (headerCode m ≡ 0 → ⊥) → firstFailed (headerChecks m) ≡ firstFailed (readingChecks m)
+  pub header-first : (most : ℕ) → (headerCode m ≡ 0 → ⊥) → firstFailed (headerChecks m) ≡ firstFailed (readingChecks most m)
   unfolding readingChecks
-  header-first z = gives-first _ (headerChecks m) _ z (header-gives m)
+  header-first most z = gives-first _ (headerChecks m) _ z (header-gives m)
 
-  module _ (h : headerCode m ≡ 0) where
-    pub walk-first : (walkCode m ≡ 0 → ⊥) → firstFailed (walkChecks m) ≡ firstFailed (readingChecks m)
+  module _ (most : ℕ) (h : headerCode m ≡ 0) where
+    pub walk-first : (walkCode m ≡ 0 → ⊥) → firstFailed (walkChecks m) ≡ firstFailed (readingChecks most m)
     unfolding readingChecks
-    walk-first z = gives-first _ (walkChecks m) (listChecks m) z (walk-gives m) ∙ gives-past _ (headerChecks m) _ h (header-gives m)
+    walk-first z = gives-first _ (walkChecks m) (listChecks most m) z (walk-gives m) ∙ gives-past _ (headerChecks m) _ h (header-gives m)
 
-    pub lists-last : walkCode m ≡ 0 → firstFailed (listChecks m) ≡ firstFailed (readingChecks m)
+    pub lists-last : walkCode m ≡ 0 → firstFailed (listChecks most m) ≡ firstFailed (readingChecks most m)
     unfolding readingChecks
-    lists-last z = gives-past _ (walkChecks m) (listChecks m) z (walk-gives m) ∙ gives-past _ (headerChecks m) _ h (header-gives m)
+    lists-last z = gives-past _ (walkChecks m) (listChecks most m) z (walk-gives m) ∙ gives-past _ (headerChecks m) _ h (header-gives m)

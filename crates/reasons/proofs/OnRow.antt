@@ -13,14 +13,14 @@ use Rattle.octets.proofs.Lists.{by-test}
 use Rattle.message.specs.Codes.{plain, roamingNotAllowed, unusedByUser, noSubscription, userUnknown, numberOf}
 use Rattle.message.specs.ReadingAMessage.{Ask, tunnel, policy, termination, Request, request, refused, read, readingCode}
 use Rattle.message.proofs.Lengths.{passing}
-use Rattle.table.specs.TheTable.{Subscriber, Found, row, nothing, isFound, lookup, rowAt, readRow, barred, mayRoam}
+use Rattle.table.specs.TheTable.{Subscriber, Table, Found, row, nothing, isFound, lookup, rowAt, readRow, barred, mayRoam}
 use Rattle.table.specs.Soundness.{sound, onEntry}
 use Rattle.rules.specs.Deciding.{Verdict, type0, type1, terminate, refuse, grant, heldAlready, entryNamed, entryAt, withSession, none}
-use Rattle.rules.specs.Calls.{account, Call, callNumber}
+use Rattle.rules.specs.Calls.{account, Call, callNumber, mostPolicies}
 use Rattle.plans.specs.declared.Plan.{Plan}
 use Rattle.plans.specs.declared.Plan.the-variants.{NotSubscribed, Barred, RoamingNotAllowed, UnableToComply, UnusedByUser, Open, Route, Free}
 use Rattle.plans.proofs.Plan.{the-type}
-use Rattle.plans.specs.Plans.{planned, planCode}
+use Rattle.plans.specs.Plans.{Brought, planned, planCode}
 use Rattle.decision.proofs.Answered.{plan-code}
 use Rattle.order.specs.ChecksInOrder.{Check, pass, fail, noRow, unsoundRow, notEntered, entryBarred, mayNotRoam, sessionHeld, noAccess, gatewaySaysNo, unused, check, firstFailed, readingChecks, decidingChecks}
 use Rattle.order.specs.Demand2.{requestIn, found, rowFound, rowBefore, checks}
@@ -32,10 +32,15 @@ use Rattle.reasons.proofs.Laws.{gives-first, gives-past}
 
 -- DECIDING
 
+-- texts for a plan that is not carried out: all but the Session-Id is empty
+abbrev pub opening : List ℕ → Brought
+opening session =
+    record { opening = record { session = session; host = []; realm = [] }; policies = record { first = []; second = []; third = [] } }
+
 -- the number of a plan's code is that of its verdict
-plan-number : (session host route : List ℕ) (p : Plan) (s : Subscriber) (v : Verdict) → planned session host route p s ≡ v → numberOf (planCode p) ≡ numberOf (v .code)
-plan-number session host route p s v e =
-    ap numberOf (sym (plan-code session host route p s) ∙ ap (λ (x : Verdict). x .code) e)
+plan-number : (b : Brought) (p : Plan) (s : Subscriber) (v : Verdict) → planned b p s ≡ v → numberOf (planCode p) ≡ numberOf (v .code)
+plan-number b p s v e =
+    ap numberOf (sym (plan-code b p s) ∙ ap (λ (x : Verdict). x .code) e)
 
 -- each code of a tunnel's refusals is that of one check
 unfoldable pub tunnelEntry : ℕ → Check
@@ -45,23 +50,23 @@ tunnelEntry n =
     (pick (eqb n 5004) (fail mayNotRoam roamingNotAllowed)
     (pick (eqb n 5012) (fail sessionHeld (plain 5012)) pass)))
 
-module _ (session host label : List ℕ) (visited wag : Bool) (s : Subscriber) where
-  tunnel-entry : tunnelEntry (numberOf ((type0 session host label visited s) .code)) ≡ firstFailed (decidingChecks (tunnel session host label visited) wag s)
+module _ (host realm label : List ℕ) (visited wag : Bool) (s : Subscriber) (b : Brought) where
+  tunnel-entry : tunnelEntry (numberOf ((type0 (b .opening) label visited s) .code)) ≡ firstFailed (decidingChecks (tunnel (b .opening .session) host realm label visited) wag s)
   unfolding tunnelEntry type0 decidingChecks check refuse heldAlready pick firstFailed numberOf
   tunnel-entry =
       by-test (eqb (entryNamed label s) 0)
       (λ a. rw a)
       (λ a. by-test (barred (entryAt (entryNamed label s) s))
-      (λ b. rw (a, b))
-      (λ b. by-test (visited && not (mayRoam (entryAt (entryNamed label s) s)))
-      (λ d. rw (a, b, d))
-      (λ d. by-test (none (withSession session (s .accesses)))
-      (λ e. rw (a, b, d, e, admits session host label visited s))
-      (λ e. rw (a, b, d, e)))))
+      (λ f. rw (a, f))
+      (λ f. by-test (visited && not (mayRoam (entryAt (entryNamed label s) s)))
+      (λ d. rw (a, f, d))
+      (λ d. by-test (none (withSession (b .opening .session) (s .accesses)))
+      (λ e. rw (a, f, d, e, admits (b .opening) label s))
+      (λ e. rw (a, f, d, e)))))
 
-  pub tunnel-planned : (route : List ℕ) (p : Plan) → planned session host route p s ≡ type0 session host label visited s
-      → tunnelEntry (numberOf (planCode p)) ≡ firstFailed (decidingChecks (tunnel session host label visited) wag s)
-  tunnel-planned route p e = ap tunnelEntry (plan-number session host route p s _ e) ∙ tunnel-entry
+  pub tunnel-planned : (p : Plan) → planned b p s ≡ type0 (b .opening) label visited s
+      → tunnelEntry (numberOf (planCode p)) ≡ firstFailed (decidingChecks (tunnel (b .opening .session) host realm label visited) wag s)
+  tunnel-planned p e = ap tunnelEntry (plan-number b p s _ e) ∙ tunnel-entry
 
 pub tunnel-passes : (p : Plan) → OneOf (4 ∷ 5 ∷ 6 ∷ 7 ∷ []) (tagOf the-type p) → pass ≡ tunnelEntry (numberOf (planCode p))
 unfolding tunnelEntry planCode numberOf pick
@@ -78,15 +83,15 @@ tunnel-passes (Free k) o = refl
 unfoldable pub policyEntry : Bool → ℕ → Check
 policyEntry wag n = pick (eqb n 5012) (fail noAccess (plain 5012)) (check gatewaySaysNo wag (plain 5012))
 
-module _ (session route : List ℕ) (s : Subscriber) where
-  policy-entry : (wag : Bool) → policyEntry wag (numberOf ((type1 session route true s) .code)) ≡ firstFailed (decidingChecks (policy session route) wag s)
+module _ (session first second third : List ℕ) (s : Subscriber) (b : Brought) where
+  policy-entry : (wag : Bool) → policyEntry wag (numberOf ((type1 session (b .policies) true s) .code)) ≡ firstFailed (decidingChecks (policy session first second third) wag s)
   unfolding policyEntry type1 decidingChecks check refuse grant pick firstFailed numberOf
   policy-entry true = by-test (none (withSession session (s .accesses))) (λ a. rw a) (λ a. rw a)
   policy-entry false = by-test (none (withSession session (s .accesses))) (λ a. rw a) (λ a. rw a)
 
-  pub policy-planned : (host : List ℕ) (wag : Bool) (p : Plan) → planned session host route p s ≡ type1 session route true s
-      → policyEntry wag (numberOf (planCode p)) ≡ firstFailed (decidingChecks (policy session route) wag s)
-  policy-planned host wag p e = ap (policyEntry wag) (plan-number session host route p s _ e) ∙ policy-entry wag
+  pub policy-planned : (wag : Bool) (p : Plan) → planned b p s ≡ type1 session (b .policies) true s
+      → policyEntry wag (numberOf (planCode p)) ≡ firstFailed (decidingChecks (policy session first second third) wag s)
+  policy-planned wag p e = ap (policyEntry wag) (plan-number b p s _ e) ∙ policy-entry wag
 
 pub policy-goes : (wag : Bool) (p : Plan) → OneOf (0 ∷ 1 ∷ 2 ∷ 4 ∷ 5 ∷ 6 ∷ 7 ∷ []) (tagOf the-type p) → check gatewaySaysNo wag (plain 5012) ≡ policyEntry wag (numberOf (planCode p))
 unfolding policyEntry planCode numberOf pick
@@ -108,9 +113,9 @@ module _ (session label : List ℕ) (wag : Bool) (s : Subscriber) where
   unfolding endEntry terminate decidingChecks check refuse grant pick firstFailed numberOf
   end-entry = by-test (none (withSession session (onEntry (entryNamed label s) (s .accesses)))) (λ a. rw a) (λ a. rw a)
 
-  pub end-planned : (host route : List ℕ) (p : Plan) → planned session host route p s ≡ terminate session label s
+  pub end-planned : (b : Brought) (p : Plan) → planned b p s ≡ terminate session label s
       → endEntry (numberOf (planCode p)) ≡ firstFailed (decidingChecks (termination session label) wag s)
-  end-planned host route p e = ap endEntry (plan-number session host route p s _ e) ∙ end-entry
+  end-planned b p e = ap endEntry (plan-number b p s _ e) ∙ end-entry
 
 pub end-passes : (p : Plan) → OneOf (0 ∷ 1 ∷ 2 ∷ 3 ∷ 5 ∷ 6 ∷ 7 ∷ []) (tagOf the-type p) → pass ≡ endEntry (numberOf (planCode p))
 unfolding endEntry planCode numberOf pick
@@ -125,7 +130,7 @@ end-passes (Free k) o = refl
 
 -- THE ROW
 
-module _ (t : List ℕ) (q : Ask) (wag : Bool) where
+module _ (t : Table) (q : Ask) (wag : Bool) where
   pub no-row : (at : Found) → at ≡ nothing → fail noRow userUnknown ≡ firstFailed (rowChecks t at q wag)
   unfolding rowChecks check firstFailed isFound
   no-row at e = rw e
@@ -141,28 +146,31 @@ module _ (t : List ℕ) (q : Ask) (wag : Bool) where
 
 -- A CALL
 
-module _ (m : List ℕ) where
-  refused-code : (n : ℕ) → read m ≡ refused n → readingCode m ≡ 0 → ⊥
+module _ (most : ℕ) (m : List ℕ) where
+  refused-code : (n : ℕ) → read most m ≡ refused n → readingCode most m ≡ 0 → ⊥
   unfolding read pick
-  refused-code n e z = let f = rw (eq-eqb (readingCode m) 0 z) at e in let y : _≡_ {A = ℕ} 0 1 = cc in absurd (omega arith)
+  refused-code n e z = let f = rw (eq-eqb (readingCode most m) 0 z) at e in let y : _≡_ {A = ℕ} 0 1 = cc in absurd (omega arith)
 
-  request-code : (q : Request) → read m ≡ request q → readingCode m ≡ 0
+  request-code : (q : Request) → read most m ≡ request q → readingCode most m ≡ 0
   unfolding read pick
   request-code q e =
-      by-test (eqb (readingCode m) 0)
-      (λ t. eqb-true (readingCode m) 0 t)
+      by-test (eqb (readingCode most m) 0)
+      (λ t. eqb-true (readingCode most m) 0 t)
       (λ t. let f = rw t at e in let y : _≡_ {A = ℕ} 0 1 = cc in absurd (omega arith))
 
-module _ (t : List ℕ) (c : Call) where
-  pub not-read : (n : ℕ) → read (c .message) ≡ refused n → firstFailed (readingChecks (c .message)) ≡ firstFailed (checks t c)
-  unfolding checks
-  not-read n e = gives-first _ (readingChecks (c .message)) _ (refused-code (c .message) n e) (reading-gives (c .message))
+module _ (t : Table) (c : Call) where
+  abbrev most : ℕ
+  most = mostPolicies (t .form)
 
-  pub was-read : (q : Request) → read (c .message) ≡ request q → firstFailed (rowChecks t (lookup t (account c q)) (q .ask) (c .wag)) ≡ firstFailed (checks t c)
+  pub not-read : (n : ℕ) → read most (c .message) ≡ refused n → firstFailed (readingChecks most (c .message)) ≡ firstFailed (checks t c)
+  unfolding checks
+  not-read n e = gives-first _ (readingChecks most (c .message)) _ (refused-code most (c .message) n e) (reading-gives most (c .message))
+
+  pub was-read : (q : Request) → read most (c .message) ≡ request q → firstFailed (rowChecks t (lookup t (account c q)) (q .ask) (c .wag)) ≡ firstFailed (checks t c)
   unfolding checks rowChecks rowBefore found requestIn
   was-read q e =
-      rw ((passing (c .message) q e) .asked)
-      (gives-past _ (readingChecks (c .message)) _ (request-code (c .message) q e) (reading-gives (c .message)))
+      rw ((passing most (c .message) q e) .asked)
+      (gives-past _ (readingChecks most (c .message)) _ (request-code most (c .message) q e) (reading-gives most (c .message)))
 
   pub unanswered-ground : (n : ℕ) → n ≡ callNumber t c → (n ≡ 0 → ⊥) → numbered n ≡ groundOf t c
   unfolding groundOf pick

@@ -4,8 +4,8 @@ use mathlib.Core.List.{List, [], _∷_, flatMap}
 use Prim.Native.Nat.{ℕ}
 use lib.Dec.{eqb}
 use Rattle.message.specs.Codes.{plain, userUnknown}
-use Rattle.message.specs.ReadingAMessage.{Ask, Field, avps, having, textField, labelField, visitedNetwork, wlanApnId, routingPolicy}
-use Rattle.table.specs.TheTable.{Found, isFound, readRow}
+use Rattle.message.specs.ReadingAMessage.{Ask, Field, avps, having, textField, textsField, labelField, visitedNetwork, wlanApnId, routingPolicy}
+use Rattle.table.specs.TheTable.{Found, Table, isFound, readRow}
 use Rattle.table.specs.Soundness.{sound}
 use Rattle.order.specs.ChecksInOrder.{Check, noRow, unsoundRow, check, firstFailed, fieldChecks, decidingChecks}
 use Rattle.order.specs.Demand2.{rowFound}
@@ -14,12 +14,12 @@ use Rattle.order.specs.Demand2.{rowFound}
 unfoldable pub firstOfFields : List ℕ → List Field → Check
 firstOfFields m fs = firstFailed (flatMap (λ (f : Field). fieldChecks f (having (f .name) (avps m))) fs)
 
--- The fields of a 265 behind its type: the type says whether the W-APN or the policy is required.
-unfoldable pub behindType : ℕ → List Field
-behindType type = textField visitedNetwork false ∷ labelField wlanApnId (eqb type 0) ∷ textField routingPolicy (eqb type 1) ∷ []
+-- The fields of a 265 behind its type: the type says whether the W-APN or a policy is required. A request may bring `most` policies.
+unfoldable pub behindType : (most type : ℕ) → List Field
+behindType most type = textField visitedNetwork false ∷ labelField wlanApnId (eqb type 0) ∷ textsField most routingPolicy (eqb type 1) ∷ []
 
 -- The checks of a request behind those of reading, by what the lookup finds: there is a row; it is sound; deciding.
-unfoldable pub rowChecks : List ℕ → Found → Ask → (wag : Bool) → List Check
+unfoldable pub rowChecks : Table → Found → Ask → (wag : Bool) → List Check
 rowChecks t at q wag =
     check noRow (isFound at) userUnknown
     ∷ check unsoundRow (sound (rowFound t at)) (plain 5012)

@@ -14,12 +14,14 @@ ghost use Prim.Native.Nat.{ℕ, _/_, _%_, _≤_, _<_};
 ghost use lib.Dec.{eqb};
 ghost use lib.ListN.{length};
 ghost use Rattle.octets.specs.Lists.{every};
-ghost use Rattle.message.specs.ReadingAMessage.{Avp, Field, avpCode, avps, for265, for275, forBoth, numberField, policy, termination, testedAs, tunnel, walkCode};
+ghost use Rattle.message.specs.ReadingAMessage.{Avp, Field, avpCode, avps, for265, for275, forBoth, numberField, policy, routingPolicy, termination, testedAs, textsField, tunnel, walkCode};
 ghost use Rattle.message.specs.Positions.{Gathered, nameAt};
 ghost use Rattle.message.specs.Spans.{asks, bytesField, bytesOf, codeOf, isInside, spansIn};
 ghost use Rattle.reader.specs.Steps.{faultOf};
+ghost use Rattle.table.specs.Answers.{lent};
 ghost use Rattle.table.specs.TheTable.{lookup, readRow, tableNumber};
 ghost use Rattle.table.specs.Soundness.{sound};
+ghost use Rattle.rules.specs.Calls.{mostPolicies};
 ghost use Rattle.decision.specs.Outcomes.{callOf};
 ghost use Rattle.order.specs.ChecksInOrder.{avpChecks, decidingChecks, fieldChecks, firstFailed, headerChecks, listChecks, readingChecks, walkChecks};
 ghost use Rattle.order.specs.Demand2.{checks};
@@ -40,7 +42,8 @@ pub enum Reason {
     ShortLength(usize),
     PastTheEnd(usize),
     UnsupportedAvp(usize),
-    // the lists; the AVP by the slot of its name
+    // the lists; the AVP by the slot of its name. Policies may be several: they are there more often than they may be, or one of them is of a
+    // wrong length
     SessionIdNotFirst,
     Absent(usize),
     Twice(usize),
@@ -189,6 +192,18 @@ fn number_failed(m: &[u8], index: &[usize], slot: usize, low: u32, high: u32) ->
     field_failed(slot, message::refusal(g))
 }
 
+// The policies, of which a request may bring up to `most`.
+fn routes_failed(m: &[u8], index: &[usize], required: bool, most: usize) -> Reason
+    requires { ⌜ (20 ≤ length (now m)) × (walkCode (now m) ≡ 0) × (1 ≤ most) × (most ≤ 3) × Gathered (now m) (now index) ⌝ }
+    ensures { λ r. ⌜ checkNamed r ≡ firstOfFields (now (m .entry)) (textsField most routingPolicy required ∷ []) ⌝ }
+{
+    if required {
+        let g = message::routes_field(m, index, most);
+        return field_failed(13, message::routes_refusal(g));
+    }
+    field_failed(13, message::routes_code(m, index, most))
+}
+
 // The fields of both requests.
 fn both_failed(m: &[u8], index: &[usize]) -> Reason
     requires { ⌜ Gathered (now m) (now index) ⌝ }
@@ -204,20 +219,20 @@ fn both_failed(m: &[u8], index: &[usize]) -> Reason
 }
 
 // The fields of a 265 behind its type.
-fn end_failed(m: &[u8], index: &[usize], kind: u32) -> Reason
-    requires { ⌜ Gathered (now m) (now index) ⌝ }
-    ensures { λ r. ⌜ checkNamed r ≡ firstOfFields (now (m .entry)) (behindType kind) ⌝ }
+fn end_failed(m: &[u8], index: &[usize], kind: u32, most: usize) -> Reason
+    requires { ⌜ (20 ≤ length (now m)) × (walkCode (now m) ≡ 0) × (1 ≤ most) × (most ≤ 3) × Gathered (now m) (now index) ⌝ }
+    ensures { λ r. ⌜ checkNamed r ≡ firstOfFields (now (m .entry)) (behindType most kind) ⌝ }
 {
     let visited = text_failed(m, index, 10, false, 1, 128);
     let label = text_failed(m, index, 12, kind == 0, 1, 100);
-    let route = text_failed(m, index, 13, kind == 1, 1, 128);
-    first_of(visited, first_of(label, route))
+    let routes = routes_failed(m, index, kind == 1, most);
+    first_of(visited, first_of(label, routes))
 }
 
 // The fields of a 265. Its type says which of the last two are required.
-fn list_265_failed(m: &[u8], index: &[usize]) -> Reason
-    requires { ⌜ Gathered (now m) (now index) ⌝ }
-    ensures { λ r. ⌜ checkNamed r ≡ firstOfFields (now (m .entry)) (for265 (avps (now (m .entry)))) ⌝ }
+fn list_265_failed(m: &[u8], index: &[usize], most: usize) -> Reason
+    requires { ⌜ (20 ≤ length (now m)) × (walkCode (now m) ≡ 0) × (1 ≤ most) × (most ≤ 3) × Gathered (now m) (now index) ⌝ }
+    ensures { λ r. ⌜ checkNamed r ≡ firstOfFields (now (m .entry)) (for265 most (avps (now (m .entry)))) ⌝ }
 {
     let request = number_failed(m, index, 5, 2, 2);
     let host = text_failed(m, index, 6, true, 1, 128);
@@ -229,7 +244,10 @@ fn list_265_failed(m: &[u8], index: &[usize]) -> Reason
     };
     let a = kind.at;
     let e = a + kind.len;
-    first_of(before, end_failed(m, index, message::value32(&m[a..e])))
+    first_of(
+        before,
+        end_failed(m, index, message::value32(&m[a..e]), most),
+    )
 }
 
 // The fields of a 275.
@@ -245,26 +263,26 @@ fn list_275_failed(m: &[u8], index: &[usize]) -> Reason
 }
 
 // Both lists, of a message whose walk passed.
-fn lists_failed(m: &[u8], index: &[usize]) -> Reason
-    requires { ⌜ (20 ≤ length (now m)) × (walkCode (now m) ≡ 0) × Gathered (now m) (now index) ⌝ }
-    ensures { λ r. ⌜ checkNamed r ≡ firstFailed (listChecks (now (m .entry))) ⌝ }
+fn lists_failed(m: &[u8], index: &[usize], most: usize) -> Reason
+    requires { ⌜ (20 ≤ length (now m)) × (walkCode (now m) ≡ 0) × (1 ≤ most) × (most ≤ 3) × Gathered (now m) (now index) ⌝ }
+    ensures { λ r. ⌜ checkNamed r ≡ firstFailed (listChecks most (now (m .entry))) ⌝ }
 {
     if !request::starts(m) {
         return Reason::SessionIdNotFirst;
     }
     let both = both_failed(m, index);
     if octets::read24(m, 5) == 265 {
-        return first_of(both, list_265_failed(m, index));
+        return first_of(both, list_265_failed(m, index, most));
     }
     first_of(both, list_275_failed(m, index))
 }
 
 // A MESSAGE
 
-// The first check of reading that a message fails, or that it passes them all.
-pub fn reading_failed(m: &[u8]) -> Reason
-    requires { ⌜ 20 ≤ length (now m) ⌝ }
-    ensures { λ r. ⌜ checkNamed r ≡ firstFailed (readingChecks (now (m .entry))) ⌝ }
+// The first check of reading that a message fails, or that it passes them all. A request may bring up to `most` policies.
+pub fn reading_failed(m: &[u8], most: usize) -> Reason
+    requires { ⌜ (20 ≤ length (now m)) × (1 ≤ most) × (most ≤ 3) ⌝ }
+    ensures { λ r. ⌜ checkNamed r ≡ firstFailed (readingChecks most (now (m .entry))) ⌝ }
 {
     if message::header_code(m) != 0 {
         return header_failed(m);
@@ -273,7 +291,7 @@ pub fn reading_failed(m: &[u8]) -> Reason
     if message::gather(m, &mut index) != 0 {
         return walk_failed(m);
     }
-    lists_failed(m, &index)
+    lists_failed(m, &index, most)
 }
 
 // ON A ROW
@@ -281,8 +299,8 @@ pub fn reading_failed(m: &[u8]) -> Reason
 // A tunnel: each refusal of the plan is that of one check.
 fn tunnel_failed(row: &[u8], session: &[u8], label: &[u8], visited: bool) -> Reason
     requires { ⌜ sound (now row) ≡ true ⌝ }
-    ensures { λ r. ⌜ ((host : List ℕ) (wag : Bool) → checkNamed r
-        ≡ firstFailed (decidingChecks (tunnel (now (session .entry)) host (now (label .entry)) visited) wag (readRow (now (row .entry))))) ⌝ }
+    ensures { λ r. ⌜ ((host realm : List ℕ) (wag : Bool) → checkNamed r
+        ≡ firstFailed (decidingChecks (tunnel (now (session .entry)) host realm (now (label .entry)) visited) wag (readRow (now (row .entry))))) ⌝ }
 {
     match plans::plan_tunnel(row, session, label, visited) {
         Plan::NotSubscribed => Reason::NotEntered,
@@ -296,7 +314,7 @@ fn tunnel_failed(row: &[u8], session: &[u8], label: &[u8], visited: bool) -> Rea
 // A policy: if there is no access, the plan is a refusal even where the wireless gateway says yes.
 fn policy_failed(row: &[u8], session: &[u8], wag: bool) -> Reason
     requires { ⌜ sound (now row) ≡ true ⌝ }
-    ensures { λ r. ⌜ ((route : List ℕ) → checkNamed r ≡ firstFailed (decidingChecks (policy (now (session .entry)) route) wag (readRow (now (row .entry))))) ⌝ }
+    ensures { λ r. ⌜ ((first second third : List ℕ) → checkNamed r ≡ firstFailed (decidingChecks (policy (now (session .entry)) first second third) wag (readRow (now (row .entry))))) ⌝ }
 {
     let plan = plans::plan_policy(row, session, true);
     if let Plan::UnableToComply = plan {
@@ -328,6 +346,7 @@ fn deciding_failed(row: &[u8], m: &[u8], asked: Asked, wag: bool) -> Reason
         Asked::Tunnel {
             session,
             host,
+            realm,
             label,
             visited,
         } => {
@@ -338,7 +357,12 @@ fn deciding_failed(row: &[u8], m: &[u8], asked: Asked, wag: bool) -> Reason
                 visited,
             );
         }
-        Asked::Policy { session, route } => {
+        Asked::Policy {
+            session,
+            first,
+            second,
+            third,
+        } => {
             return policy_failed(row, decision::text(m, session), wag);
         }
         Asked::Termination { session, label } => {
@@ -348,45 +372,66 @@ fn deciding_failed(row: &[u8], m: &[u8], asked: Asked, wag: bool) -> Reason
 }
 
 // A request that was read: the user's row, its soundness, then deciding.
-fn request_failed(table: &[u8], op: u32, m: &[u8], wag: bool, user: Span, asked: Asked) -> Reason
-    requires { ⌜ (tableNumber (now table) ≡ 0) × (every (isInside (now m)) (spansIn asked) ≡ true) × (isInside (now m) user ≡ true) ⌝ }
-    ensures { λ r. ⌜ checkNamed r ≡ firstFailed (rowChecks (now (table .entry)) (lookup (now (table .entry)) (record { operator = op; name = bytesOf (now (m .entry)) user })) (asks (now (m .entry)) asked) wag) ⌝ }
+fn request_failed(
+    table: &[u8],
+    form: usize,
+    op: u32,
+    m: &[u8],
+    wag: bool,
+    user: Span,
+    asked: Asked,
+) -> Reason
+    requires { ⌜ (tableNumber (lent form (now table)) ≡ 0) × (every (isInside (now m)) (spansIn asked) ≡ true) × (isInside (now m) user ≡ true) ⌝ }
+    ensures { λ r. ⌜ checkNamed r ≡ firstFailed (rowChecks (lent form (now (table .entry))) (lookup (lent form (now (table .entry))) (record { operator = op; name = bytesOf (now (m .entry)) user })) (asks (now (m .entry)) asked) wag) ⌝ }
 {
-    let found = table::lookup(table, op, decision::text(m, user));
+    let found = table::lookup(table, form, op, decision::text(m, user));
     let RowFound::At(i) = found else {
         return Reason::NoRow;
     };
-    let a = table::ROW_LENGTH * i;
-    let e = a + table::ROW_LENGTH;
+    let width = table::row_length(form);
+    let a = width * i;
+    let e = a + width;
     if !soundness::row_sound(&table[a..e]) {
         return Reason::UnsoundRow;
     }
     deciding_failed(&table[a..e], m, asked, wag)
 }
 
-// A message that gets an answer.
-fn answered_for(table: &[u8], op: u32, m: &[u8], wag: bool) -> Reason
-    requires { ⌜ (tableNumber (now table) ≡ 0) × (20 ≤ length (now m)) ⌝ }
-    ensures { λ r. ⌜ ((host realm answer notice : List ℕ) → checkNamed r ≡ firstFailed (checks (now (table .entry)) (callOf op (now (m .entry)) host realm answer notice wag))) ⌝ }
+// How many policies a request may bring.
+fn most_policies(form: usize) -> usize
+    ensures { λ r. ⌜ (r ≡ mostPolicies form) × (1 ≤ r) × (r ≤ 3) ⌝ }
 {
-    let heard = request::read(m);
+    if form == 2 {
+        return 3;
+    }
+    1
+}
+
+// A message that gets an answer.
+fn answered_for(table: &[u8], form: usize, op: u32, m: &[u8], wag: bool) -> Reason
+    requires { ⌜ (tableNumber (lent form (now table)) ≡ 0) × (20 ≤ length (now m)) ⌝ }
+    ensures { λ r. ⌜ ((host realm answer notice : List ℕ) → checkNamed r ≡ firstFailed (checks (lent form (now (table .entry))) (callOf op (now (m .entry)) host realm answer notice wag))) ⌝ }
+{
+    let most = most_policies(form);
+    let heard = request::read(m, most);
     let told = heard.told;
     match told {
         Told::Refused(_) => {
-            return reading_failed(m);
+            return reading_failed(m, most);
         }
         Told::Request(user, asked) => {
-            return request_failed(table, op, m, wag, user, asked);
+            return request_failed(table, form, op, m, wag, user, asked);
         }
     }
 }
 
 // A CALL
 
-// Why `decision::handle` answers what is lent as it does: the number of a call that gets no answer, else the first check that fails.
-// Nothing is asked of what is lent.
+// Why `decision::handle` answers what is lent as it does, on a table of the form said: the number of a call that gets no answer, else the first check
+// that fails. Nothing is asked of what is lent.
 pub fn first_failed(
     table: &[u8],
+    form: u32,
     op: u32,
     host: &[u8],
     realm: &[u8],
@@ -395,11 +440,12 @@ pub fn first_failed(
     answer: &[u8],
     notice: &[u8],
 ) -> Why
-    ensures { λ r. ⌜ groundNamed r ≡ groundOf (now (table .entry)) (callOf op (now (message .entry)) (now (host .entry)) (now (realm .entry)) (now (answer .entry)) (now (notice .entry)) wag) ⌝ }
+    ensures { λ r. ⌜ groundNamed r ≡ groundOf (lent form (now (table .entry))) (callOf op (now (message .entry)) (now (host .entry)) (now (realm .entry)) (now (answer .entry)) (now (notice .entry)) wag) ⌝ }
 {
-    let n = decision::call_number(table, op, host, realm, message, answer, notice);
+    let n = decision::call_number(table, form, op, host, realm, message, answer, notice);
     if n != 0 {
         return Why::Unanswered(n);
     }
-    Why::Answered(answered_for(table, op, message, wag))
+    let f = form as usize;
+    Why::Answered(answered_for(table, f, op, message, wag))
 }

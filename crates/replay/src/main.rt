@@ -1,5 +1,7 @@
 // Plays a script of the independent program on the proved server: `replay FILE`, or `replay` with the script on standard input.
 // It says which calls differ, at most twenty of them, and then how many. A script that is damaged gets one line.
+// `replay FILE large` has room for the longest table of a script, 8,921,664 bytes, on a stack of 16 MB (`ulimit -s 16384`); without the word tables
+// have at most 4,723,264, and the usual stack of 8 MB will do.
 use libc::STDOUT_FILENO;
 use replay_run::Damage;
 use replay_run::Progress;
@@ -93,7 +95,7 @@ fn say_damage(number: usize, what: Damage) {
         Damage::Header => say(b": no HEADER of this format\n"),
         Damage::Kind => say(b": no such type\n"),
         Damage::Fields => say(b": its fields do not fill it\n"),
-        Damage::Table => say(b": the table would be too long\n"),
+        Damage::Table => say(b": the table would be too long for the room that it has here\n"),
         Damage::Count => say(b": END announces another number of calls, or HEADER of records\n"),
         Damage::Behind => say(b": it stands behind END\n"),
     }
@@ -102,9 +104,9 @@ fn say_damage(number: usize, what: Damage) {
 // Reads one record whole and plays it. Nothing of a record is looked at before its check is right.
 fn turn(
     fd: i32,
-    table: &mut [u8; 4723264],
+    table: &mut [u8],
     room: &mut [u8],
-    answer: &mut [u8; 8192],
+    answer: &mut [u8; 65536],
     notice: &mut [u8; 1024],
     notes: &mut [usize; 100],
     p: Progress,
@@ -155,9 +157,9 @@ fn finish(fd: i32, notes: &[usize; 100], p: Progress) {
 // A proved loop has to end, and nothing says that a script does, so the turns are counted down.
 fn run(
     fd: i32,
-    table: &mut [u8; 4723264],
+    table: &mut [u8],
     room: &mut [u8; 65536],
-    answer: &mut [u8; 8192],
+    answer: &mut [u8; 65536],
     notice: &mut [u8; 1024],
     notes: &mut [usize; 100],
 ) {
@@ -179,6 +181,50 @@ fn run(
             }
         }
     }
+}
+
+// The rooms besides the table. That for answers is the target of a move too.
+fn run_on(fd: i32, table: &mut [u8], answer: &mut [u8; 65536]) {
+    let mut room = [0u8; 65536];
+    let mut notice = [0u8; 1024];
+    let mut notes = [0usize; 100];
+    run(fd, table, &mut room, answer, &mut notice, &mut notes);
+}
+
+fn lend_small(fd: i32, table: &mut [u8; 4723264], answer: &mut [u8; 65536]) {
+    run_on(fd, table, answer);
+}
+
+fn run_small(fd: i32) {
+    let mut table = [0u8; 4723264];
+    let mut answer = [0u8; 65536];
+    lend_small(fd, &mut table, &mut answer);
+}
+
+fn lend_large(fd: i32, table: &mut [u8; 8921664], answer: &mut [u8; 65536]) {
+    run_on(fd, table, answer);
+}
+
+// The compiler does not lay a function that calls itself into another, so this room takes nothing of the stack where the function is not called.
+// That is all that `more` is for: a word behind `large` takes one room more, which nobody needs.
+fn run_large(fd: i32, more: usize, answer: &mut [u8; 65536]) {
+    let mut table = [0u8; 8921664];
+    if 0 < more {
+        let mut other = [0u8; 65536];
+        run_large(fd, more - 1, &mut other);
+        return;
+    }
+    lend_large(fd, &mut table, answer);
+}
+
+fn start(fd: i32) {
+    let words = os::arg_count();
+    if words < 3 {
+        run_small(fd);
+        return;
+    }
+    let mut answer = [0u8; 65536];
+    run_large(fd, words - 3, &mut answer);
 }
 
 // Standard input where no file is named.
@@ -205,17 +251,5 @@ fn main() {
         say(b"no script\n");
         return;
     }
-    let mut table = [0u8; 4723264];
-    let mut room = [0u8; 65536];
-    let mut answer = [0u8; 8192];
-    let mut notice = [0u8; 1024];
-    let mut notes = [0usize; 100];
-    run(
-        fd,
-        &mut table,
-        &mut room,
-        &mut answer,
-        &mut notice,
-        &mut notes,
-    );
+    start(fd);
 }

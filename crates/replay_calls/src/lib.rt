@@ -10,7 +10,7 @@ ghost use mathlib.Core.Path.{_≡_};
 ghost use Prim.Native.Nat.{_+_, _*_, _≤_};
 ghost use lib.ListN.{length};
 
-// A set-up operation returns its number.
+// A set-up operation and a move return their number.
 fn set_up(code: u32) -> Got {
     Got {
         code,
@@ -57,28 +57,32 @@ fn outcome(o: decision::Outcome) -> Got {
     }
 }
 
+// The form.
 pub fn play_clear(table: &mut [u8], r: &[u8]) -> Verdict
     requires { ⌜ length (now r) ≤ 65536 ⌝ }
 {
-    let got = set_up(setup::clear(table));
-    judged(r, 0, got, table, &r[0..0], 0, &r[0..0], 0)
+    if r.len() < 4 {
+        return Verdict::Damaged;
+    }
+    let got = set_up(setup::clear(table, octets::read32(r, 0)));
+    judged(r, 4, got, table, &r[0..0], 0, &r[0..0], 0)
 }
 
-// The first n shares of a record, which begin at byte 8.
+// The first n shares of a record, which begin at byte 12.
 fn read_shares(r: &[u8], n: usize, shares: &mut [u32; 17])
-    requires { ⌜ (n ≤ 17) × (8 + 4 * n ≤ length (now r)) × (length (now shares) ≡ 17) ⌝ }
+    requires { ⌜ (n ≤ 17) × (12 + 4 * n ≤ length (now r)) × (length (now shares) ≡ 17) ⌝ }
     ensures { λ _. ⌜ length (now (shares .exit)) ≡ 17 ⌝ }
 {
     let mut i: usize = 0;
     while i < n {
-        shares[i] = octets::read32(r, 8 + 4 * i);
+        shares[i] = octets::read32(r, 12 + 4 * i);
         i += 1;
     }
 }
 
 // An entering whose shares end at `from`, where the name's text begins.
 fn enter_named(table: &mut [u8], r: &[u8], n: usize, from: usize) -> Verdict
-    requires { ⌜ (n ≤ 17) × (from ≡ 8 + 4 * n) × (from ≤ length (now r)) × (length (now r) ≤ 65536) ⌝ }
+    requires { ⌜ (n ≤ 17) × (from ≡ 12 + 4 * n) × (from ≤ length (now r)) × (length (now r) ≤ 65536) ⌝ }
 {
     let e = text_end(r, from);
     if r.len() < e {
@@ -88,37 +92,40 @@ fn enter_named(table: &mut [u8], r: &[u8], n: usize, from: usize) -> Verdict
     read_shares(r, n, &mut shares);
     let name = from + 4;
     let all: &[u32] = &shares;
-    let got = set_up(setup::enter(table, octets::read32(r, 0), &all[0..n], &r[name..e]));
+    let form = octets::read32(r, 0);
+    let op = octets::read32(r, 4);
+    let got = set_up(setup::enter(table, form, op, &all[0..n], &r[name..e]));
     judged(r, e, got, table, &r[0..0], 0, &r[0..0], 0)
 }
 
-// The operator, the number of shares, the shares, the name.
+// The form, the operator, the number of shares, the shares, the name.
 pub fn play_enter(table: &mut [u8], r: &[u8]) -> Verdict
     requires { ⌜ length (now r) ≤ 65536 ⌝ }
 {
-    if r.len() < 8 {
+    if r.len() < 12 {
         return Verdict::Damaged;
     }
-    let n = number(r, 4);
+    let n = number(r, 8);
     if 17 < n {
         return Verdict::Damaged;
     }
-    let from = 8 + 4 * n;
+    let from = 12 + 4 * n;
     if r.len() < from {
         return Verdict::Damaged;
     }
     enter_named(table, r, n, from)
 }
 
-// The operator, the name, the label, the limit and the flags.
+// The form, the operator, the name, the label, the limit and the flags.
 pub fn play_add(table: &mut [u8], r: &[u8]) -> Verdict
     requires { ⌜ length (now r) ≤ 65536 ⌝ }
 {
-    if r.len() < 4 {
+    if r.len() < 8 {
         return Verdict::Damaged;
     }
-    let op = octets::read32(r, 0);
-    let e = text_end(r, 4);
+    let form = octets::read32(r, 0);
+    let op = octets::read32(r, 4);
+    let e = text_end(r, 8);
     if r.len() < e {
         return Verdict::Damaged;
     }
@@ -127,11 +134,11 @@ pub fn play_add(table: &mut [u8], r: &[u8]) -> Verdict
         return Verdict::Damaged;
     }
     let label = e + 4;
-    let got = set_up(setup::add(table, op, &r[8..e], &r[label..f], r[f], r[f + 1]));
+    let got = set_up(setup::add(table, form, op, &r[12..e], &r[label..f], r[f], r[f + 1]));
     judged(r, f + 2, got, table, &r[0..0], 0, &r[0..0], 0)
 }
 
-// What stands between the texts of a request, which the operator comes before, and what is expected: the word of the WAG, and the two rooms.
+// What stands between the texts of a request, which the form and the operator come before, and what is expected: the word of the WAG, and the two rooms.
 struct Rooms {
     wag: bool,
     answer: usize,
@@ -155,10 +162,10 @@ fn rooms_at(r: &[u8], at: usize) -> Rooms
 pub fn play_handle(table: &mut [u8], r: &[u8], answer: &mut [u8], notice: &mut [u8]) -> Verdict
     requires { ⌜ (length (now r) ≤ 65536) × (length (now answer) ≤ 65536) × (length (now notice) ≤ 65536) ⌝ }
 {
-    if r.len() < 4 {
+    if r.len() < 8 {
         return Verdict::Damaged;
     }
-    let host = text_end(r, 4);
+    let host = text_end(r, 8);
     if r.len() < host {
         return Verdict::Damaged;
     }
@@ -183,12 +190,15 @@ fn in_rooms(
     answer: &mut [u8],
     notice: &mut [u8],
 ) -> Verdict
-    requires { ⌜ (8 ≤ host) × (host + 4 ≤ realm) × (realm + 4 ≤ message) × (message + 11 ≤ length (now r)) × (length (now r) ≤ 65536)
+    requires { ⌜ (12 ≤ host) × (host + 4 ≤ realm) × (realm + 4 ≤ message) × (message + 11 ≤ length (now r)) × (length (now r) ≤ 65536)
         × (length (now answer) ≤ 65536) × (length (now notice) ≤ 65536) ⌝ }
 {
     let room = rooms_at(r, message);
     let a = room.answer;
     let n = room.notice;
+    if 8192 < a {
+        return Verdict::Damaged;
+    }
     if answer.len() < a {
         return Verdict::Damaged;
     }
@@ -218,7 +228,7 @@ fn request(
     answer: &mut [u8],
     notice: &mut [u8],
 ) -> Verdict
-    requires { ⌜ (8 ≤ host) × (host + 4 ≤ realm) × (realm + 4 ≤ message) × (message + 11 ≤ length (now r)) × (length (now r) ≤ 65536)
+    requires { ⌜ (12 ≤ host) × (host + 4 ≤ realm) × (realm + 4 ≤ message) × (message + 11 ≤ length (now r)) × (length (now r) ≤ 65536)
         × (length (now answer) ≤ 65536) × (length (now notice) ≤ 65536) ⌝ }
 {
     replay_script::fill(answer, room.answer_seed);
@@ -237,16 +247,18 @@ fn ask(
     answer: &mut [u8],
     notice: &mut [u8],
 ) -> Verdict
-    requires { ⌜ (8 ≤ host) × (host + 4 ≤ realm) × (realm + 4 ≤ message) × (message + 11 ≤ length (now r)) × (length (now r) ≤ 65536)
+    requires { ⌜ (12 ≤ host) × (host + 4 ≤ realm) × (realm + 4 ≤ message) × (message + 11 ≤ length (now r)) × (length (now r) ≤ 65536)
         × (length (now answer) ≤ 65536) × (length (now notice) ≤ 65536) ⌝ }
 {
-    let op = octets::read32(r, 0);
+    let form = octets::read32(r, 0);
+    let op = octets::read32(r, 4);
     let from_realm = host + 4;
     let from_message = realm + 4;
     let o = decision::handle(
         table,
+        form,
         op,
-        &r[8..host],
+        &r[12..host],
         &r[from_realm..realm],
         &r[from_message..message],
         room.wag,
@@ -263,4 +275,34 @@ fn ask(
         notice,
         room.notice_seed,
     )
+}
+
+// The form to move to, and the target room, whose seed ends the fields. The table is only read.
+pub fn play_move(table: &[u8], r: &[u8], room: &mut [u8]) -> Verdict
+    requires { ⌜ (length (now r) ≤ 65536) × (length (now room) ≤ 65536) ⌝ }
+{
+    if r.len() < 9 {
+        return Verdict::Damaged;
+    }
+    let n = number(r, 4);
+    if room.len() < n {
+        return Verdict::Damaged;
+    }
+    move_filled(table, r, &mut room[0..n])
+}
+
+// The target is filled before the move.
+fn move_filled(table: &[u8], r: &[u8], target: &mut [u8]) -> Verdict
+    requires { ⌜ (9 ≤ length (now r)) × (length (now r) ≤ 65536) × (length (now target) ≤ 65536) ⌝ }
+{
+    replay_script::fill(target, r[8]);
+    move_into(table, r, target)
+}
+
+// The move itself, and what it left.
+fn move_into(table: &[u8], r: &[u8], target: &mut [u8]) -> Verdict
+    requires { ⌜ (9 ≤ length (now r)) × (length (now r) ≤ 65536) × (length (now target) ≤ 65536) ⌝ }
+{
+    let got = set_up(moving::move_table(table, target, octets::read32(r, 0)));
+    judged(r, 9, got, table, target, r[8], &r[0..0], 0)
 }

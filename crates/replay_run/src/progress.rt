@@ -7,6 +7,7 @@ use replay_calls::play_add;
 use replay_calls::play_clear;
 use replay_calls::play_enter;
 use replay_calls::play_handle;
+use replay_calls::play_move;
 use replay_verdict::Verdict;
 ghost use Prim.Native.Nat.{_≤_};
 ghost use lib.ListN.{length};
@@ -115,7 +116,7 @@ fn on_end(r: &[u8], p: Progress) -> Turn {
     Turn::End(p)
 }
 
-// The call of a record of type 4 to 7, on the table as long as it is now.
+// The call of a record of type 4 to 7 or 9, on the table as long as it is now.
 fn play(kind: u8, table: &mut [u8], r: &[u8], answer: &mut [u8], notice: &mut [u8]) -> Verdict
     requires { ⌜ (length (now r) ≤ 65536) × (length (now answer) ≤ 65536) × (length (now notice) ≤ 65536) ⌝ }
 {
@@ -127,6 +128,9 @@ fn play(kind: u8, table: &mut [u8], r: &[u8], answer: &mut [u8], notice: &mut [u
     }
     if kind == 6 {
         return play_add(table, r);
+    }
+    if kind == 9 {
+        return play_move(table, r, answer);
     }
     play_handle(table, r, answer, notice)
 }
@@ -209,7 +213,7 @@ pub fn on_record(
     if kind < 4 {
         return Turn::Broken(Damage::Kind);
     }
-    if 7 < kind {
+    if 9 < kind {
         return Turn::Broken(Damage::Kind);
     }
     let v = play(kind, &mut table[0..n], r, answer, notice);

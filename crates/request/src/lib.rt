@@ -3,12 +3,13 @@ use message::Asked;
 use message::Both;
 use message::Got;
 use message::Heard;
+use message::Routes;
 use message::Span;
 use message::Told;
 ghost use mathlib.Core.Path.{_≡_};
-ghost use Prim.Native.Nat.{_≤_};
+ghost use Prim.Native.Nat.{ℕ, _≤_};
 ghost use lib.ListN.{length};
-ghost use Rattle.message.specs.ReadingAMessage.{avps, headerCode, originHost, requestOf, sessionId, startsWith, userName, walkCode};
+ghost use Rattle.message.specs.ReadingAMessage.{avps, headerCode, originHost, originRealm, requestOf, sessionId, startsWith, userName, walkCode};
 ghost use Rattle.message.specs.Positions.{Gathered};
 ghost use Rattle.message.specs.Spans.{BothRead, HeardOf, Holds, Listed, hasProxies, isFound, policyCode, policyOf, restCode, tunnelCode, tunnelOf};
 
@@ -47,34 +48,36 @@ fn first_five(m: &[u8], index: &[usize]) -> Both
         return Both::Failed(message::refusal(g3));
     };
     let g4 = message::text_field(m, index, 3, 1, 128);
-    let Got::Found(_) = g4 else {
+    let Got::Found(realm) = g4 else {
         return Both::Failed(message::refusal(g4));
     };
     let g5 = message::text_field(m, index, 4, 1, 128);
     let Got::Found(_) = g5 else {
         return Both::Failed(message::refusal(g5));
     };
-    Both::Held(session, host)
+    Both::Held(session, host, realm)
 }
 
-// The end of a 265 of type 0: the W-APN, and a policy that is tested and not used.
+// The end of a 265 of type 0: the W-APN, and policies that are tested and not used.
 fn tunnel_end(
     m: &[u8],
     index: &[usize],
     user: Span,
     session: Span,
     host: Span,
+    realm: Span,
     visited: bool,
+    most: usize,
 ) -> Told
-    requires { ⌜ (Gathered (now m) (now index)) × (Holds (now m) userName user) × (Holds (now m) sessionId session) × (Holds (now m) originHost host) ⌝ }
-    ensures { λ r. ⌜ Listed (now (m .entry)) (tunnelCode (avps (now (m .entry)))) (tunnelOf visited (avps (now (m .entry)))) r ⌝ }
+    requires { ⌜ (Gathered (now m) (now index)) × (Holds (now m) userName user) × (Holds (now m) sessionId session) × (Holds (now m) originHost host) × (Holds (now m) originRealm realm) × (20 ≤ length (now m)) × (walkCode (now m) ≡ 0) × (1 ≤ most) × (most ≤ 3) ⌝ }
+    ensures { λ r. ⌜ Listed (now (m .entry)) (tunnelCode most (avps (now (m .entry)))) (tunnelOf visited (avps (now (m .entry)))) r ⌝ }
 {
     let g1 = message::text_field(m, index, 12, 1, 100);
     let Got::Found(label) = g1 else {
         return Told::Refused(message::refusal(g1));
     };
-    let g2 = message::text_field(m, index, 13, 1, 128);
-    if let Got::Code(n) = g2 {
+    let n = message::routes_code(m, index, most);
+    if n != 0 {
         return Told::Refused(n);
     }
     Told::Request(
@@ -82,26 +85,35 @@ fn tunnel_end(
         Asked::Tunnel {
             session,
             host,
+            realm,
             label,
             visited,
         },
     )
 }
 
-// The end of a 265 of type 1: a W-APN that is tested and not used, and the policy.
-fn policy_end(m: &[u8], index: &[usize], user: Span, session: Span) -> Told
-    requires { ⌜ (Gathered (now m) (now index)) × (Holds (now m) userName user) × (Holds (now m) sessionId session) ⌝ }
-    ensures { λ r. ⌜ Listed (now (m .entry)) (policyCode (avps (now (m .entry)))) (policyOf (avps (now (m .entry)))) r ⌝ }
+// The end of a 265 of type 1: a W-APN that is tested and not used, and the policies.
+fn policy_end(m: &[u8], index: &[usize], user: Span, session: Span, most: usize) -> Told
+    requires { ⌜ (Gathered (now m) (now index)) × (Holds (now m) userName user) × (Holds (now m) sessionId session) × (20 ≤ length (now m)) × (walkCode (now m) ≡ 0) × (1 ≤ most) × (most ≤ 3) ⌝ }
+    ensures { λ r. ⌜ Listed (now (m .entry)) (policyCode most (avps (now (m .entry)))) (policyOf (avps (now (m .entry)))) r ⌝ }
 {
     let g1 = message::text_field(m, index, 12, 1, 100);
     if let Got::Code(n) = g1 {
         return Told::Refused(n);
     }
-    let g2 = message::text_field(m, index, 13, 1, 128);
-    let Got::Found(route) = g2 else {
-        return Told::Refused(message::refusal(g2));
+    let g2 = message::routes_field(m, index, most);
+    let Routes::Brought(first, second, third) = g2 else {
+        return Told::Refused(message::routes_refusal(g2));
     };
-    Told::Request(user, Asked::Policy { session, route })
+    Told::Request(
+        user,
+        Asked::Policy {
+            session,
+            first,
+            second,
+            third,
+        },
+    )
 }
 
 // Whether a field that may be absent is there.
@@ -115,9 +127,9 @@ fn is_found(g: Got) -> bool
 }
 
 // The fields of a 265.
-fn list_265(m: &[u8], index: &[usize], session: Span, host: Span) -> Told
-    requires { ⌜ (Gathered (now m) (now index)) × (Holds (now m) sessionId session) × (Holds (now m) originHost host) ⌝ }
-    ensures { λ r. ⌜ Listed (now (m .entry)) (restCode 265 (avps (now (m .entry)))) (requestOf 265 (avps (now (m .entry)))) r ⌝ }
+fn list_265(m: &[u8], index: &[usize], session: Span, host: Span, realm: Span, most: usize) -> Told
+    requires { ⌜ (Gathered (now m) (now index)) × (Holds (now m) sessionId session) × (Holds (now m) originHost host) × (Holds (now m) originRealm realm) × (20 ≤ length (now m)) × (walkCode (now m) ≡ 0) × (1 ≤ most) × (most ≤ 3) ⌝ }
+    ensures { λ r. ⌜ Listed (now (m .entry)) (restCode most 265 (avps (now (m .entry)))) (requestOf 265 (avps (now (m .entry)))) r ⌝ }
 {
     let g1 = message::number_field(m, index, 5, 2, 2);
     let Got::Found(_) = g1 else {
@@ -142,15 +154,16 @@ fn list_265(m: &[u8], index: &[usize], session: Span, host: Span) -> Told
     let a = kind.at;
     let e = a + kind.len;
     if message::value32(&m[a..e]) == 0 {
-        return tunnel_end(m, index, user, session, host, is_found(g5));
+        let visited = is_found(g5);
+        return tunnel_end(m, index, user, session, host, realm, visited, most);
     }
-    policy_end(m, index, user, session)
+    policy_end(m, index, user, session, most)
 }
 
 // The fields of a 275.
 fn list_275(m: &[u8], index: &[usize], session: Span) -> Told
     requires { ⌜ (Gathered (now m) (now index)) × (Holds (now m) sessionId session) ⌝ }
-    ensures { λ r. ⌜ Listed (now (m .entry)) (restCode 275 (avps (now (m .entry)))) (requestOf 275 (avps (now (m .entry)))) r ⌝ }
+    ensures { λ r. ⌜ ((most : ℕ) → Listed (now (m .entry)) (restCode most 275 (avps (now (m .entry)))) (requestOf 275 (avps (now (m .entry)))) r) ⌝ }
 {
     let cause = message::number_field(m, index, 8, 1, 8);
     let Got::Found(_) = cause else {
@@ -180,9 +193,9 @@ fn proxies_seen(m: &[u8], index: &[usize]) -> bool
 }
 
 // Both lists, of a message whose header and walk passed.
-fn lists(m: &[u8], index: &[usize]) -> Heard
-    requires { ⌜ (20 ≤ length (now m)) × (headerCode (now m) ≡ 0) × (walkCode (now m) ≡ 0) × Gathered (now m) (now index) ⌝ }
-    ensures { λ r. ⌜ HeardOf (now (m .entry)) r ⌝ }
+fn lists(m: &[u8], index: &[usize], most: usize) -> Heard
+    requires { ⌜ (20 ≤ length (now m)) × (headerCode (now m) ≡ 0) × (walkCode (now m) ≡ 0) × (Gathered (now m) (now index)) × (1 ≤ most) × (most ≤ 3) ⌝ }
+    ensures { λ r. ⌜ HeardOf most (now (m .entry)) r ⌝ }
 {
     let proxies = proxies_seen(m, index);
     let b = first_five(m, index);
@@ -191,9 +204,9 @@ fn lists(m: &[u8], index: &[usize]) -> Heard
             told: Told::Refused(n),
             proxies,
         },
-        Both::Held(session, host) => {
+        Both::Held(session, host, realm) => {
             if octets::read24(m, 5) == 265 {
-                let told = list_265(m, index, session, host);
+                let told = list_265(m, index, session, host, realm, most);
                 return Heard { told, proxies };
             }
             let told = list_275(m, index, session);
@@ -203,10 +216,10 @@ fn lists(m: &[u8], index: &[usize]) -> Heard
 }
 
 // Header tests, the walk, the lists: the request with its fields, or the code of the first test that fails;
-// and whether the answer has a Proxy-Info to copy.
-pub fn read(m: &[u8]) -> Heard
-    requires { ⌜ 20 ≤ length (now m) ⌝ }
-    ensures { λ r. ⌜ HeardOf (now (m .entry)) r ⌝ }
+// and whether the answer has a Proxy-Info to copy. A request may bring up to `most` policies.
+pub fn read(m: &[u8], most: usize) -> Heard
+    requires { ⌜ (20 ≤ length (now m)) × (1 ≤ most) × (most ≤ 3) ⌝ }
+    ensures { λ r. ⌜ HeardOf most (now (m .entry)) r ⌝ }
 {
     let h = message::header_code(m);
     if h != 0 {
@@ -223,5 +236,5 @@ pub fn read(m: &[u8]) -> Heard
             proxies: false,
         };
     }
-    lists(m, &index)
+    lists(m, &index, most)
 }

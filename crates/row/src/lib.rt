@@ -1,19 +1,23 @@
 // What a row says, by meaning. Where things stand in a row is known here and to those who write them (`changes`); everybody else asks.
 ghost use mathlib.Core.Path.{_≡_};
-ghost use Prim.Native.Nat.{_+_, _*_, _≤_, _<_};
+ghost use mathlib.Core.Bool.{true};
+ghost use Prim.Native.Nat.{_+_, _-_, _*_, _%_, _≤_, _<_};
 ghost use lib.ListN.{length, getD};
 ghost use Rattle.octets.specs.Choice.{within};
 ghost use Rattle.octets.specs.Texts.{part};
-ghost use Rattle.table.specs.TheTable.{block, lineRoom, entriesRoom, readAccess, readEntry, rowAt, rowLength};
+ghost use Rattle.table.specs.Answers.{lent};
+ghost use Rattle.table.specs.Soundness.{isRow};
+ghost use Rattle.table.specs.TheTable.{accessAt, entriesRoom, firstBlock, formOf, head, lineRoom, place, placeStart, readEntry, rowAt, rowLength, secondBlock};
 
 // ROW i OF A TABLE, counted from 0
 
-pub fn at(table: &[u8], i: usize) -> &[u8]
-    requires { ⌜ rowLength * i + rowLength ≤ length (now table) ⌝ }
-    ensures { λ r. ⌜ now r ≡ rowAt (now (table .entry)) i ⌝ }
+pub fn at(table: &[u8], form: usize, i: usize) -> &[u8]
+    requires { ⌜ (form ≤ 2) × (rowLength form * i + rowLength form ≤ length (now table)) ⌝ }
+    ensures { λ r. ⌜ now r ≡ rowAt (lent form (now (table .entry))) i ⌝ }
 {
-    let from = table::ROW_LENGTH * i;
-    let end = from + table::ROW_LENGTH;
+    let width = table::row_length(form);
+    let from = width * i;
+    let end = from + width;
     &table[from..end]
 }
 
@@ -21,31 +25,31 @@ pub fn at(table: &[u8], i: usize) -> &[u8]
 
 // The head of the row, its block 0.
 pub fn head(r: &[u8]) -> &[u8]
-    requires { ⌜ length (now r) ≡ rowLength ⌝ }
-    ensures { λ b. ⌜ now b ≡ block (now (r .entry)) 0 ⌝ }
+    requires { ⌜ 512 ≤ length (now r) ⌝ }
+    ensures { λ b. ⌜ now b ≡ head (now (r .entry)) ⌝ }
 {
     &r[0..512]
 }
 
 // The places in use, bit k for place k + 1.
 pub fn used_bits(r: &[u8]) -> u8
-    requires { ⌜ length (now r) ≡ rowLength ⌝ }
-    ensures { λ x. ⌜ x ≡ getD (block (now (r .entry)) 0) 17 0 ⌝ }
+    requires { ⌜ 512 ≤ length (now r) ⌝ }
+    ensures { λ x. ⌜ x ≡ getD (head (now (r .entry))) 17 0 ⌝ }
 {
     r[17]
 }
 
 // How many entries there are.
 pub fn entry_count(r: &[u8]) -> u8
-    requires { ⌜ length (now r) ≡ rowLength ⌝ }
-    ensures { λ x. ⌜ x ≡ getD (block (now (r .entry)) 0) 18 0 ⌝ }
+    requires { ⌜ 512 ≤ length (now r) ⌝ }
+    ensures { λ x. ⌜ x ≡ getD (head (now (r .entry))) 18 0 ⌝ }
 {
     r[18]
 }
 
 // The room of the order line.
 pub fn line_room(r: &[u8]) -> &[u8]
-    requires { ⌜ length (now r) ≡ rowLength ⌝ }
+    requires { ⌜ 512 ≤ length (now r) ⌝ }
     ensures { λ l. ⌜ now l ≡ lineRoom (now (r .entry)) ⌝ }
 {
     &r[20..28]
@@ -53,7 +57,7 @@ pub fn line_room(r: &[u8]) -> &[u8]
 
 // The i-th byte of the order line's room: a place, or 0 behind the last.
 pub fn line_place(r: &[u8], i: usize) -> usize
-    requires { ⌜ (length (now r) ≡ rowLength) × (i < 8) ⌝ }
+    requires { ⌜ (512 ≤ length (now r)) × (i < 8) ⌝ }
     ensures { λ k. ⌜ (k ≡ getD (lineRoom (now (r .entry))) i 0) × (k < 256) ⌝ }
 {
     octets::long(r[20 + i])
@@ -61,77 +65,148 @@ pub fn line_place(r: &[u8], i: usize) -> usize
 
 // The room of the entries.
 pub fn entries_room(r: &[u8]) -> &[u8]
-    requires { ⌜ length (now r) ≡ rowLength ⌝ }
+    requires { ⌜ 512 ≤ length (now r) ⌝ }
     ensures { λ e. ⌜ now e ≡ entriesRoom (now (r .entry)) ⌝ }
 {
     &r[32..448]
 }
 
-// A PLACE
+// A PLACE, 1 to 8
 
-// The block of place k.
-pub fn place(r: &[u8], k: usize) -> &[u8]
-    requires { ⌜ (length (now r) ≡ rowLength) × (k ≤ 8) ⌝ }
-    ensures { λ b. ⌜ now b ≡ block (now (r .entry)) k ⌝ }
+// Where place k starts. The places share what the row has behind block 0.
+pub fn start(r: &[u8], k: usize) -> usize
+    requires { ⌜ (isRow (now r) ≡ true) × (1 ≤ k) × (k ≤ 8) ⌝ }
+    ensures { λ x. ⌜ (x ≡ placeStart (formOf (now (r .entry))) k) × (512 ≤ x) × (x + 512 * formOf (now (r .entry)) ≤ length (now (r .entry)))
+        × (length (now (r .entry)) ≡ 512 + 4096 * formOf (now (r .entry))) × (1 ≤ formOf (now (r .entry))) × (formOf (now (r .entry)) ≤ 2) ⌝ }
 {
-    let at = 512 * k;
+    let stride = (r.len() - 512) / 8;
+    512 + stride * (k - 1)
+}
+
+// Its bytes.
+pub fn place(r: &[u8], k: usize) -> &[u8]
+    requires { ⌜ (isRow (now r) ≡ true) × (1 ≤ k) × (k ≤ 8) ⌝ }
+    ensures { λ p. ⌜ now p ≡ place (now (r .entry)) k ⌝ }
+{
+    let at = start(r, k);
+    let end = at + (r.len() - 512) / 8;
+    &r[at..end]
+}
+
+// Its first block.
+pub fn first(r: &[u8], k: usize) -> &[u8]
+    requires { ⌜ (isRow (now r) ≡ true) × (1 ≤ k) × (k ≤ 8) ⌝ }
+    ensures { λ b. ⌜ now b ≡ firstBlock (place (now (r .entry)) k) ⌝ }
+{
+    let at = start(r, k);
     let end = at + 512;
+    &r[at..end]
+}
+
+// Its second block; no bytes in form 1.
+pub fn second(r: &[u8], k: usize) -> &[u8]
+    requires { ⌜ (isRow (now r) ≡ true) × (1 ≤ k) × (k ≤ 8) ⌝ }
+    ensures { λ c. ⌜ now c ≡ secondBlock (place (now (r .entry)) k) ⌝ }
+{
+    let from = start(r, k);
+    let at = from + 512;
+    let end = from + (r.len() - 512) / 8;
     &r[at..end]
 }
 
 // The number of the entry that the access at place k is on.
 pub fn entry_of(r: &[u8], k: usize) -> u8
-    requires { ⌜ (length (now r) ≡ rowLength) × (k ≤ 8) ⌝ }
-    ensures { λ x. ⌜ x ≡ (readAccess k (block (now (r .entry)) k)) .entry ⌝ }
+    requires { ⌜ (isRow (now r) ≡ true) × (1 ≤ k) × (k ≤ 8) ⌝ }
+    ensures { λ x. ⌜ x ≡ (accessAt (now (r .entry)) k) .entry ⌝ }
 {
-    r[512 * k + 1]
+    r[start(r, k) + 1]
 }
 
 // Its Session-Id.
 pub fn session(r: &[u8], k: usize) -> &[u8]
-    requires { ⌜ (length (now r) ≡ rowLength) × (k ≤ 8) ⌝ }
-    ensures { λ t. ⌜ now t ≡ (readAccess k (block (now (r .entry)) k)) .session ⌝ }
+    requires { ⌜ (isRow (now r) ≡ true) × (1 ≤ k) × (k ≤ 8) ⌝ }
+    ensures { λ t. ⌜ now t ≡ (accessAt (now (r .entry)) k) .session ⌝ }
 {
-    let at = 512 * k + 8;
-    let end = at + octets::long(r[512 * k + 2]);
+    let from = start(r, k);
+    let at = from + 8;
+    let end = at + octets::long(r[from + 2]);
     &r[at..end]
 }
 
 // The host of its gateway.
 pub fn host(r: &[u8], k: usize) -> &[u8]
-    requires { ⌜ (length (now r) ≡ rowLength) × (k ≤ 8) ⌝ }
-    ensures { λ t. ⌜ now t ≡ (readAccess k (block (now (r .entry)) k)) .host ⌝ }
+    requires { ⌜ (isRow (now r) ≡ true) × (1 ≤ k) × (k ≤ 8) ⌝ }
+    ensures { λ t. ⌜ now t ≡ (accessAt (now (r .entry)) k) .host ⌝ }
 {
-    let at = 512 * k + 136;
-    let end = at + octets::long(r[512 * k + 3]);
+    let from = start(r, k);
+    let at = from + 136;
+    let end = at + octets::long(r[from + 3]);
     &r[at..end]
 }
 
-// How long its policy is, 0 for none; and the policy, where it ends within the block.
+// How long its first policy is, 0 for none; and that policy, where it ends within the block.
 pub fn policy_length(r: &[u8], k: usize) -> usize
-    requires { ⌜ (length (now r) ≡ rowLength) × (k ≤ 8) ⌝ }
-    ensures { λ n. ⌜ (n ≡ getD (block (now (r .entry)) k) 5 0) × (n < 256) ⌝ }
+    requires { ⌜ (isRow (now r) ≡ true) × (1 ≤ k) × (k ≤ 8) ⌝ }
+    ensures { λ n. ⌜ (n ≡ getD (firstBlock (place (now (r .entry)) k)) 5 0) × (n < 256) ⌝ }
 {
-    octets::long(r[512 * k + 5])
+    octets::long(r[start(r, k) + 5])
 }
 
 pub fn policy(r: &[u8], k: usize) -> &[u8]
-    requires { ⌜ (length (now r) ≡ rowLength) × (k ≤ 8) × (getD (block (now r) k) 5 0 ≤ 248) ⌝ }
-    ensures { λ t. ⌜ now t ≡ (readAccess k (block (now (r .entry)) k)) .policy ⌝ }
+    requires { ⌜ (isRow (now r) ≡ true) × (1 ≤ k) × (k ≤ 8) × (getD (firstBlock (place (now r) k)) 5 0 ≤ 248) ⌝ }
+    ensures { λ t. ⌜ now t ≡ (accessAt (now (r .entry)) k) .policies .first ⌝ }
 {
-    let at = 512 * k + 264;
+    let at = start(r, k) + 264;
     let end = at + policy_length(r, k);
     &r[at..end]
 }
 
 // The rooms of the first two, side by side, as a cut notice has them.
 pub fn notice_rooms(r: &[u8], k: usize) -> &[u8]
-    requires { ⌜ (length (now r) ≡ rowLength) × (k ≤ 8) ⌝ }
-    ensures { λ t. ⌜ now t ≡ part (block (now (r .entry)) k) 8 256 ⌝ }
+    requires { ⌜ (isRow (now r) ≡ true) × (1 ≤ k) × (k ≤ 8) ⌝ }
+    ensures { λ t. ⌜ now t ≡ part (firstBlock (place (now (r .entry)) k)) 8 256 ⌝ }
 {
-    let at = 512 * k + 8;
+    let at = start(r, k) + 8;
     let end = at + 256;
     &r[at..end]
+}
+
+// WHAT A SECOND BLOCK SAYS. Form 1 has none, so a block of no bytes says nothing.
+
+// The realm of the gateway.
+pub fn realm(c: &[u8]) -> &[u8]
+    requires { ⌜ length (now c) % 512 ≡ 0 ⌝ }
+    ensures { λ t. ⌜ now t ≡ part (now (c .entry)) 8 (getD (now (c .entry)) 1 0) ⌝ }
+{
+    if c.len() == 0 {
+        return c;
+    }
+    let end = 8 + octets::long(c[1]);
+    &c[8..end]
+}
+
+// The second policy.
+pub fn second_policy(c: &[u8]) -> &[u8]
+    requires { ⌜ length (now c) % 512 ≡ 0 ⌝ }
+    ensures { λ t. ⌜ now t ≡ part (now (c .entry)) 136 (getD (now (c .entry)) 3 0) ⌝ }
+{
+    if c.len() == 0 {
+        return c;
+    }
+    let end = 136 + octets::long(c[3]);
+    &c[136..end]
+}
+
+// The third, where it ends within the block.
+pub fn third_policy(c: &[u8]) -> &[u8]
+    requires { ⌜ (length (now c) % 512 ≡ 0) × (getD (now c) 4 0 ≤ 248) ⌝ }
+    ensures { λ t. ⌜ now t ≡ part (now (c .entry)) 264 (getD (now (c .entry)) 4 0) ⌝ }
+{
+    if c.len() == 0 {
+        return c;
+    }
+    let end = 264 + octets::long(c[4]);
+    &c[264..end]
 }
 
 // AN ENTRY, in the room of the entries, counted from 0

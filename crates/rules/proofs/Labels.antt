@@ -7,6 +7,7 @@ use Rattle.octets.specs.Choice.{pick}
 use Rattle.table.specs.Soundness.{sameLabel}
 use Rattle.table.specs.TheTable.{Entry, Subscriber}
 use Rattle.table.proofs.Labels.{label-alike}
+use Rattle.changes.specs.Changes.{Opening}
 use Rattle.rules.specs.Deciding.{entryFrom, entryNamed, terminate, type0}
 
 same-entry-from : (a b : List ℕ) → sameLabel a b ≡ true → (n : ℕ) (es : List Entry) → entryFrom n a es ≡ entryFrom n b es
@@ -21,9 +22,9 @@ module _ (a b : List ℕ) (h : sameLabel a b ≡ true) (s : Subscriber) where
   unfolding entryNamed
   same-entry = same-entry-from a b h 1 (s .entries)
 
-  pub same-opening : (session host : List ℕ) (visited : Bool) → type0 session host a visited s ≡ type0 session host b visited s
+  pub same-opening : (o : Opening) (visited : Bool) → type0 o a visited s ≡ type0 o b visited s
   unfolding type0
-  same-opening session host visited = rw same-entry
+  same-opening o visited = rw same-entry
 
   pub same-ending : (session : List ℕ) → terminate session a s ≡ terminate session b s
   unfolding terminate

@@ -10,7 +10,7 @@ use Rattle.message.specs.Codes.{Code, none, plain, userUnknown, numberOf, kindO
 use Rattle.message.specs.CallsThatGetNoAnswer.{messageNumber}
 use Rattle.message.specs.ReadingAMessage.{Request, Reading, refused, request, read}
 use Rattle.message.specs.WritingTheAnswer.{answer, answerRoom}
-use Rattle.table.specs.TheTable.{Access, Account, rowBytes, readRow, tableNumber, rowAt, withRow, Found, row, nothing, lookup}
+use Rattle.table.specs.TheTable.{Access, Account, Table, rowBytes, readRow, tableNumber, rowAt, withRow, Found, row, nothing, lookup}
 use Rattle.table.specs.Soundness.{sound}
 use Rattle.rules.specs.Deciding.{Verdict, decide}
 
@@ -48,7 +48,7 @@ pub record Reply : Type 0 where
 -- What a call leaves: its reply, and the whole table.
 pub record Left : Type 0 where
   pub reply : Reply
-  pub table : List ℕ
+  pub table : Table
 
 -- CALLS THAT GET NO DIAMETER ANSWER
 
@@ -70,11 +70,11 @@ ownTests c =
     ∷ []
 
 -- Before them 1, the table is not 1 to 1,024 rows. 0 where none fails.
-unfoldable pub callNumber : List ℕ → Call → ℕ
+unfoldable pub callNumber : Table → Call → ℕ
 callNumber t c = firstOf (tableNumber t ∷ ownTests c)
 
 -- What such a call leaves: its number as the code, of kind 0, and 0 for everything else; rooms and table as they were.
-unfoldable pub silent : List ℕ → Call → ℕ → Left
+unfoldable pub silent : Table → Call → ℕ → Left
 silent t c n =
     record {
       reply = record {
@@ -110,14 +110,14 @@ reply c code place cut =
     }
 
 -- A refusal: the code, no place, no cut, and the table as it was.
-unfoldable pub refusal : List ℕ → Call → Code → Left
+unfoldable pub refusal : Table → Call → Code → Left
 refusal t c code = record { reply = reply c code 0 []; table = t }
 
 -- The table that a verdict on row i leaves: that row is the bytes of what it says then; every code but 2001 leaves the table as it was.
-unfoldable pub tableAfter : List ℕ → ℕ → Verdict → List ℕ
-tableAfter t i v = pick (eqb (numberOf (v .code)) 2001) (withRow t i (rowBytes (v .after))) t
+unfoldable pub tableAfter : Table → ℕ → Verdict → Table
+tableAfter t i v = pick (eqb (numberOf (v .code)) 2001) (withRow t i (rowBytes (t .form) (v .after))) t
 
-unfoldable pub settled : List ℕ → Call → ℕ → Verdict → Left
+unfoldable pub settled : Table → Call → ℕ → Verdict → Left
 settled t c i v =
     record {
       reply = reply c (v .code) (v .place) (v .cut);
@@ -125,11 +125,11 @@ settled t c i v =
     }
 
 -- Any request: no row, USER_UNKNOWN; the row is unsound, 5012; else as decided.
-unfoldable pub onRow : List ℕ → Call → Request → Found → Left
+unfoldable pub onRow : Table → Call → Request → Found → Left
 onRow t c q nothing = refusal t c userUnknown
 onRow t c q (row i) =
     let r : List ℕ = rowAt t i in
-    let decided : Left = settled t c i (decide (q .ask) (c .wag) (readRow r)) in
+    let decided : Left = settled t c i (decide (t .form) (q .ask) (c .wag) (readRow r)) in
     pick (sound r) decided (refusal t c (plain 5012))
 
 -- Whose row a request is for: that of the operator and the user.
@@ -137,23 +137,27 @@ unfoldable pub account : Call → Request → Account
 account c q = record { operator = c .operator; name = q .user }
 
 -- The message is read; the first failing test gives the code.
-unfoldable pub onReading : List ℕ → Call → Reading → Left
+unfoldable pub onReading : Table → Call → Reading → Left
 onReading t c (refused code) = refusal t c (plain code)
 onReading t c (request q) = onRow t c q (lookup t (account c q))
 
-unfoldable pub handle : List ℕ → Call → Left
+-- How many Routing-Policy AVPs a request may bring: as many as a place of the form holds.
+unfoldable pub mostPolicies : (form : ℕ) → ℕ
+mostPolicies f = pick (eqb f 2) 3 1
+
+unfoldable pub handle : Table → Call → Left
 handle t c =
-    let answered : Left = onReading t c (read (c .message)) in
+    let answered : Left = onReading t c (read (mostPolicies (t .form)) (c .message)) in
     pick (eqb (callNumber t c) 0) answered (silent t c (callNumber t c))
 
 -- A LIST OF CALLS, one after another on one table: the replies, one for each call, and the table in the end.
 pub record Ran : Type 0 where
   pub replies : List Reply
-  pub table : List ℕ
+  pub table : Table
 
 unfoldable pub ranFirst : Left → Ran → Ran
 ranFirst l rest = record { replies = l .reply ∷ rest .replies; table = rest .table }
 
-unfoldable pub run : List ℕ → List Call → Ran
+unfoldable pub run : Table → List Call → Ran
 run t [] = record { replies = []; table = t }
 run t (c ∷ cs) = ranFirst (handle t c) (run ((handle t c) .table) cs)

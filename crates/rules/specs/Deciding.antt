@@ -4,14 +4,14 @@ use mathlib.Core.List.{List, [], _∷_}
 use Prim.Native.Nat.{ℕ, suc, _-_}
 use lib.Dec.{eqb, ltb}
 use lib.ListN.{length, getD}
-use Rattle.changes.specs.Changes.{freed, lowestFree, opened, routed}
+use Rattle.changes.specs.Changes.{Opening, freed, keptIn, lowestFree, opened, routed}
 use Rattle.message.specs.Codes.{Code, noSubscription, plain, roamingNotAllowed, unusedByUser}
 use Rattle.message.specs.ReadingAMessage.{Ask, tunnel, policy, termination}
 use Rattle.octets.specs.Choice.{pick}
 use Rattle.octets.specs.Lists.{firstOr, keep}
 use Rattle.octets.specs.Texts.{same}
 use Rattle.table.specs.Soundness.{onEntry, sameLabel}
-use Rattle.table.specs.TheTable.{Access, Entry, Subscriber, barred, line, mayRoam}
+use Rattle.table.specs.TheTable.{Access, Entry, Policies, Subscriber, barred, line, mayRoam}
 
 -- What is decided: the code; the place that a new access takes, else 0; the accesses cut, one or none;
 -- and what the row says afterwards, which is what it said unless the code is 2001.
@@ -61,9 +61,8 @@ atPlace k a = keep (λ (x : Access). eqb (x .place) k) a
 -- TYPE 0
 
 -- The new access, with the accesses that were cut for it.
-unfoldable pub openOn : ℕ → (session host : List ℕ) → List Access → Subscriber → Verdict
-openOn n session host cut s =
-    record { code = plain 2001; place = lowestFree (s .accesses); cut = cut; after = opened n session host s }
+unfoldable pub openOn : ℕ → Opening → List Access → Subscriber → Verdict
+openOn n o cut s = record { code = plain 2001; place = lowestFree (s .accesses); cut = cut; after = opened n o s }
 
 -- The place of the entry's first-opened access.
 unfoldable pub firstOn : ℕ → List Access → ℕ
@@ -75,12 +74,12 @@ atLimit n s = not (ltb (length (onEntry n (s .accesses))) ((entryAt n s) .limit)
 
 -- An entry that is at its limit loses the access that was opened first on it. Then the new one stands last on the order line,
 -- at the lowest place that is free by then.
-unfoldable pub admit : ℕ → (session host : List ℕ) → Subscriber → Verdict
-admit n session host s =
+unfoldable pub admit : ℕ → Opening → Subscriber → Verdict
+admit n o s =
     let k : ℕ = firstOn n (s .accesses) in
     pick (atLimit n s)
-    (openOn n session host (atPlace k (s .accesses)) (freed k s))
-    (openOn n session host [] s)
+    (openOn n o (atPlace k (s .accesses)) (freed k s))
+    (openOn n o [] s)
 
 -- A Session-Id that is already in the row.
 unfoldable pub heldAlready : Subscriber → Verdict
@@ -88,24 +87,24 @@ heldAlready s = refuse (plain 5012) s
 
 -- In order: the label is not entered, USER_NO_W-APN_SUBSCRIPTION; the entry is barred, 5003; a visited network is named
 -- and the entry may not roam, ROAMING_NOT_ALLOWED; the Session-Id is already in the row, 5012; else 2001.
-unfoldable pub type0 : (session host label : List ℕ) → (visited : Bool) → Subscriber → Verdict
-type0 session host label visited s =
+unfoldable pub type0 : Opening → (label : List ℕ) → (visited : Bool) → Subscriber → Verdict
+type0 o label visited s =
     let n : ℕ = entryNamed label s in
     pick (eqb n 0) (refuse noSubscription s)
     (pick (barred (entryAt n s)) (refuse (plain 5003) s)
     (pick (visited && not (mayRoam (entryAt n s))) (refuse roamingNotAllowed s)
-    (pick (not (none (withSession session (s .accesses)))) (heldAlready s)
-    (admit n session host s))))
+    (pick (not (none (withSession (o .session) (s .accesses)))) (heldAlready s)
+    (admit n o s))))
 
 -- TYPE 1
 
--- In order: the Session-Id has an access, else 5012; the wireless gateway (WAG) agrees, else 5012. Then that access holds this
--- policy in place of any it had, 2001.
-unfoldable pub type1 : (session route : List ℕ) → (wag : Bool) → Subscriber → Verdict
-type1 session route wag s =
+-- In order: the Session-Id has an access, else 5012; the wireless gateway (WAG) agrees, else 5012. Then that access holds these
+-- policies in place of all that it had, 2001.
+unfoldable pub type1 : (session : List ℕ) → Policies → (wag : Bool) → Subscriber → Verdict
+type1 session policies wag s =
     let mine : List Access = withSession session (s .accesses) in
     pick (none mine) (refuse (plain 5012) s)
-    (pick wag (grant (routed (placeOf mine) route s)) (refuse (plain 5012) s))
+    (pick wag (grant (routed (placeOf mine) policies s)) (refuse (plain 5012) s))
 
 -- TERMINATION
 
@@ -117,7 +116,8 @@ terminate session label s =
 
 -- ANY REQUEST
 
-unfoldable pub decide : Ask → (wag : Bool) → Subscriber → Verdict
-decide (tunnel session host label visited) wag s = type0 session host label visited s
-decide (policy session route) wag s = type1 session route wag s
-decide (termination session label) wag s = terminate session label s
+unfoldable pub decide : (form : ℕ) → Ask → (wag : Bool) → Subscriber → Verdict
+decide f (tunnel session host realm label visited) wag s =
+    type0 (record { session = session; host = host; realm = keptIn f realm }) label visited s
+decide f (policy session first second third) wag s = type1 session (record { first = first; second = second; third = third }) wag s
+decide f (termination session label) wag s = terminate session label s

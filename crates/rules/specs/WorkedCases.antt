@@ -1,43 +1,49 @@
 -- The worked cases: the twelve with a star as one list, and others that shut out what the twelve let pass.
-use mathlib.Core.Bool.{Bool, true, _&&_}
+use mathlib.Core.Bool.{Bool, true, false, _&&_}
 use mathlib.Core.List.{List, [], _∷_}
 use Prim.Native.Nat.{ℕ, _*_}
 use lib.Dec.{eqb}
-use lib.ListN.{take, drop}
+use lib.ListN.{take, drop, replicate}
 use Rattle.setup.specs.SetUp.{add, clear, enter}
-use Rattle.message.specs.WorkedCases.{board, capitalBoard, case10, case9, endAt, gate, gateway, name, openAt, openVisited, ownHost, ownRealm, routeBy, session, yard}
+use Rattle.message.specs.WorkedCases.{board, capitalBoard, case10, case9, endAt, gate, gateway, gatewayRealm, name, openAt, openVisited, ownHost, ownRealm, routeBy, routeByAll, session, yard}
 use Rattle.octets.specs.Lists.{counted}
-use Rattle.octets.specs.Texts.{filled, part, same, zeros}
-use Rattle.table.specs.TheTable.{Account, Entry, orderLine, rowAt, readRow, rowBytes, rowLength}
+use Rattle.octets.specs.Texts.{allZero, filled, part, same, zeros}
+use Rattle.table.specs.TheTable.{Access, Account, Entry, Table, orderLine, rowAt, readRow, rowBytes, rowLength}
 use Rattle.changes.specs.Changes.{named, withEntry}
 use Rattle.table.specs.WorkedCases.{case8}
 use Rattle.rules.specs.Calls.{Left, handle}
 
 -- THE TABLE OF THE CASES, made by the set-up operations: one row, the subscriber with "board" (limit 2, no flags) and
 -- "yard" (limit 1, barred).
--- The account is operator 0's, which has a share of one row.
+-- The account is operator 0's, which has a share of one row. The cases are of form 1; those of form 2 stand at the end.
+unfoldable pub blank : (form rows : ℕ) → Table
+blank f n = record { form = f; bytes = zeros (n * rowLength f) }
+
 unfoldable pub of : (operator : ℕ) → Account
 of o = record { operator = o; name = name }
 
 unfoldable pub oneShare : List ℕ
 oneShare = 1 ∷ zeros 15
 
-unfoldable pub withLabel : List ℕ → (label : List ℕ) → (flags limit : ℕ) → List ℕ
+unfoldable pub withLabel : Table → (label : List ℕ) → (flags limit : ℕ) → Table
 withLabel t label flags limit = (add t (of 0) (record { label = label; flags = flags; limit = limit })) .table
 
-unfoldable pub start : List ℕ
-start = withLabel (withLabel ((enter ((clear (zeros rowLength)) .table) oneShare (of 0)) .table) board 0 2) yard 1 1
+unfoldable pub startIn : (form : ℕ) → Table
+startIn f = withLabel (withLabel ((enter ((clear (blank f 1)) .table) oneShare (of 0)) .table) board 0 2) yard 1 1
+
+unfoldable pub start : Table
+start = startIn 1
 
 -- A call: the server's own names, an answer room of zeros, a notice room in which something stands (each byte once), and
 -- yes from the WAG.
 unfoldable pub noticeBefore : List ℕ
 noticeBefore = counted 0 256
 
-unfoldable pub askFrom : (operator : ℕ) → List ℕ → List ℕ → Left
+unfoldable pub askFrom : (operator : ℕ) → Table → List ℕ → Left
 askFrom o t message =
     handle t (record { operator = o; message = message; host = ownHost; realm = ownRealm; answer = zeros 5120; notice = noticeBefore; wag = true })
 
-unfoldable pub ask : List ℕ → List ℕ → Left
+unfoldable pub ask : Table → List ℕ → Left
 ask t message = askFrom 0 t message
 
 -- WHAT IS EXPECTED
@@ -58,13 +64,13 @@ cutOf letter l =
 unfoldable pub granted : Left → (place : ℕ) → (cut : Left → Bool) → (line : List ℕ) → Bool
 granted l place cut line =
     eqb (l .reply .result .code) 2001 && (eqb (l .reply .result .kind) 1 && (eqb (l .reply .result .place) place
-    && (cut l && same (orderLine (l .table)) line)))
+    && (cut l && same (orderLine (l .table .bytes)) line)))
 
 -- A refusal: the code and its kind, place 0, no cut, and the table as it was.
-unfoldable pub denied : Left → (before : List ℕ) → (code kind : ℕ) → Bool
+unfoldable pub denied : Left → (before : Table) → (code kind : ℕ) → Bool
 denied l before code kind =
     eqb (l .reply .result .code) code && (eqb (l .reply .result .kind) kind && (eqb (l .reply .result .place) 0
-    && (noCut l && same (l .table) before)))
+    && (noCut l && same (l .table .bytes) (before .bytes))))
 
 -- THE TWELVE
 
@@ -97,7 +103,7 @@ twelve =
 -- OTHERS
 
 -- The same table, in which the subscriber has a third entry, "gate" (limit 1, may roam).
-unfoldable pub gated : List ℕ
+unfoldable pub gated : Table
 gated = withLabel start gate 2 1
 
 -- "Board" as an entry of its own, limit 1; a row in which it stands beside "board", which no set-up operation writes; and a
@@ -105,11 +111,11 @@ gated = withLabel start gate 2 1
 unfoldable pub capitalEntry : Entry
 capitalEntry = record { label = capitalBoard; flags = 0; limit = 1 }
 
-unfoldable pub inBothCases : List ℕ
-inBothCases = rowBytes (withEntry capitalEntry (readRow start))
+unfoldable pub inBothCases : Table
+inBothCases = record { form = 1; bytes = rowBytes 1 (withEntry capitalEntry (readRow (start .bytes))) }
 
-unfoldable pub capitalOnly : List ℕ
-capitalOnly = withLabel ((enter (zeros rowLength) oneShare (of 0)) .table) capitalBoard 0 1
+unfoldable pub capitalOnly : Table
+capitalOnly = withLabel ((enter (blank 1 1) oneShare (of 0)) .table) capitalBoard 0 1
 
 -- The gate's tunnel g is opened first, from a visited network, then a and b on board: g counts for the gate alone, so that
 -- b cuts nothing, and c cuts a, which is not the head of the line.
@@ -133,7 +139,7 @@ others =
     ∷ granted (ask (e .table) (routeBy (session 99) board)) 0 noCut (1 ∷ 2 ∷ [])
     ∷ denied (ask (e .table) (routeBy (session 100) board)) (e .table) 5012 1
     -- a table without a subscriber: USER_UNKNOWN
-    ∷ denied (ask (zeros rowLength) (openAt (session 97) board)) (zeros rowLength) 5001 2
+    ∷ denied (ask (blank 1 1) (openAt (session 97) board)) (blank 1 1) 5001 2
     -- "Board" is "board" from a visited network (ROAMING_NOT_ALLOWED) and in a termination
     ∷ denied (ask start (openVisited (session 97) capitalBoard)) start 5004 2
     ∷ granted (ask (c .table) (endAt (session 98) capitalBoard)) 0 noCut (1 ∷ 2 ∷ [])
@@ -145,7 +151,7 @@ others =
     ∷ denied (ask inBothCases (openAt (session 97) board)) inBothCases 5012 1
     ∷ eqb ((add inBothCases (of 0) capitalEntry) .number) 13
     -- it is stored as entered, and "board" is granted on it
-    ∷ same (part capitalOnly 33 5) capitalBoard
+    ∷ same (part (capitalOnly .bytes) 33 5) capitalBoard
     ∷ granted (ask capitalOnly (openAt (session 97) board)) 1 noCut (1 ∷ [])
     ∷ []
 
@@ -155,8 +161,8 @@ others =
 unfoldable pub shared : List ℕ
 shared = 1 ∷ 2 ∷ zeros 14
 
-unfoldable pub both : List ℕ
-both = (enter ((enter (zeros (3 * rowLength)) shared (of 0)) .table) shared (of 1)) .table
+unfoldable pub both : Table
+both = (enter ((enter (blank 1 3) shared (of 0)) .table) shared (of 1)) .table
 
 unfoldable pub other : (operator : ℕ) → Account
 other o = record { operator = o; name = 49 ∷ [] }
@@ -166,11 +172,11 @@ boardEntry = record { label = board; flags = 0; limit = 2 }
 
 unfoldable pub operators : List Bool
 operators =
-    let served : List ℕ = (add both (of 1) boardEntry) .table in
+    let served : Table = (add both (of 1) boardEntry) .table in
     let o : Left = askFrom 1 served (openAt (session 97) board) in
     -- each has a row of its own, and what is done for one leaves that of the other
-    eqb ((enter (zeros (3 * rowLength)) shared (of 0)) .number) 0
-    ∷ same (rowAt served 0) (rowBytes (named (of 0)))
+    eqb ((enter (blank 1 3) shared (of 0)) .number) 0
+    ∷ same (rowAt served 0) (rowBytes 1 (named (of 0)))
     ∷ (eqb (o .reply .result .code) 2001 && (eqb (o .reply .result .place) 1 && (same (rowAt (o .table) 0) (rowAt both 0)
     && same (orderLine (rowAt (o .table) 1)) (1 ∷ []))))
     -- operator 0 has no label there, and operator 2 no account
@@ -189,4 +195,50 @@ operators =
     -- 33 comes before 2, and the shares are summed as whole numbers
     ∷ eqb ((handle both (record { operator = 16; message = []; host = []; realm = []; answer = []; notice = []; wag = true })) .reply .result .code) 33
     ∷ eqb ((enter both (1 ∷ 4294967295 ∷ zeros 14) (other 1)) .number) 26
+    ∷ []
+
+-- FORM 2
+
+-- The policies of the worked cases: of one letter, twice, and three times.
+unfoldable pub policyOf : (letter n : ℕ) → List ℕ
+policyOf letter n = replicate n letter
+
+unfoldable pub accessSays : List Access → (realm first second third : List ℕ) → Bool
+accessSays [] realm first second third = false
+accessSays (a ∷ others) realm first second third =
+    same (a .realm) realm && (same (a .policies .first) first && (same (a .policies .second) second && same (a .policies .third) third))
+
+-- The access that a row of one subscriber says first on its order line: realm and policies, byte for byte.
+unfoldable pub firstSays : Left → (realm first second third : List ℕ) → Bool
+firstSays l realm first second third = accessSays ((readRow (l .table .bytes)) .accesses) realm first second third
+
+-- What a table of form 1 may not do, a table of form 2 does: the realm is kept, and up to three policies.
+unfoldable pub inForm2 : List Bool
+inForm2 =
+    let t : Table = startIn 2 in
+    let a : Left = ask t (openAt (session 97) board) in
+    let three : Left = ask (a .table) (routeByAll (session 97) (policyOf 112 1 ∷ policyOf 113 2 ∷ policyOf 114 3 ∷ [])) in
+    let one : Left = ask (three .table) (routeByAll (session 97) (policyOf 115 4 ∷ [])) in
+    let b : Left = ask (one .table) (openAt (session 98) board) in
+    let c : Left = ask (b .table) (openAt (session 99) board) in
+    -- an opening stores the realm of its gateway, and no policy
+    granted a 1 noCut (1 ∷ [])
+    ∷ firstSays a gatewayRealm [] [] []
+    -- three policies in message order; then one, which leaves no other behind
+    ∷ granted three 0 noCut (1 ∷ [])
+    ∷ firstSays three gatewayRealm (policyOf 112 1) (policyOf 113 2) (policyOf 114 3)
+    ∷ granted one 0 noCut (1 ∷ [])
+    ∷ firstSays one gatewayRealm (policyOf 115 4) [] []
+    -- four are too many, and in form 1 two are
+    ∷ denied (ask (a .table) (routeByAll (session 97) (policyOf 112 1 ∷ policyOf 113 1 ∷ policyOf 114 1 ∷ policyOf 115 1 ∷ []))) (a .table) 5009 1
+    ∷ eqb ((ask start (routeByAll (session 97) (policyOf 112 1 ∷ policyOf 113 1 ∷ []))) .reply .result .code) 5009
+    -- the cut: a goes, c takes its place, and the second block of the place is that of c
+    ∷ granted b 2 noCut (1 ∷ 2 ∷ [])
+    ∷ granted c 1 (cutOf 97) (2 ∷ 1 ∷ [])
+    -- a place that is freed is zero in both blocks
+    ∷ allZero (part ((ask (b .table) (endAt (session 97) board)) .table .bytes) 512 1024)
+    -- a row of the other length is no row of this form
+    ∷ eqb ((ask (record { form = 2; bytes = start .bytes }) (openAt (session 97) board)) .reply .result .code) 1
+    ∷ eqb ((ask (record { form = 1; bytes = t .bytes }) (openAt (session 97) board)) .reply .result .code) 1
+    ∷ eqb ((ask (record { form = 3; bytes = t .bytes }) (openAt (session 97) board)) .reply .result .code) 1
     ∷ []

@@ -2,31 +2,35 @@
 use mathlib.Core.Path.{_≡_, refl, sym, ap, _∙_}
 use mathlib.Core.Bool.{Bool, true, false, not, _&&_}
 use mathlib.Core.List.{List, [], _∷_, _++_}
-use Prim.Native.Nat.{ℕ, zero, suc, _+_, _-_, _/_, _≤_, _<_}
+use Prim.Native.Nat.{ℕ, zero, suc, _+_, _-_, _*_, _/_, _≤_, _<_}
 use native.Mathlib.Omega.{arith}
 use borrow.Author.Tests.{eq-eqb, eqb-false, eqb-true, le-leb, le-ltb, leb-true, lt-leb, lt-ltb, ltb-true, ne-eqb, not-true}
 use lib.Dec.{eqb, leb, ltb}
-use lib.ListN.{length, getD, take}
+use lib.ListN.{length, getD, take, drop}
 use Rattle.octets.specs.Choice.{firstOf, pick, require, within}
 use Rattle.octets.specs.Lists.{every, sumOf}
 use Rattle.octets.specs.Texts.{allZero, zeros}
 use Rattle.octets.proofs.Choice.{first-passes, others-pass, passed}
 use Rattle.octets.proofs.Pieces.{length-pieces}
 use Rattle.octets.proofs.Lists.{and-left, and-right, by-test, in-within, within-high, within-low}
-use Rattle.table.specs.Soundness.{entriesForm, isDigit, isName, labels, limits, sameLabel, sound}
-use Rattle.table.specs.TheTable.{Account, Entry, Found, firstNumber, ownRows, block, entriesRoom, firstRow, isFound, lookup, nothing, readEntries, readRow, row, rowAt, rowBytes, rowLength, rows, tableNumber, withRow}
+use Rattle.table.specs.Soundness.{entriesForm, isDigit, isName, isRow, labels, limits, sameLabel, sound}
+use Rattle.table.specs.Answers.{lent}
+use Rattle.table.specs.TheTable.{Account, Entry, Found, Table, entriesRoom, firstNumber, firstRow, formOf, head, isForm, isFound, lookup, nothing, ownRows, readEntries, readRow, row, rowAt, rowBytes, rowLength, rows, tableNumber, width, withRow}
+use Rattle.table.proofs.Form.{is-sized}
+use Rattle.table.proofs.Rows.{lent-length}
 use Rattle.table.proofs.Sound.{clauses}
-use Rattle.setup.specs.SetUp.{add, addAt, clear, enter, enterNumber, entryNumber, leaving, left, share, sharesFit, withRowAt}
+use Rattle.setup.specs.SetUp.{add, addAt, clear, enter, enterNumber, entryNumber, leaving, left, share, shareTests, sharesFit, withRowAt}
 use Rattle.setup.specs.Parts.{shareNumber}
 use Rattle.changes.specs.Changes.{named, withEntry}
+use Rattle.changes.proofs.Rows.{lent-form}
 
 -- A NUMBER AND WHAT IT LEAVES
 
-pub refused : (n : ℕ) (before after : List ℕ) → (n ≡ 0 → ⊥) → left n before ≡ leaving n before after
+pub refused : (n : ℕ) (before after : Table) → (n ≡ 0 → ⊥) → left n before ≡ leaving n before after
 unfolding leaving pick
 refused n before after h = rw (ne-eqb n 0 h)
 
-pub done : (n : ℕ) (before after : List ℕ) → n ≡ 0 → left 0 after ≡ leaving n before after
+pub done : (n : ℕ) (before after : Table) → n ≡ 0 → left 0 after ≡ leaving n before after
 unfolding leaving pick
 done n before after h = rw h
 
@@ -54,13 +58,13 @@ none-failed = refl
 
 -- CLEARING
 
-pub clear-refused : (t : List ℕ) (n : ℕ) → n ≡ tableNumber t → (n ≡ 0 → ⊥) → left n t ≡ clear t
+pub clear-refused : (t : Table) (n : ℕ) → n ≡ tableNumber t → (n ≡ 0 → ⊥) → left n t ≡ clear t
 unfolding clear
-clear-refused t n e h = ap (λ (i : ℕ). left i t) e ∙ refused (tableNumber t) t (zeros (length t)) (λ z. h (e ∙ z))
+clear-refused t n e h = ap (λ (i : ℕ). left i t) e ∙ refused (tableNumber t) t _ (λ z. h (e ∙ z))
 
-pub clear-done : (t : List ℕ) (n : ℕ) (z : List ℕ) → n ≡ tableNumber t → n ≡ 0 → z ≡ zeros (length t) → left 0 z ≡ clear t
+pub clear-done : (t : Table) (n : ℕ) (z : List ℕ) → n ≡ tableNumber t → n ≡ 0 → z ≡ zeros (length (t .bytes)) → left 0 (lent (t .form) z) ≡ clear t
 unfolding clear
-clear-done t n z e h l = ap (left 0) l ∙ done (tableNumber t) t (zeros (length t)) (sym e ∙ h)
+clear-done t n z e h l = ap (λ (b : List ℕ). left 0 (lent (t .form) b)) l ∙ done (tableNumber t) t _ (sym e ∙ h)
 
 -- A NAME
 
@@ -92,7 +96,7 @@ first-left (x ∷ xs) y e =
     (λ z. rw z (first-left xs y (rw z at e)))
     (λ z. absurd (eqb-false x 0 z (rw z at e)))
 
-module _ (t shares : List ℕ) (a : Account) where
+module _ (t : Table) (shares : List ℕ) (a : Account) where
   -- the numbers before 11, in order
   abbrev unheld : Bool
   unheld = not (isFound (lookup t a))
@@ -146,40 +150,40 @@ module _ (t shares : List ℕ) (a : Account) where
   unfolding enter
   enter-refused n e h =
       ap (λ (i : ℕ). left i t) (sym e)
-      ∙ refused (enterNumber t shares a) t (withRowAt (firstRow allZero (rows t)) t (rowBytes (named a))) (λ z. h (sym e ∙ z))
+      ∙ refused (enterNumber t shares a) t (withRowAt (firstRow allZero (rows t)) t (rowBytes (t .form) (named a))) (λ z. h (sym e ∙ z))
 
   pub enter-early : (n : ℕ) → n ≡ shareNumber t shares a → (n ≡ 0 → ⊥) → left n t ≡ enter t shares a
   unfolding shareNumber enterNumber
   enter-early n e h =
-      enter-refused n (first-kept (firstNumber t (a .operator) ∷ require (sharesFit t shares) 26 ∷ require (isName (a .name)) 9 ∷ require unheld 10 ∷ require roomLeft 27 ∷ []) (require (isFound (firstRow allZero (rows t))) 11) n (sym e) h) h
+      enter-refused n (first-kept (shareTests t shares a) (require (isFound (firstRow allZero (rows t))) 11) n (sym e) h) h
 
   to-11 : shareNumber t shares a ≡ 0 → enterNumber t shares a ≡ firstOf (require (isFound (firstRow allZero (rows t))) 11 ∷ [])
   unfolding shareNumber enterNumber
   to-11 e =
-      first-left (firstNumber t (a .operator) ∷ require (sharesFit t shares) 26 ∷ require (isName (a .name)) 9 ∷ require unheld 10 ∷ require roomLeft 27 ∷ []) (require (isFound (firstRow allZero (rows t))) 11) e
+      first-left (shareTests t shares a) (require (isFound (firstRow allZero (rows t))) 11) e
 
   pub enter-11 : shareNumber t shares a ≡ 0 → firstRow allZero (rows t) ≡ nothing → left 11 t ≡ enter t shares a
   unfolding isFound
   enter-11 h z = enter-refused 11 (to-11 h ∙ failed (isFound (firstRow allZero (rows t))) 11 [] (ap isFound z) (omega arith)) (λ e. omega arith)
 
-  pub enter-done : (i : ℕ) (after : List ℕ) → shareNumber t shares a ≡ 0 → firstRow allZero (rows t) ≡ row i
-      → after ≡ withRow t i (rowBytes (named a)) → left 0 after ≡ enter t shares a
+  pub enter-done : (i : ℕ) (after : Table) → shareNumber t shares a ≡ 0 → firstRow allZero (rows t) ≡ row i
+      → after ≡ withRow t i (rowBytes (t .form) (named a)) → left 0 after ≡ enter t shares a
   unfolding isFound enter withRowAt
   enter-done i after h z e =
       let n : enterNumber t shares a ≡ 0 = to-11 h ∙ passed-on (isFound (firstRow allZero (rows t))) 11 [] (ap isFound z) ∙ none-failed in
       ap (left 0) e
-      ∙ ap (λ (f : Found). left 0 (withRowAt f t (rowBytes (named a)))) (sym z)
-      ∙ done (enterNumber t shares a) t (withRowAt (firstRow allZero (rows t)) t (rowBytes (named a))) n
+      ∙ ap (λ (f : Found). left 0 (withRowAt f t (rowBytes (t .form) (named a)))) (sym z)
+      ∙ done (enterNumber t shares a) t (withRowAt (firstRow allZero (rows t)) t (rowBytes (t .form) (named a))) n
 
 -- where no test of entering fails before 11, all passed
-pub record MayEnterRow (t shares : List ℕ) (a : Account) : Type 0 where
+pub record MayEnterRow (t : Table) (shares : List ℕ) (a : Account) : Type 0 where
   pub first : firstNumber t (a .operator) ≡ 0
   pub shares-fit : sharesFit t shares ≡ true
   pub name-fits : isName (a .name) ≡ true
   pub unheld-yet : isFound (lookup t a) ≡ false
   pub room-left : length (ownRows (a .operator) t) < share (a .operator) shares
 
-pub share-passed : (t shares : List ℕ) (a : Account) → shareNumber t shares a ≡ 0 → MayEnterRow t shares a
+pub share-passed : (t : Table) (shares : List ℕ) (a : Account) → shareNumber t shares a ≡ 0 → MayEnterRow t shares a
 unfolding shareNumber
 share-passed t shares a h =
     let h1 = others-pass (firstNumber t (a .operator)) _ h in
@@ -195,15 +199,16 @@ share-passed t shares a h =
     }
 
 -- the shares
-pub shares-few : (t shares : List ℕ) → (length shares ≡ 16 → ⊥) → false ≡ sharesFit t shares
+pub shares-few : (t : Table) (shares : List ℕ) → (length shares ≡ 16 → ⊥) → false ≡ sharesFit t shares
 unfolding sharesFit
 shares-few t shares h = sym (rw (ne-eqb (length shares) 16 h))
 
-pub shares-sum-said : (t shares : List ℕ) (sum : ℕ) → length shares ≡ 16 → sum ≡ sumOf shares → leb sum (length t / rowLength) ≡ sharesFit t shares
+-- w is the length of a row, as the code has it
+pub shares-sum-said : (t : Table) (shares : List ℕ) (sum w : ℕ) → w ≡ width t → length shares ≡ 16 → sum ≡ sumOf shares → leb sum (length (t .bytes) / w) ≡ sharesFit t shares
 unfolding sharesFit rows
-shares-sum-said t shares sum h e = rw (e, eq-eqb (length shares) 16 h, length-pieces rowLength (length t / rowLength) t)
+shares-sum-said t shares sum w v h e = rw (e, v, eq-eqb (length shares) 16 h, length-pieces (width t) (length (t .bytes) / width t) (t .bytes))
 
-pub shares-sixteen : (t shares : List ℕ) → sharesFit t shares ≡ true → length shares ≡ 16
+pub shares-sixteen : (t : Table) (shares : List ℕ) → sharesFit t shares ≡ true → length shares ≡ 16
 unfolding sharesFit
 shares-sixteen t shares h = eqb-true (length shares) 16 (and-left (eqb (length shares) 16) _ h)
 
@@ -245,7 +250,7 @@ abbrev pub newLabel : List ℕ → Entry → Bool
 newLabel r e = every (λ l. not (sameLabel l (e .label))) (labels ((readRow r) .entries))
 
 -- what the code's tests say of the row, by the number and the room of its entries
-module _ (r : List ℕ) (n : ℕ) (room : List ℕ) (same-n : n ≡ getD (block r 0) 18 0) (same-room : room ≡ entriesRoom r) where
+module _ (r : List ℕ) (n : ℕ) (room : List ℕ) (same-n : n ≡ getD (head r) 18 0) (same-room : room ≡ entriesRoom r) where
   pub form-said : sound r ≡ true → entriesForm n room ≡ true
   form-said h = rw (same-n, same-room) ((clauses r h) .entries-form)
 
@@ -323,7 +328,7 @@ label-fits e g = within-high 1 100 (length (e .label)) (and-left (within 1 100 (
 
 -- ADDING A W-APN TO A TABLE
 
-module _ (t : List ℕ) (a : Account) (e : Entry) where
+module _ (t : Table) (a : Account) (e : Entry) where
   pub add-first : (n : ℕ) → n ≡ firstNumber t (a .operator) → (n ≡ 0 → ⊥) → left n t ≡ add t a e
   unfolding add pick
   add-first n q h =
@@ -346,9 +351,18 @@ module _ (t : List ℕ) (a : Account) (e : Entry) where
       ap (λ (m : ℕ). left m t) q ∙ refused (entryNumber (rowAt t i) e) t _ (λ y. z (q ∙ y)) in
       said ∙ ap (λ (f : Found). addAt f t e) (sym l) ∙ to-row h
 
-  pub add-done : (i n : ℕ) (after : List ℕ) → firstNumber t (a .operator) ≡ 0 → lookup t a ≡ row i → n ≡ entryNumber (rowAt t i) e → n ≡ 0
-      → after ≡ withRow t i (rowBytes (withEntry e (readRow (rowAt t i)))) → left 0 after ≡ add t a e
+  pub add-done : (i n : ℕ) (after : Table) → firstNumber t (a .operator) ≡ 0 → lookup t a ≡ row i → n ≡ entryNumber (rowAt t i) e → n ≡ 0
+      → after ≡ withRow t i (rowBytes (t .form) (withEntry e (readRow (rowAt t i)))) → left 0 after ≡ add t a e
   unfolding addAt
   add-done i n after h l q z b =
       let said : left 0 after ≡ addAt (row i) t e = ap (left 0) b ∙ done (entryNumber (rowAt t i) e) t _ (sym q ∙ z) in
       said ∙ ap (λ (f : Found). addAt f t e) (sym l) ∙ to-row h
+
+-- THE ROW THAT IS LENT: its length is that of its form, which is the table's
+
+module _ (fm w : ℕ) (t : List ℕ) (i : ℕ) (v : w ≡ rowLength fm) (h : rowLength fm * i + rowLength fm ≤ length t) where
+  pub lent-full : length (take (w * i + w - w * i) (drop (w * i) t)) ≡ rowLength (formOf (take (w * i + w - w * i) (drop (w * i) t)))
+  lent-full = lent-length t (w * i) w (omega (arith, ap (λ (x : ℕ). x * i) v)) ∙ v ∙ ap rowLength (sym (lent-form fm w t i v h))
+
+  pub lent-is-row : isForm fm ≡ true → isRow (take (w * i + w - w * i) (drop (w * i) t)) ≡ true
+  lent-is-row f = is-sized _ (record { form = ap isForm (lent-form fm w t i v h) ∙ f; size = lent-full })

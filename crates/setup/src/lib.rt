@@ -8,17 +8,18 @@ ghost use Prim.Native.Nat.{_+_, _-_, _*_, _≤_, _<_};
 ghost use lib.ListN.{length};
 ghost use Rattle.octets.specs.Choice.{within};
 ghost use Rattle.octets.specs.Lists.{every, sumOf};
+ghost use Rattle.table.specs.Answers.{lent};
 ghost use Rattle.table.specs.TheTable.{readEntries, readRow, rowAt, rowBytes, rowLength, withRow};
-ghost use Rattle.table.specs.Soundness.{entriesForm, isName, labels, sameLabel, sound};
+ghost use Rattle.table.specs.Soundness.{entriesForm, isName, isRow, labels, sameLabel, sound};
 ghost use Rattle.setup.specs.SetUp.{add, clear, enter, entryNumber, left, sharesFit};
 ghost use Rattle.setup.specs.Parts.{shareNumber};
 ghost use Rattle.changes.specs.Changes.{named, withEntry};
 
 // Every byte zero.
-pub fn clear(table: &mut [u8]) -> u32
-    ensures { λ r. ⌜ left r (now (table .exit)) ≡ clear (now (table .entry)) ⌝ }
+pub fn clear(table: &mut [u8], form: u32) -> u32
+    ensures { λ r. ⌜ left r (lent form (now (table .exit))) ≡ clear (lent form (now (table .entry))) ⌝ }
 {
-    let number = table::table_number(table);
+    let number = table::table_number(table, form);
     if number != 0 {
         return number;
     }
@@ -40,12 +41,13 @@ fn is_name(name: &[u8]) -> bool
 }
 
 // Row i is that of a new subscriber.
-fn enter_row(table: &mut [u8], i: usize, op: u8, name: &[u8])
-    requires { ⌜ (rowLength * i + rowLength ≤ length (now table)) × (length (now name) ≤ 15) ⌝ }
-    ensures { λ _. ⌜ now (table .exit) ≡ withRow (now (table .entry)) i (rowBytes (named (record { operator = op; name = now (name .entry) }))) ⌝ }
+fn enter_row(table: &mut [u8], form: usize, i: usize, op: u8, name: &[u8])
+    requires { ⌜ (form ≤ 2) × (rowLength form * i + rowLength form ≤ length (now table)) × (length (now name) ≤ 15) ⌝ }
+    ensures { λ _. ⌜ lent form (now (table .exit)) ≡ withRow (lent form (now (table .entry))) i (rowBytes form (named (record { operator = op; name = now (name .entry) }))) ⌝ }
 {
-    let a = table::ROW_LENGTH * i;
-    let e = a + table::ROW_LENGTH;
+    let width = table::row_length(form);
+    let a = width * i;
+    let e = a + width;
     changes::new_row(&mut table[a..e], op, name);
 }
 
@@ -71,51 +73,54 @@ fn shares_sum(shares: &[u32]) -> u64
 }
 
 // Sixteen shares, which come to no more than the table's rows.
-fn shares_fit(table: &[u8], shares: &[u32]) -> bool
-    ensures { λ r. ⌜ r ≡ sharesFit (now (table .entry)) (now (shares .entry)) ⌝ }
+fn shares_fit(table: &[u8], form: usize, shares: &[u32]) -> bool
+    requires { ⌜ form ≤ 2 ⌝ }
+    ensures { λ r. ⌜ r ≡ sharesFit (lent form (now (table .entry))) (now (shares .entry)) ⌝ }
 {
     if shares.len() != 16 {
         return false;
     }
-    let count = table.len() / table::ROW_LENGTH;
+    let count = table.len() / table::row_length(form);
     shares_sum(shares) <= count as u64
 }
 
 // The first number that an entering is refused with, but for a table that is full; 0 where there is none.
-fn enter_number(table: &[u8], op: u32, shares: &[u32], name: &[u8]) -> u32
-    ensures { λ r. ⌜ r ≡ shareNumber (now (table .entry)) (now (shares .entry)) (record { operator = op; name = now (name .entry) }) ⌝ }
+fn enter_number(table: &[u8], form: u32, op: u32, shares: &[u32], name: &[u8]) -> u32
+    ensures { λ r. ⌜ r ≡ shareNumber (lent form (now (table .entry))) (now (shares .entry)) (record { operator = op; name = now (name .entry) }) ⌝ }
 {
-    let n = table::number_for(table, op);
+    let n = table::number_for(table, form, op);
     if n != 0 {
         return n;
     }
-    if !shares_fit(table, shares) {
+    let f = form as usize;
+    if !shares_fit(table, f, shares) {
         return 26;
     }
     if !is_name(name) {
         return 9;
     }
-    let RowFound::Nothing = table::lookup(table, op, name) else {
+    let RowFound::Nothing = table::lookup(table, f, op, name) else {
         return 10;
     };
-    if shares[op as usize] <= table::own_rows(table, op) {
+    if shares[op as usize] <= table::own_rows(table, f, op) {
         return 27;
     }
     0
 }
 
 // A new subscriber of an operator takes the first wholly zero row.
-pub fn enter(table: &mut [u8], op: u32, shares: &[u32], name: &[u8]) -> u32
-    ensures { λ r. ⌜ left r (now (table .exit)) ≡ enter (now (table .entry)) (now (shares .entry)) (record { operator = op; name = now (name .entry) }) ⌝ }
+pub fn enter(table: &mut [u8], form: u32, op: u32, shares: &[u32], name: &[u8]) -> u32
+    ensures { λ r. ⌜ left r (lent form (now (table .exit))) ≡ enter (lent form (now (table .entry))) (now (shares .entry)) (record { operator = op; name = now (name .entry) }) ⌝ }
 {
-    let n = enter_number(table, op, shares, name);
+    let n = enter_number(table, form, op, shares, name);
     if n != 0 {
         return n;
     }
-    let RowFound::At(i) = table::first_zero_row(table) else {
+    let f = form as usize;
+    let RowFound::At(i) = table::first_zero_row(table, f) else {
         return 11;
     };
-    enter_row(table, i, op as u8, name);
+    enter_row(table, f, i, op as u8, name);
     0
 }
 
@@ -176,20 +181,21 @@ fn next_number(row: &[u8], label: &[u8], limit: u8, flags: u8) -> u32
 }
 
 // The entry behind the others of row i.
-fn add_entry(table: &mut [u8], i: usize, label: &[u8], flags: u8, limit: u8)
-    requires { ⌜ (rowLength * i + rowLength ≤ length (now table)) × (sound (rowAt (now table) i) ≡ true) × (length ((readRow (rowAt (now table) i)) .entries) < 4)
+fn add_entry(table: &mut [u8], form: usize, i: usize, label: &[u8], flags: u8, limit: u8)
+    requires { ⌜ (form ≤ 2) × (rowLength form * i + rowLength form ≤ length (now table)) × (sound (rowAt (lent form (now table)) i) ≡ true) × (length ((readRow (rowAt (lent form (now table)) i)) .entries) < 4)
         × (length (now label) ≤ 100) ⌝ }
-    ensures { λ _. ⌜ now (table .exit)
-        ≡ withRow (now (table .entry)) i (rowBytes (withEntry (record { label = now (label .entry); flags = flags; limit = limit }) (readRow (rowAt (now (table .entry)) i)))) ⌝ }
+    ensures { λ _. ⌜ lent form (now (table .exit))
+        ≡ withRow (lent form (now (table .entry))) i (rowBytes form (withEntry (record { label = now (label .entry); flags = flags; limit = limit }) (readRow (rowAt (lent form (now (table .entry))) i)))) ⌝ }
 {
-    let a = table::ROW_LENGTH * i;
-    let e = a + table::ROW_LENGTH;
+    let width = table::row_length(form);
+    let a = width * i;
+    let e = a + width;
     changes::append_entry(&mut table[a..e], label, flags, limit);
 }
 
 // The number that a row gives to an entry. Nothing but its soundness is tested in an unsound row.
 fn entry_number(row: &[u8], label: &[u8], limit: u8, flags: u8) -> u32
-    requires { ⌜ length (now row) ≡ rowLength ⌝ }
+    requires { ⌜ isRow (now row) ≡ true ⌝ }
     ensures { λ r. ⌜ r ≡ entryNumber (now (row .entry)) (record { label = now (label .entry); flags = flags; limit = limit }) ⌝ }
 {
     if !soundness::row_sound(row) {
@@ -199,23 +205,33 @@ fn entry_number(row: &[u8], label: &[u8], limit: u8, flags: u8) -> u32
 }
 
 // A W-APN for a subscriber.
-pub fn add(table: &mut [u8], op: u32, name: &[u8], label: &[u8], limit: u8, flags: u8) -> u32
-    ensures { λ r. ⌜ left r (now (table .exit))
-        ≡ add (now (table .entry)) (record { operator = op; name = now (name .entry) }) (record { label = now (label .entry); flags = flags; limit = limit }) ⌝ }
+pub fn add(
+    table: &mut [u8],
+    form: u32,
+    op: u32,
+    name: &[u8],
+    label: &[u8],
+    limit: u8,
+    flags: u8,
+) -> u32
+    ensures { λ r. ⌜ left r (lent form (now (table .exit)))
+        ≡ add (lent form (now (table .entry))) (record { operator = op; name = now (name .entry) }) (record { label = now (label .entry); flags = flags; limit = limit }) ⌝ }
 {
-    let n = table::number_for(table, op);
+    let n = table::number_for(table, form, op);
     if n != 0 {
         return n;
     }
-    let RowFound::At(i) = table::lookup(table, op, name) else {
+    let f = form as usize;
+    let RowFound::At(i) = table::lookup(table, f, op, name) else {
         return 12;
     };
-    let a = table::ROW_LENGTH * i;
-    let e = a + table::ROW_LENGTH;
+    let width = table::row_length(f);
+    let a = width * i;
+    let e = a + width;
     let m = entry_number(&table[a..e], label, limit, flags);
     if m != 0 {
         return m;
     }
-    add_entry(table, i, label, flags, limit);
+    add_entry(table, f, i, label, flags, limit);
     0
 }

@@ -15,17 +15,17 @@ use Rattle.octets.proofs.Lists.{by-test}
 use Rattle.table.proofs.Entries.{limits-at, length-limits-read, map-at}
 use Rattle.soundness.proofs.Line.{line-at}
 use Rattle.table.specs.Soundness.{limits, onEntry, sessions, underLimits}
-use Rattle.table.specs.TheTable.{Access, block, entriesRoom, lineRoom, orderLine, readAccess, readEntry, readRow}
+use Rattle.table.specs.TheTable.{Access, accessAt, entriesRoom, head, lineRoom, orderLine, readEntry, readRow}
 
 -- THE SESSION-IDS
 
 session-of : List ℕ → ℕ → List ℕ
-session-of r k = (readAccess k (block r k)) .session
+session-of r k = (accessAt r k) .session
 
-sessions-map : (r l : List ℕ) → sessions (map (λ (k : ℕ). readAccess k (block r k)) l) ≡ map (session-of r) l
+sessions-map : (r l : List ℕ) → sessions (map (accessAt r) l) ≡ map (session-of r) l
 unfolding sessions session-of
 sessions-map r [] = refl
-sessions-map r (k ∷ l) = ap (λ (t : List (List ℕ)). (readAccess k (block r k)) .session ∷ t) (sessions-map r l)
+sessions-map r (k ∷ l) = ap (λ (t : List (List ℕ)). (accessAt r k) .session ∷ t) (sessions-map r l)
 
 sessions-line : (r : List ℕ) → sessions ((readRow r) .accesses) ≡ map (session-of r) (orderLine r)
 unfolding readRow
@@ -36,7 +36,7 @@ length-sessions r = ap length (sessions-line r) ∙ simp length-map
 
 -- the i-th Session-Id is that of the place at the line's i-th byte
 pub session-at : (r : List ℕ) (i k : ℕ) → i < length (orderLine r) → k ≡ getD (lineRoom r) i 0
-    → (readAccess k (block r k)) .session ≡ getD (sessions ((readRow r) .accesses)) i []
+    → (accessAt r k) .session ≡ getD (sessions ((readRow r) .accesses)) i []
 unfolding session-of
 session-at r i k l e =
     sym (ap (λ (t : List (List ℕ)). getD t i []) (sessions-line r) ∙ map-at (session-of r) 0 [] (orderLine r) i l ∙ ap (session-of r) (line-at r i l ∙ sym e))
@@ -44,20 +44,20 @@ session-at r i k l e =
 -- THE ACCESSES ON AN ENTRY
 
 pub isAt : List ℕ → ℕ → ℕ → Bool
-isAt r e k = eqb ((readAccess k (block r k)) .entry) e
+isAt r e k = eqb ((accessAt r k) .entry) e
 
-on-map : (r : List ℕ) (e : ℕ) (l : List ℕ) → length (onEntry e (map (λ (k : ℕ). readAccess k (block r k)) l)) ≡ length (keep (isAt r e) l)
+on-map : (r : List ℕ) (e : ℕ) (l : List ℕ) → length (onEntry e (map (accessAt r) l)) ≡ length (keep (isAt r e) l)
 unfolding onEntry keep pick isAt
 on-map r e [] = refl
 on-map r e (k ∷ l) =
-    by-test (eqb ((readAccess k (block r k)) .entry) e) (λ t. rw t (ap suc (on-map r e l))) (λ t. rw t (on-map r e l))
+    by-test (eqb ((accessAt r k) .entry) e) (λ t. rw t (ap suc (on-map r e l))) (λ t. rw t (on-map r e l))
 
 pub on-line : (r : List ℕ) (e : ℕ) → length (onEntry e ((readRow r) .accesses)) ≡ length (keep (isAt r e) (orderLine r))
 unfolding readRow
 on-line r e = on-map r e (orderLine r)
 
 -- whether the i-th access is on entry e
-pub at-entry : (r : List ℕ) (i k x e : ℕ) → i < length (orderLine r) → k ≡ getD (lineRoom r) i 0 → x ≡ (readAccess k (block r k)) .entry
+pub at-entry : (r : List ℕ) (i k x e : ℕ) → i < length (orderLine r) → k ≡ getD (lineRoom r) i 0 → x ≡ (accessAt r k) .entry
     → isAt r e (getD (orderLine r) i 0) ≡ eqb x e
 unfolding isAt
 at-entry r i k x e l p s = let place : getD (orderLine r) i 0 ≡ k = line-at r i l ∙ sym p in rw (place, s)
@@ -89,11 +89,11 @@ pub under-end : (ls : List ℕ) (a : List Access) (n i : ℕ) → length ls ≤ 
 unfolding underLimits
 under-end ls a n i h = rw (drop-of-length-le ls h)
 
-pub limit-count : (r : List ℕ) → length (limits ((readRow r) .entries)) ≡ getD (block r 0) 18 0
+pub limit-count : (r : List ℕ) → length (limits ((readRow r) .entries)) ≡ getD (head r) 18 0
 unfolding readRow
-limit-count r = length-limits-read (getD (block r 0) 18 0) (entriesRoom r)
+limit-count r = length-limits-read (getD (head r) 18 0) (entriesRoom r)
 
 -- the limit of entry i + 1
-pub limit-at : (r : List ℕ) (i : ℕ) → i < getD (block r 0) 18 0 → getD (limits ((readRow r) .entries)) i 0 ≡ (readEntry (part (entriesRoom r) (104 * i) 104)) .limit
+pub limit-at : (r : List ℕ) (i : ℕ) → i < getD (head r) 18 0 → getD (limits ((readRow r) .entries)) i 0 ≡ (readEntry (part (entriesRoom r) (104 * i) 104)) .limit
 unfolding readRow
-limit-at r i h = limits-at (getD (block r 0) 18 0) i (entriesRoom r) h
+limit-at r i h = limits-at (getD (head r) 18 0) i (entriesRoom r) h

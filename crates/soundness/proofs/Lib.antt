@@ -1,4 +1,5 @@
 pub mod Accesses
 pub mod Bits
+pub mod Forms
 pub mod Line
 pub mod Tested

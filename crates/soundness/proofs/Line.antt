@@ -19,13 +19,13 @@ use Rattle.table.proofs.Form.{up-to-length, up-to-part}
 use Rattle.table.proofs.Sound.{at-counted, bit-of}
 use Rattle.table.proofs.Tests.{clash}
 use Rattle.table.specs.Soundness.{inUse, lineExact}
-use Rattle.table.specs.TheTable.{block, fromBits, lineRoom, orderLine, places, usedBits}
+use Rattle.table.specs.TheTable.{fromBits, head, lineRoom, orderLine, places, usedBits}
 
 -- THE LINE
 
 pub line-most : (r : List ℕ) → length (orderLine r) ≤ 8
 unfolding orderLine
-line-most r = omega (arith, up-to-length (lineRoom r), length-take 8 (drop 20 (block r 0)))
+line-most r = omega (arith, up-to-length (lineRoom r), length-take 8 (drop 20 (head r)))
 
 up-to-at : (l : List ℕ) (i : ℕ) → i < length (upTo0 l) → getD (upTo0 l) i 0 ≡ getD l i 0
 up-to-at l i h = ap (λ (t : List ℕ). getD t i 0) (up-to-part l) ∙ getD-take (length (upTo0 l)) l i 0 h
@@ -136,7 +136,7 @@ unfolding lineExact
 line-twice r i h o = rw (twice (orderLine r) i h o) (sym (and-false (every (within 1 8) (orderLine r))))
 
 pub line-end : (r : List ℕ) (i used : ℕ) → length (orderLine r) ≤ i → used ≡ usedBits (take i (orderLine r))
-    → every (within 1 8) (take i (orderLine r)) ≡ true → distinct eqb (take i (orderLine r)) ≡ true → eqb (getD (block r 0) 17 0) used ≡ lineExact r
+    → every (within 1 8) (take i (orderLine r)) ≡ true → distinct eqb (take i (orderLine r)) ≡ true → eqb (getD (head r) 17 0) used ≡ lineExact r
 unfolding lineExact
 line-end r i used h u e d =
     let all : take i (orderLine r) ≡ orderLine r = take-all i (orderLine r) h in
@@ -186,7 +186,7 @@ ones-of (p ∷ l) e d =
 pub record Exact (r : List ℕ) : Type 0 where
   pub in-range : every (within 1 8) (orderLine r) ≡ true
   pub once : distinct eqb (orderLine r) ≡ true
-  pub bits : getD (block r 0) 17 0 ≡ usedBits (orderLine r)
+  pub bits : getD (head r) 17 0 ≡ usedBits (orderLine r)
 
 pub exact : (r : List ℕ) → lineExact r ≡ true → Exact r
 unfolding lineExact
@@ -195,10 +195,10 @@ exact r h =
     record {
       in-range = and-left (every (within 1 8) (orderLine r)) _ h;
       once = and-left (distinct eqb (orderLine r)) _ h1;
-      bits = eqb-true (getD (block r 0) 17 0) (usedBits (orderLine r)) (and-right (distinct eqb (orderLine r)) _ h1);
+      bits = eqb-true (getD (head r) 17 0) (usedBits (orderLine r)) (and-right (distinct eqb (orderLine r)) _ h1);
     }
 
-pub ones-line : (r : List ℕ) → lineExact r ≡ true → ones (getD (block r 0) 17 0) ≡ length (orderLine r)
+pub ones-line : (r : List ℕ) → lineExact r ≡ true → ones (getD (head r) 17 0) ≡ length (orderLine r)
 ones-line r h =
     let x : Exact r = exact r h in
     ap ones (x .bits) ∙ ones-of (orderLine r) (x .in-range) (x .once)
@@ -228,6 +228,6 @@ pub place-high : (r : List ℕ) (i : ℕ) → lineExact r ≡ true → i < lengt
 place-high r i x l = omega (arith, line-high-at r i x l, line-at r i l)
 
 -- whether place k is in use, by byte 17
-pub used-by : (r : List ℕ) (k x : ℕ) → x ≡ getD (block r 0) 17 0 → eqb (x / 2 ^ (k - 1) % 2) 1 ≡ inUse r k
+pub used-by : (r : List ℕ) (k x : ℕ) → x ≡ getD (head r) 17 0 → eqb (x / 2 ^ (k - 1) % 2) 1 ≡ inUse r k
 unfolding inUse
 used-by r k x e = ap (λ (y : ℕ). eqb (y / 2 ^ (k - 1) % 2) 1) e

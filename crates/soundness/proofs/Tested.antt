@@ -2,76 +2,78 @@
 use mathlib.Core.Path.{_≡_, refl, sym, ap, _∙_}
 use mathlib.Core.Bool.{Bool, true, false, _&&_}
 use mathlib.Core.List.{List}
-use Prim.Native.Nat.{ℕ, _-_, _≤_}
+use Prim.Native.Nat.{ℕ, _≤_}
 use native.Mathlib.Omega.{arith}
-use borrow.Author.Tests.{eq-eqb}
+use borrow.Author.Tests.{eq-eqb, eqb-false, eqb-true}
 use lib.Dec.{eqb, leb}
 use lib.ListN.{length, getD}
 use Rattle.octets.specs.Choice.{pick, within}
 use Rattle.octets.specs.Lists.{distinct, every, isOn, sumOf}
 use Rattle.octets.specs.Texts.{allZero, part, same}
-use Rattle.octets.proofs.Lists.{and-left, and-right, both, by-test, every-map, within-high}
+use Rattle.octets.proofs.Lists.{and-left, and-right, both, by-test, every-map, within-high, within-low}
 use Rattle.row.proofs.Entries.{count-is}
-use Rattle.table.proofs.Form.{every-on, length-block}
+use Rattle.row.proofs.Places.{row-sizes}
+use Rattle.table.proofs.Form.{Sized, every-on, length-first-of, length-second-of, sized}
+use Rattle.soundness.proofs.Forms.{both-of, nothing-at, nothing-behind, of-both, zero-first, zero-second}
 use Rattle.soundness.proofs.Line.{Exact, exact}
-use Rattle.table.proofs.Sound.{Clauses, Headed, at-place, clauses, clauses-sound, each-on, each-place-of, head-of, in-use, sums-tail, sums-zero}
+use Rattle.table.proofs.Sound.{Clauses, at-place, clauses, clauses-sound, each-on, each-place-of, head-of, in-use, sums-tail, sums-zero}
 use Rattle.table.proofs.Tests.{clash}
-use Rattle.blocks.specs.RowTests.{accessSound, headSound, placeSound}
-use Rattle.table.specs.Soundness.{accessForm, entriesForm, headForm, inUse, isName, labels, limits, lineExact, placeForm, policyMarked, sameLabel, sessions, sound, sumsAgree, underLimits}
-use Rattle.table.specs.TheTable.{block, entriesRoom, orderLine, places, readAccess, readEntries, readRow, rowLength}
+use Rattle.blocks.specs.RowTests.{accessSound, headSound, placeSound, secondSound}
+use Rattle.table.specs.Soundness.{accessForm, entriesForm, headForm, inUse, isRow, labels, limits, lineExact, onlyBehind, placeForm, placeSums, policiesInOrder, policyMarked, sameLabel, secondForm, sessions, sound, sumsAgree, underLimits}
+use Rattle.table.specs.TheTable.{accessAt, entriesRoom, firstBlock, formOf, head, orderLine, place, places, readAccess, readEntries, readRow, secondBlock}
 
 -- BLOCK 0, read from the row
 
-pub head-sound-is : (r : List ℕ) (n : ℕ) → n ≡ getD (block r 0) 18 0 → headSound r
-    ≡ headForm (block r 0) && (entriesForm n (entriesRoom r)
+pub head-sound-is : (r : List ℕ) (n : ℕ) → n ≡ getD (head r) 18 0 → headSound r
+    ≡ headForm (head r) && (entriesForm n (entriesRoom r)
     && (distinct sameLabel (labels (readEntries n (entriesRoom r))) && leb (sumOf (limits (readEntries n (entriesRoom r)))) 8))
 unfolding headSound readRow
 head-sound-is r n e = rw e
 
-pub head-count : (r : List ℕ) → headForm (block r 0) ≡ true → getD (block r 0) 18 0 ≤ 4
-head-count r h = (head-of (block r 0) h) .2
+pub head-count : (r : List ℕ) → headForm (head r) ≡ true → getD (head r) 18 0 ≤ 4
+head-count r h = (head-of (head r) h) .2
 
-pub few-entries : (r : List ℕ) → headSound r ≡ true → getD (block r 0) 18 0 ≤ 4
+pub few-entries : (r : List ℕ) → headSound r ≡ true → getD (head r) 18 0 ≤ 4
 unfolding headSound
-few-entries r h = head-count r (and-left (headForm (block r 0)) _ h)
+few-entries r h = head-count r (and-left (headForm (head r)) _ h)
 
 -- THE WHOLE ROW
 
 unfoldable pub tested : List ℕ → Bool
 tested r =
-    headSound r && (lineExact r && (every (placeSound (getD (block r 0) 18 0) r) places
+    headSound r && (lineExact r && (every (placeSound (getD (head r) 18 0) r) places
     && (distinct same (sessions ((readRow r) .accesses))
-    && (underLimits 1 (limits ((readRow r) .entries)) ((readRow r) .accesses) && sumsAgree r 0))))
+    && (underLimits 1 (limits ((readRow r) .entries)) ((readRow r) .accesses) && sumsAgree (head r)))))
 
 -- the same by name
 record Parts (r : List ℕ) : Type 0 where
-  pub head : headForm (block r 0) ≡ true
-  pub entries-form : entriesForm (getD (block r 0) 18 0) (part (block r 0) 32 416) ≡ true
+  pub head-form : headForm (head r) ≡ true
+  pub entries-form : entriesForm (getD (head r) 18 0) (part (head r) 32 416) ≡ true
   pub labels-once : distinct sameLabel (labels ((readRow r) .entries)) ≡ true
   pub eight : leb (sumOf (limits ((readRow r) .entries))) 8 ≡ true
   pub line-exact : lineExact r ≡ true
-  pub each : every (placeSound (getD (block r 0) 18 0) r) places ≡ true
+  pub each : every (placeSound (getD (head r) 18 0) r) places ≡ true
   pub sessions-once : distinct same (sessions ((readRow r) .accesses)) ≡ true
   pub under : underLimits 1 (limits ((readRow r) .entries)) ((readRow r) .accesses) ≡ true
-  pub sum-zero : sumsAgree r 0 ≡ true
+  pub sum-zero : sumsAgree (head r) ≡ true
 
 parts : (r : List ℕ) → tested r ≡ true → Parts r
 unfolding tested headSound
 parts r t =
     let h = and-left (headSound r) _ t in
-    let h1 = and-right (headForm (block r 0)) _ h in
-    let h2 = and-right (entriesForm (getD (block r 0) 18 0) (part (block r 0) 32 416)) _ h1 in
+    let h1 = and-right (headForm (head r)) _ h in
+    let h2 = and-right (entriesForm (getD (head r) 18 0) (part (head r) 32 416)) _ h1 in
     let t1 = and-right (headSound r) _ t in
     let t2 = and-right (lineExact r) _ t1 in
-    let t3 = and-right (every (placeSound (getD (block r 0) 18 0) r) places) _ t2 in
+    let t3 = and-right (every (placeSound (getD (head r) 18 0) r) places) _ t2 in
     let t4 = and-right (distinct same (sessions ((readRow r) .accesses))) _ t3 in
     record {
-      head = and-left (headForm (block r 0)) _ h;
-      entries-form = and-left (entriesForm (getD (block r 0) 18 0) (part (block r 0) 32 416)) _ h1;
+      head-form = and-left (headForm (head r)) _ h;
+      entries-form = and-left (entriesForm (getD (head r) 18 0) (part (head r) 32 416)) _ h1;
       labels-once = and-left (distinct sameLabel (labels ((readRow r) .entries))) _ h2;
       eight = and-right (distinct sameLabel (labels ((readRow r) .entries))) _ h2;
       line-exact = and-left (lineExact r) _ t1;
-      each = and-left (every (placeSound (getD (block r 0) 18 0) r) places) _ t2;
+      each = and-left (every (placeSound (getD (head r) 18 0) r) places) _ t2;
       sessions-once = and-left (distinct same (sessions ((readRow r) .accesses))) _ t3;
       under = and-left (underLimits 1 (limits ((readRow r) .entries)) ((readRow r) .accesses)) _ t4;
       sum-zero = and-right (underLimits 1 (limits ((readRow r) .entries)) ((readRow r) .accesses)) _ t4;
@@ -82,40 +84,61 @@ same-number n = eq-eqb n n refl
 
 -- from the paper's clauses
 module _ (r : List ℕ) (c : Clauses r) where
-  entry-there : (k : ℕ) → isOn (orderLine r) k ≡ true → within 1 (getD (block r 0) 18 0) (getD (block r k) 1 0) ≡ true
-  unfolding readRow readAccess
+  entry-there : (k : ℕ) → isOn (orderLine r) k ≡ true → within 1 (getD (head r) 18 0) (getD (firstBlock (place r k)) 1 0) ≡ true
+  unfolding readRow accessAt readAccess
   entry-there k o =
-      let w : within 1 (length ((readRow r) .entries)) (getD (block r k) 1 0) ≡ true =
-      every-on (λ j. within 1 (length ((readRow r) .entries)) ((readAccess j (block r j)) .entry)) (orderLine r) k (rw every-map at (c .entry-in)) o in
-      ap (λ (n : ℕ). within 1 n (getD (block r k) 1 0)) (sym (count-is r)) ∙ w
+      let w : within 1 (length ((readRow r) .entries)) (getD (firstBlock (place r k)) 1 0) ≡ true =
+      every-on (λ j. within 1 (length ((readRow r) .entries)) ((accessAt r j) .entry)) (orderLine r) k (rw every-map at (c .entry-in)) o in
+      ap (λ (n : ℕ). within 1 n (getD (firstBlock (place r k)) 1 0)) (sym (count-is r)) ∙ w
 
-  place-passes : (k : ℕ) → within 1 8 k ≡ true → placeSound (getD (block r 0) 18 0) r k ≡ true
-  unfolding placeSound accessSound placeForm policyMarked sumsAgree pick
+  -- the two blocks of a place on the line
+  blocks-pass : (k : ℕ) → within 1 8 k ≡ true → isOn (orderLine r) k ≡ true → inUse r k ≡ true
+      → (accessSound (getD (head r) 18 0) (firstBlock (place r k)) ≡ true) × (formOf r ≡ 2 → secondSound (secondBlock (place r k)) (getD (firstBlock (place r k)) 5 0) ≡ true)
+  unfolding accessSound secondSound placeForm placeSums policyMarked policiesInOrder pick
+  blocks-pass k w o u =
+      let b : List ℕ = firstBlock (place r k) in
+      let d : List ℕ = secondBlock (place r k) in
+      let f : placeForm r k ≡ true = at-place (placeForm r) k (c .places-form) w in
+      let fo : (accessForm b ≡ true) × (formOf r ≡ 2 → secondForm d ≡ true) = of-both (formOf r) _ _ (rw u at f) in
+      let su : (sumsAgree b ≡ true) × (formOf r ≡ 2 → sumsAgree d ≡ true) = of-both (formOf r) _ _ (at-place (placeSums r) k (c .sum-each) w) in
+      let m : eqb (getD b 4 0) (pick (leb 1 (getD b 5 0)) 1 0) ≡ true = every-on (policyMarked r) (orderLine r) k (c .marked) o in
+      let q : onlyBehind (getD d 3 0) (getD b 5 0) && onlyBehind (getD d 4 0) (getD d 3 0) ≡ true = every-on (policiesInOrder r) (orderLine r) k (c .ordered) o in
+      let q3 : onlyBehind (getD d 3 0) (getD b 5 0) ≡ true = and-left (onlyBehind (getD d 3 0) (getD b 5 0)) _ q in
+      let q4 : onlyBehind (getD d 4 0) (getD d 3 0) ≡ true = and-right (onlyBehind (getD d 3 0) (getD b 5 0)) _ q in
+      (both (fo .0) (both m (both (entry-there k o) (su .0))), λ e. both (fo .1 e) (both q3 (both q4 (su .1 e))))
+
+  place-passes : (k : ℕ) → within 1 8 k ≡ true → placeSound (getD (head r) 18 0) r k ≡ true
+  unfolding placeSound placeForm pick
   place-passes k w =
       let f : placeForm r k ≡ true = at-place (placeForm r) k (c .places-form) w in
       by-test (inUse r k)
       (λ u. let o : isOn (orderLine r) k ≡ true = sym (in-use r k (c .bits) w) ∙ u in
-      rw u (both (rw u at f) (both (every-on (policyMarked r) (orderLine r) k (c .marked) o) (both (entry-there k o) (at-place (sumsAgree r) k (c .sum-each) w)))))
+      let t = blocks-pass k w o u in
+      rw u (both-of (formOf r) _ _ (t .0) (t .1)))
       (λ u. rw u (rw u at f))
 
   line-passes : lineExact r ≡ true
   unfolding lineExact
-  line-passes = rw (c .line-in, c .line-once, ← (c .bits)) (same-number (getD (block r 0) 17 0))
+  line-passes = rw (c .line-in, c .line-once, ← (c .bits)) (same-number (getD (head r) 17 0))
 
   passes : tested r ≡ true
   unfolding tested headSound
   passes =
-      rw (c .head, c .entries-form, c .labels-once, c .eight, line-passes, each-place-of (placeSound (getD (block r 0) 18 0) r) place-passes, c .sessions-once, c .under, c .sum-zero)
+      rw (c .head-form, c .entries-form, c .labels-once, c .eight, line-passes, each-place-of (placeSound (getD (head r) 18 0) r) place-passes, c .sessions-once, c .under, c .sum-zero)
 
 -- to the paper's clauses
-module _ (r : List ℕ) (size : length r ≡ rowLength) (p : Parts r) where
-  shown : (k : ℕ) → within 1 8 k ≡ true → inUse r k ≡ true → accessSound (getD (block r 0) 18 0) (block r k) ≡ true
-  unfolding placeSound pick
-  shown k w u = let t : placeSound (getD (block r 0) 18 0) r k ≡ true = at-place (placeSound (getD (block r 0) 18 0) r) k (p .each) w in rw u at t
+module _ (r : List ℕ) (row : isRow r ≡ true) (p : Parts r) where
+  at : (k : ℕ) → within 1 8 k ≡ true → placeSound (getD (head r) 18 0) r k ≡ true
+  at k w = at-place (placeSound (getD (head r) 18 0) r) k (p .each) w
 
-  zero-there : (k : ℕ) → within 1 8 k ≡ true → inUse r k ≡ false → allZero (block r k) ≡ true
+  shown : (k : ℕ) → within 1 8 k ≡ true → inUse r k ≡ true
+      → (accessSound (getD (head r) 18 0) (firstBlock (place r k)) ≡ true) × (formOf r ≡ 2 → secondSound (secondBlock (place r k)) (getD (firstBlock (place r k)) 5 0) ≡ true)
   unfolding placeSound pick
-  zero-there k w u = let t : placeSound (getD (block r 0) 18 0) r k ≡ true = at-place (placeSound (getD (block r 0) 18 0) r) k (p .each) w in rw u at t
+  shown k w u = let t : placeSound (getD (head r) 18 0) r k ≡ true = at k w in of-both (formOf r) _ _ (rw u at t)
+
+  zero-there : (k : ℕ) → within 1 8 k ≡ true → inUse r k ≡ false → allZero (place r k) ≡ true
+  unfolding placeSound pick
+  zero-there k w u = let t : placeSound (getD (head r) 18 0) r k ≡ true = at k w in rw u at t
 
   on-used : (k : ℕ) → isOn (orderLine r) k ≡ true → (within 1 8 k ≡ true) × (inUse r k ≡ true)
   on-used k o =
@@ -123,47 +146,87 @@ module _ (r : List ℕ) (size : length r ≡ rowLength) (p : Parts r) where
       let w : within 1 8 k ≡ true = every-on (within 1 8) (orderLine r) k (x .in-range) o in
       (w, in-use r k (x .bits) w ∙ o)
 
+  on-shown : (k : ℕ) → isOn (orderLine r) k ≡ true
+      → (accessSound (getD (head r) 18 0) (firstBlock (place r k)) ≡ true) × (formOf r ≡ 2 → secondSound (secondBlock (place r k)) (getD (firstBlock (place r k)) 5 0) ≡ true)
+  on-shown k o = shown k (on-used k o .0) (on-used k o .1)
+
   form-there : (k : ℕ) → within 1 8 k ≡ true → placeForm r k ≡ true
-  unfolding placeForm accessSound pick
+  unfolding placeForm accessSound secondSound pick
   form-there k w =
       by-test (inUse r k)
-      (λ u. rw u (and-left (accessForm (block r k)) _ (shown k w u)))
+      (λ u. rw u (both-of (formOf r) _ _ (and-left (accessForm (firstBlock (place r k))) _ (shown k w u .0)) (λ e. and-left (secondForm (secondBlock (place r k))) _ (shown k w u .1 e))))
       (λ u. rw u (zero-there k w u))
 
-  mark-there : (k : ℕ) → isOn (orderLine r) k ≡ true → policyMarked r k ≡ true
+  -- behind the form of the first block: the mark, the entry, the sums
+  first-rest : (k : ℕ) → accessSound (getD (head r) 18 0) (firstBlock (place r k)) ≡ true
+      → (policyMarked r k ≡ true) × (within 1 (getD (head r) 18 0) (getD (firstBlock (place r k)) 1 0) ≡ true) × (sumsAgree (firstBlock (place r k)) ≡ true)
   unfolding policyMarked accessSound
-  mark-there k o =
-      let t = and-right (accessForm (block r k)) _ (shown k (on-used k o .0) (on-used k o .1)) in
-      and-left (eqb (getD (block r k) 4 0) (pick (leb 1 (getD (block r k) 5 0)) 1 0)) _ t
+  first-rest k s =
+      let b : List ℕ = firstBlock (place r k) in
+      let t = and-right (accessForm b) _ s in
+      let t1 = and-right (eqb (getD b 4 0) (pick (leb 1 (getD b 5 0)) 1 0)) _ t in (
+        and-left (eqb (getD b 4 0) (pick (leb 1 (getD b 5 0)) 1 0)) _ t,
+        and-left (within 1 (getD (head r) 18 0) (getD b 1 0)) _ t1,
+        and-right (within 1 (getD (head r) 18 0) (getD b 1 0)) _ t1,
+      )
 
-  names-entry : (k : ℕ) → isOn (orderLine r) k ≡ true → within 1 (length ((readRow r) .entries)) (getD (block r k) 1 0) ≡ true
-  unfolding accessSound
-  names-entry k o =
-      let t = and-right (accessForm (block r k)) _ (shown k (on-used k o .0) (on-used k o .1)) in
-      let t1 = and-right (eqb (getD (block r k) 4 0) (pick (leb 1 (getD (block r k) 5 0)) 1 0)) _ t in
-      ap (λ (n : ℕ). within 1 n (getD (block r k) 1 0)) (count-is r) ∙ and-left (within 1 (getD (block r 0) 18 0) (getD (block r k) 1 0)) _ t1
+  -- behind the form of the second: the policies in order, the sums
+  second-rest : (k : ℕ) → secondSound (secondBlock (place r k)) (getD (firstBlock (place r k)) 5 0) ≡ true
+      → (policiesInOrder r k ≡ true) × (sumsAgree (secondBlock (place r k)) ≡ true)
+  unfolding policiesInOrder secondSound
+  second-rest k s =
+      let b : List ℕ = firstBlock (place r k) in
+      let d : List ℕ = secondBlock (place r k) in
+      let t = and-right (secondForm d) _ s in
+      let t1 = and-right (onlyBehind (getD d 3 0) (getD b 5 0)) _ t in (
+        both (and-left (onlyBehind (getD d 3 0) (getD b 5 0)) _ t) (and-left (onlyBehind (getD d 4 0) (getD d 3 0)) _ t1),
+        and-right (onlyBehind (getD d 4 0) (getD d 3 0)) _ t1,
+      )
 
-  sum-there : (k : ℕ) → within 1 8 k ≡ true → sumsAgree r k ≡ true
-  unfolding sumsAgree accessSound
+  mark-there : (k : ℕ) → isOn (orderLine r) k ≡ true → policyMarked r k ≡ true
+  mark-there k o = first-rest k (on-shown k o .0) .0
+
+  names-entry : (k : ℕ) → isOn (orderLine r) k ≡ true → within 1 (length ((readRow r) .entries)) (getD (firstBlock (place r k)) 1 0) ≡ true
+  names-entry k o = ap (λ (n : ℕ). within 1 n (getD (firstBlock (place r k)) 1 0)) (count-is r) ∙ first-rest k (on-shown k o .0) .1
+
+  -- in form 1 there is no second policy, and no third
+  order-one : (k : ℕ) → within 1 8 k ≡ true → (formOf r ≡ 2 → ⊥) → policiesInOrder r k ≡ true
+  unfolding policiesInOrder
+  order-one k w n =
+      let z : length (secondBlock (place r k)) ≡ 0 = omega (arith, row-sizes r row, length-second-of r k (sized r row) (within-low 1 8 k w) (within-high 1 8 k w)) in
+      both (nothing-behind _ _ (nothing-at (secondBlock (place r k)) 3 z)) (nothing-behind _ _ (nothing-at (secondBlock (place r k)) 4 z))
+
+  order-there : (k : ℕ) → isOn (orderLine r) k ≡ true → policiesInOrder r k ≡ true
+  order-there k o =
+      by-test (eqb (formOf r) 2)
+      (λ e. second-rest k (on-shown k o .1 (eqb-true (formOf r) 2 e)) .0)
+      (λ e. order-one k (on-used k o .0) (eqb-false (formOf r) 2 e))
+
+  sum-there : (k : ℕ) → within 1 8 k ≡ true → placeSums r k ≡ true
+  unfolding placeSums
   sum-there k w =
-      let z : length (block r k) ≡ 512 = length-block r k size (within-high 1 8 k w) in
+      let z : Sized r = sized r row in
+      let b : List ℕ = firstBlock (place r k) in
+      let d : List ℕ = secondBlock (place r k) in
+      let lb : length b ≡ 512 = length-first-of r k z (within-low 1 8 k w) (within-high 1 8 k w) in
+      let ld : formOf r ≡ 2 → length d ≡ 512 = λ e. omega (arith, length-second-of r k z (within-low 1 8 k w) (within-high 1 8 k w)) in
       by-test (inUse r k)
-      (λ u. let t = and-right (accessForm (block r k)) _ (shown k w u) in
-      let t1 = and-right (eqb (getD (block r k) 4 0) (pick (leb 1 (getD (block r k) 5 0)) 1 0)) _ t in
-      and-right (within 1 (getD (block r 0) 18 0) (getD (block r k) 1 0)) _ t1)
-      (λ u. sums-tail (block r k) z ∙ sums-zero (block r k) z (zero-there k w u))
+      (λ u. both-of (formOf r) _ _ (first-rest k (shown k w u .0) .2) (λ e. second-rest k (shown k w u .1 e) .1))
+      (λ u. both-of (formOf r) _ _
+      (sums-tail b lb ∙ sums-zero b lb (zero-first 512 (place r k) (zero-there k w u)))
+      (λ e. sums-tail d (ld e) ∙ sums-zero d (ld e) (zero-second 512 (place r k) (zero-there k w u))))
 
   clauses-hold : Clauses r
-  unfolding readRow readAccess
+  unfolding readRow accessAt readAccess
   clauses-hold =
       let x : Exact r = exact r (p .line-exact) in
       record {
-        size = size;
-        head = p .head;
+        row = sized r row;
+        head-form = p .head-form;
         entries-form = p .entries-form;
         places-form = each-place-of (placeForm r) form-there;
         sum-zero = p .sum-zero;
-        sum-each = each-place-of (sumsAgree r) sum-there;
+        sum-each = each-place-of (placeSums r) sum-there;
         line-in = x .in-range;
         line-once = x .once;
         bits = x .bits;
@@ -173,12 +236,13 @@ module _ (r : List ℕ) (size : length r ≡ rowLength) (p : Parts r) where
         entry-in = rw every-map (each-on (orderLine r) _ names-entry);
         under = p .under;
         marked = each-on (orderLine r) (policyMarked r) mark-there;
+        ordered = each-on (orderLine r) (policiesInOrder r) order-there;
       }
 
-pub sound-by : (r : List ℕ) → length r ≡ rowLength → sound r ≡ tested r
-sound-by r size =
+pub sound-by : (r : List ℕ) → isRow r ≡ true → sound r ≡ tested r
+sound-by r row =
     by-test (tested r)
-    (λ t. clauses-sound r (clauses-hold r size (parts r t)) ∙ sym t)
+    (λ t. clauses-sound r (clauses-hold r row (parts r t)) ∙ sym t)
     (λ t. by-test (sound r)
     (λ s. absurd (clash (passes r (clauses r s)) t))
     (λ s. s ∙ sym t))

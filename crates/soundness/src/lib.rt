@@ -2,13 +2,13 @@
 ghost use mathlib.Core.Path.{_≡_};
 ghost use mathlib.Core.Bool.{true, false, not};
 ghost use mathlib.Core.List.{[]};
-ghost use Prim.Native.Nat.{_+_, _-_, _*_, _/_, _%_, _^_, _<_, _≤_};
+ghost use Prim.Native.Nat.{_+_, _-_, _/_, _%_, _^_, _<_, _≤_};
 ghost use lib.ListN.{length, getD, drop};
 ghost use lib.Dec.{eqb};
 ghost use Rattle.octets.specs.Texts.{same};
-ghost use Rattle.table.specs.TheTable.{block, orderLine, places, readRow, rowLength};
+ghost use Rattle.table.specs.TheTable.{head, orderLine, places, readRow};
 ghost use Rattle.octets.specs.Lists.{every, distinct};
-ghost use Rattle.table.specs.Soundness.{labels, limits, lineExact, sessions, onEntry, underLimits, sound};
+ghost use Rattle.table.specs.Soundness.{isRow, limits, lineExact, sessions, onEntry, underLimits, sound};
 ghost use Rattle.blocks.specs.RowTests.{placeSound, headSound};
 
 // THE ORDER LINE, AND BYTE 17
@@ -31,7 +31,7 @@ fn with_place(bits: u8, k: usize) -> u8
 
 // The order line is the places in use. Its bits are gathered, and none comes twice.
 pub fn line_exact(r: &[u8]) -> bool
-    requires { ⌜ length (now r) ≡ rowLength ⌝ }
+    requires { ⌜ 512 ≤ length (now r) ⌝ }
     ensures { λ x. ⌜ x ≡ lineExact (now (r .entry)) ⌝ }
 {
     let n = blocks::line_length(row::line_room(r));
@@ -53,7 +53,7 @@ pub fn line_exact(r: &[u8]) -> bool
 
 // How many accesses there are: the ones of byte 17.
 pub fn accesses_in_use(r: &[u8]) -> usize
-    requires { ⌜ (length (now r) ≡ rowLength) × (lineExact (now r) ≡ true) ⌝ }
+    requires { ⌜ (512 ≤ length (now r)) × (lineExact (now r) ≡ true) ⌝ }
     ensures { λ x. ⌜ (x ≡ length (orderLine (now (r .entry)))) × (x ≤ 8) ⌝ }
 {
     u8::count_ones(row::used_bits(r)) as usize
@@ -61,19 +61,28 @@ pub fn accesses_in_use(r: &[u8]) -> usize
 
 // THE PLACES
 
+// A free place is zero, all of it. Of one in use the first block is looked at, and the second where the form has one.
 fn place_sound(r: &[u8], k: usize, n: u8) -> bool
-    requires { ⌜ (length (now r) ≡ rowLength) × (1 ≤ k) × (k ≤ 8) ⌝ }
+    requires { ⌜ (isRow (now r) ≡ true) × (1 ≤ k) × (k ≤ 8) ⌝ }
     ensures { λ x. ⌜ x ≡ placeSound n (now (r .entry)) k ⌝ }
 {
-    let block = row::place(r, k);
-    if in_use(row::used_bits(r), k) {
-        return blocks::access_sound(block, n);
+    let place = row::place(r, k);
+    let block = row::first(r, k);
+    if !in_use(row::used_bits(r), k) {
+        return octets::all_zero(place);
     }
-    octets::all_zero(block)
+    if !blocks::access_sound(block, n) {
+        return false;
+    }
+    let more = row::second(r, k);
+    if more.len() == 0 {
+        return true;
+    }
+    blocks::second_sound(more, block[5])
 }
 
 fn places_sound(r: &[u8], n: u8) -> bool
-    requires { ⌜ length (now r) ≡ rowLength ⌝ }
+    requires { ⌜ isRow (now r) ≡ true ⌝ }
     ensures { λ x. ⌜ x ≡ every (placeSound n (now (r .entry))) places ⌝ }
 {
     let mut k: usize = 1;
@@ -90,7 +99,7 @@ fn places_sound(r: &[u8], n: u8) -> bool
 
 // No Session-Id behind that of the i-th access is the same.
 fn session_once(r: &[u8], n: usize, i: usize) -> bool
-    requires { ⌜ (length (now r) ≡ rowLength) × (lineExact (now r) ≡ true) × (n ≡ length (orderLine (now r))) × (i < n) ⌝ }
+    requires { ⌜ (isRow (now r) ≡ true) × (lineExact (now r) ≡ true) × (n ≡ length (orderLine (now r))) × (i < n) ⌝ }
     ensures { λ x. ⌜ x ≡ every (λ y. not (same (getD (sessions ((readRow (now (r .entry))) .accesses)) i []) y)) (drop (i + 1) (sessions ((readRow (now (r .entry))) .accesses))) ⌝ }
 {
     let this = row::session(r, row::line_place(r, i));
@@ -106,7 +115,7 @@ fn session_once(r: &[u8], n: usize, i: usize) -> bool
 }
 
 pub fn sessions_differ(r: &[u8]) -> bool
-    requires { ⌜ (length (now r) ≡ rowLength) × (lineExact (now r) ≡ true) ⌝ }
+    requires { ⌜ (isRow (now r) ≡ true) × (lineExact (now r) ≡ true) ⌝ }
     ensures { λ x. ⌜ x ≡ distinct same (sessions ((readRow (now (r .entry))) .accesses)) ⌝ }
 {
     let n = accesses_in_use(r);
@@ -122,7 +131,7 @@ pub fn sessions_differ(r: &[u8]) -> bool
 
 // How many accesses are on entry e.
 pub fn accesses_on(r: &[u8], e: usize) -> usize
-    requires { ⌜ (length (now r) ≡ rowLength) × (lineExact (now r) ≡ true) ⌝ }
+    requires { ⌜ (isRow (now r) ≡ true) × (lineExact (now r) ≡ true) ⌝ }
     ensures { λ x. ⌜ (x ≡ length (onEntry e ((readRow (now (r .entry))) .accesses))) × (x ≤ 8) ⌝ }
 {
     let n = accesses_in_use(r);
@@ -140,7 +149,7 @@ pub fn accesses_on(r: &[u8], e: usize) -> usize
 
 // No entry has more accesses than its limit.
 pub fn under_limits(r: &[u8], n: usize) -> bool
-    requires { ⌜ (length (now r) ≡ rowLength) × (lineExact (now r) ≡ true) × (n ≡ getD (block (now r) 0) 18 0) × (n ≤ 4) ⌝ }
+    requires { ⌜ (isRow (now r) ≡ true) × (lineExact (now r) ≡ true) × (n ≡ getD (head (now r)) 18 0) × (n ≤ 4) ⌝ }
     ensures { λ x. ⌜ x ≡ underLimits 1 (limits ((readRow (now (r .entry))) .entries)) ((readRow (now (r .entry))) .accesses) ⌝ }
 {
     let entries = row::entries_room(r);
@@ -158,7 +167,7 @@ pub fn under_limits(r: &[u8], n: usize) -> bool
 
 // Block 0 but for its sums and its order line's places: its form, the entries' form, their labels and limits.
 fn head_sound(r: &[u8]) -> bool
-    requires { ⌜ length (now r) ≡ rowLength ⌝ }
+    requires { ⌜ 512 ≤ length (now r) ⌝ }
     ensures { λ x. ⌜ x ≡ headSound (now (r .entry)) ⌝ }
 {
     if !blocks::head_form(row::head(r)) {
@@ -177,7 +186,7 @@ fn head_sound(r: &[u8]) -> bool
 
 // A row is sound. The cheap tests come first, the sums of block 0 last.
 pub fn row_sound(r: &[u8]) -> bool
-    requires { ⌜ length (now r) ≡ rowLength ⌝ }
+    requires { ⌜ isRow (now r) ≡ true ⌝ }
     ensures { λ x. ⌜ x ≡ sound (now (r .entry)) ⌝ }
 {
     if !head_sound(r) {

@@ -7,17 +7,17 @@ use native.Mathlib.Omega.{arith}
 use borrow.Author.Tests.{leb-true, eqb-true, eq-eqb, ne-eqb}
 use lib.Dec.{eqb}
 use lib.ListN.{length, take, drop, getD, length-take, length-drop, length-append}
-use lib.Seq.{take-take, drop-drop, drop-cons, getD-take}
+use lib.Seq.{take-all, take-take, drop-drop, drop-cons, getD-take}
 use Rattle.octets.specs.Choice.{pick, within}
 use Rattle.octets.specs.Lists.{counted, every, isOn, upTo0}
 use Rattle.octets.specs.Texts.{allZero, filled, part, same, zeros}
-use Rattle.octets.proofs.Lists.{and-left, and-right, by-test, every-map, same-eq, same-refl, within-high}
+use Rattle.octets.proofs.Lists.{and-left, and-right, by-test, every-map, same-eq, same-refl, within-high, within-low}
 use Rattle.octets.proofs.Texts.{length-filled, length-part, length-zeros}
 use Rattle.octets.proofs.Pieces.{drop-take, part-take, take-zeros}
-use Rattle.table.proofs.Bytes.{fill, length-entry, length-head, length-place, name-length}
-use Rattle.table.proofs.Good.{Good, Standing, good, goodAccess, goodEntry, is-good, places-eight, saidSound, standing}
-use Rattle.table.specs.Soundness.{zeroBehind}
-use Rattle.table.specs.TheTable.{Access, Subscriber, accessBytes, block, entriesBytes, entryBytes, headBytes, held, line, orderLine, placeBytes, places, placesBytes, readAccess, readEntries, readEntry, readRow, rowBytes, rowLength, sealed, sumsFrom, usedBits}
+use Rattle.table.proofs.Bytes.{access-one, access-two, fill, length-entry, length-first, length-head, length-place, name-length, readPlace}
+use Rattle.table.proofs.Good.{Good, Standing, by-form, good, goodAccess, goodEntry, is-good, places-eight, saidSound, spare, standing}
+use Rattle.table.specs.Soundness.{isRow, ofBlocks, zeroBehind}
+use Rattle.table.specs.TheTable.{Access, Subscriber, accessAt, accessBytes, firstBlock, firstBytes, formOf, head, isForm, place, placeLength, placeStart, secondBlock, secondBytes, entriesBytes, entryBytes, headBytes, held, line, orderLine, placeBytes, places, placesBytes, readAccess, readEntries, readEntry, readRow, rowBytes, rowLength, sealed, sumsFrom, usedBits}
 
 -- bytes 510 and 511 are the sums
 unfoldable pub sumOk : List ℕ → Bool
@@ -28,6 +28,21 @@ accessTests b =
     eqb (getD b 0 0) 2 && (eqb (getD b 4 0) (pick (eqb (getD b 5 0) 0) 0 1) && (eqb (getD b 6 0) 0 && (eqb (getD b 7 0) 0
     && (zeroBehind (getD b 2 0) (part b 8 128) && (zeroBehind (getD b 3 0) (part b 136 128) && (zeroBehind (getD b 5 0) (part b 264 128)
     && (allZero (part b 392 118) && sumOk b)))))))
+
+unfoldable pub secondTests : List ℕ → Bool
+secondTests b =
+    eqb (getD b 0 0) 3 && (eqb (getD b 2 0) 0 && (eqb (getD b 5 0) 0 && (eqb (getD b 6 0) 0 && (eqb (getD b 7 0) 0
+    && (zeroBehind (getD b 1 0) (part b 8 128) && (zeroBehind (getD b 3 0) (part b 136 128) && (zeroBehind (getD b 4 0) (part b 264 128)
+    && (allZero (part b 392 118) && sumOk b))))))))
+
+-- the lengths that a place says are those of texts
+pub record Short (fm : ℕ) (p : List ℕ) : Type 0 where
+  pub two : getD (firstBlock p) 2 0 ≤ 128
+  pub three : getD (firstBlock p) 3 0 ≤ 128
+  pub five : getD (firstBlock p) 5 0 ≤ 128
+  pub one' : fm ≡ 2 → getD (secondBlock p) 1 0 ≤ 128
+  pub three' : fm ≡ 2 → getD (secondBlock p) 3 0 ≤ 128
+  pub four' : fm ≡ 2 → getD (secondBlock p) 4 0 ≤ 128
 
 -- laws
 
@@ -85,26 +100,26 @@ same-rooms : (t s h p z : List ℕ) → length s ≡ 128 → length h ≡ 128 �
 same-rooms t s h p z hs hh hp =
     rw (same-past 128 s (h ++ (p ++ z)) t hs, same-past 128 h (p ++ z) (drop 128 t) hh, same-past 128 p z (drop 128 (drop 128 t)) hp, drop-drop 128 128 t, drop-drop 128 256 t)
 
-same-body : (b : List ℕ) (e ls lh g lp : ℕ) (s h p : List ℕ) → length b ≡ 512
-    → same (take 510 b) (2 ∷ e ∷ ls ∷ lh ∷ g ∷ lp ∷ 0 ∷ 0 ∷ filled s 128 ++ (filled h 128 ++ (filled p 128 ++ zeros 118)))
-    ≡ eqb (getD b 0 0) 2 && (eqb (getD b 1 0) e && (eqb (getD b 2 0) ls && (eqb (getD b 3 0) lh && (eqb (getD b 4 0) g && (eqb (getD b 5 0) lp
-    && (eqb (getD b 6 0) 0 && (eqb (getD b 7 0) 0
+same-body : (b : List ℕ) (m e ls lh g lp x y : ℕ) (s h p : List ℕ) → length b ≡ 512
+    → same (take 510 b) (m ∷ e ∷ ls ∷ lh ∷ g ∷ lp ∷ x ∷ y ∷ filled s 128 ++ (filled h 128 ++ (filled p 128 ++ zeros 118)))
+    ≡ eqb (getD b 0 0) m && (eqb (getD b 1 0) e && (eqb (getD b 2 0) ls && (eqb (getD b 3 0) lh && (eqb (getD b 4 0) g && (eqb (getD b 5 0) lp
+    && (eqb (getD b 6 0) x && (eqb (getD b 7 0) y
     && (same (part b 8 128) (filled s 128) && (same (part b 136 128) (filled h 128) && (same (part b 264 128) (filled p 128)
     && same (part b 392 118) (zeros 118)))))))))))
-same-body b e ls lh g lp s h p lb =
+same-body b m e ls lh g lp x y s h p lb =
     let last : drop 384 (drop 8 (take 510 b)) ≡ part b 392 118 = drop-drop 384 8 (take 510 b) ∙ drop-take 392 118 510 b (omega arith) in
     let one : take 128 (drop 8 (take 510 b)) ≡ part b 8 128 = part-take 510 8 128 b (omega arith) in
     let two : part (drop 8 (take 510 b)) 128 128 ≡ part b 136 128 = ap (take 128) (drop-drop 128 8 (take 510 b)) ∙ part-take 510 136 128 b (omega arith) in
     let three : part (drop 8 (take 510 b)) 256 128 ≡ part b 264 128 = ap (take 128) (drop-drop 256 8 (take 510 b)) ∙ part-take 510 264 128 b (omega arith) in
     rw (
-      same-at b 0 2 _ lb (omega arith),
+      same-at b 0 m _ lb (omega arith),
       same-at b 1 e _ lb (omega arith),
       same-at b 2 ls _ lb (omega arith),
       same-at b 3 lh _ lb (omega arith),
       same-at b 4 g _ lb (omega arith),
       same-at b 5 lp _ lb (omega arith),
-      same-at b 6 0 _ lb (omega arith),
-      same-at b 7 0 _ lb (omega arith),
+      same-at b 6 x _ lb (omega arith),
+      same-at b 7 y _ lb (omega arith),
       same-rooms (drop 8 (take 510 b)) (filled s 128) (filled h 128) (filled p 128) (zeros 118) (length-filled s 128) (length-filled h 128) (length-filled p 128),
       one,
       two,
@@ -112,11 +127,11 @@ same-body b e ls lh g lp s h p lb =
       last,
     )
 
--- an access's block is the bytes of what it says exactly if it passes the tests
-pub access-form : (k : ℕ) (b : List ℕ) → length b ≡ 512 → getD b 2 0 ≤ 128 → getD b 3 0 ≤ 128 → getD b 5 0 ≤ 128
-    → same b (accessBytes (readAccess k b)) ≡ accessTests b
-unfolding accessBytes readAccess accessTests
-access-form k b h h2 h3 h5 =
+-- the blocks of a place are the bytes of what they say exactly if they pass the tests
+pub first-form : (k : ℕ) (b c : List ℕ) → length b ≡ 512 → getD b 2 0 ≤ 128 → getD b 3 0 ≤ 128 → getD b 5 0 ≤ 128
+    → same b (firstBytes (readAccess k b c)) ≡ accessTests b
+unfolding firstBytes readAccess accessTests
+first-form k b c h h2 h3 h5 =
     let l2 : length (part b 8 (getD b 2 0)) ≡ getD b 2 0 = length-part b 8 _ (omega arith) in
     let l3 : length (part b 136 (getD b 3 0)) ≡ getD b 3 0 = length-part b 136 _ (omega arith) in
     let l5 : length (part b 264 (getD b 5 0)) ≡ getD b 5 0 = length-part b 264 _ (omega arith) in
@@ -126,7 +141,7 @@ access-form k b h h2 h3 h5 =
     let z : allZero (part b 392 118) ≡ same (part b 392 118) (zeros 118) = zero-room b 392 118 (omega arith) in
     same-sealed _ b (simp (length-append, length-filled, length-zeros))
     ∙ rw (
-      same-body b (getD b 1 0) (length (part b 8 (getD b 2 0))) (length (part b 136 (getD b 3 0))) (held (part b 264 (getD b 5 0))) (length (part b 264 (getD b 5 0))) (part b 8 (getD b 2 0)) (part b 136 (getD b 3 0)) (part b 264 (getD b 5 0)) h,
+      same-body b 2 (getD b 1 0) (length (part b 8 (getD b 2 0))) (length (part b 136 (getD b 3 0))) (held (part b 264 (getD b 5 0))) (length (part b 264 (getD b 5 0))) 0 0 (part b 8 (getD b 2 0)) (part b 136 (getD b 3 0)) (part b 264 (getD b 5 0)) h,
       r2,
       r3,
       r5,
@@ -138,34 +153,99 @@ access-form k b h h2 h3 h5 =
     )
     (simp (eqb-self, and-assoc))
 
--- the row by blocks
+pub second-form : (k : ℕ) (b c : List ℕ) → length c ≡ 512 → getD c 1 0 ≤ 128 → getD c 3 0 ≤ 128 → getD c 4 0 ≤ 128
+    → same c (secondBytes (readAccess k b c)) ≡ secondTests c
+unfolding secondBytes readAccess secondTests
+second-form k b c h h1 h3 h4 =
+    let l1 : length (part c 8 (getD c 1 0)) ≡ getD c 1 0 = length-part c 8 _ (omega arith) in
+    let l3 : length (part c 136 (getD c 3 0)) ≡ getD c 3 0 = length-part c 136 _ (omega arith) in
+    let l4 : length (part c 264 (getD c 4 0)) ≡ getD c 4 0 = length-part c 264 _ (omega arith) in
+    let r1 : same (part c 8 128) (filled (part c 8 (getD c 1 0)) 128) ≡ zeroBehind (getD c 1 0) (part c 8 128) = room-at c 8 128 (getD c 1 0) (omega arith) h1 in
+    let r3 : same (part c 136 128) (filled (part c 136 (getD c 3 0)) 128) ≡ zeroBehind (getD c 3 0) (part c 136 128) = room-at c 136 128 (getD c 3 0) (omega arith) h3 in
+    let r4 : same (part c 264 128) (filled (part c 264 (getD c 4 0)) 128) ≡ zeroBehind (getD c 4 0) (part c 264 128) = room-at c 264 128 (getD c 4 0) (omega arith) h4 in
+    let z : allZero (part c 392 118) ≡ same (part c 392 118) (zeros 118) = zero-room c 392 118 (omega arith) in
+    same-sealed _ c (simp (length-append, length-filled, length-zeros))
+    ∙ rw (
+      same-body c 3 (length (part c 8 (getD c 1 0))) 0 (length (part c 136 (getD c 3 0))) (length (part c 264 (getD c 4 0))) 0 0 0 (part c 8 (getD c 1 0)) (part c 136 (getD c 3 0)) (part c 264 (getD c 4 0)) h,
+      r1,
+      r3,
+      r4,
+      z,
+      l1,
+      l3,
+      l4,
+    )
+    (simp (eqb-self, and-assoc))
 
-same-places : (r : List ℕ) (a : List Access) (b n : ℕ) → length r ≡ 512 * (b + n)
-    → same (drop (512 * b) r) (placesBytes a (counted b n)) ≡ every (λ k. same (block r k) (placeBytes a k)) (counted b n)
+-- so the place: of the form's blocks
+unfoldable pub blockTests : (form : ℕ) → List ℕ → Bool
+blockTests fm p = ofBlocks fm (accessTests (firstBlock p)) (secondTests (secondBlock p))
+
+same-one : (k : ℕ) (p : List ℕ) → length p ≡ 512 → Short 1 p → same p (accessBytes 1 (readPlace k p)) ≡ blockTests 1 p
+unfolding blockTests ofBlocks pick
+same-one k p h s =
+    rw (access-one, and-true)
+    (ap (λ (b : List ℕ). same b (firstBytes (readPlace k p))) (sym (take-all 512 p (omega arith)))
+    ∙ first-form k (firstBlock p) (secondBlock p) (rw length-take (omega arith)) (s .two) (s .three) (s .five))
+
+same-two : (k : ℕ) (p : List ℕ) → length p ≡ 1024 → Short 2 p → same p (accessBytes 2 (readPlace k p)) ≡ blockTests 2 p
+unfolding blockTests ofBlocks pick
+same-two k p h s =
+    rw (
+      access-two,
+      same-past 512 (firstBytes (readPlace k p)) (secondBytes (readPlace k p)) p (length-first _),
+      first-form k (firstBlock p) (secondBlock p) (rw length-take (omega arith)) (s .two) (s .three) (s .five),
+      second-form k (firstBlock p) (secondBlock p) (rw length-drop (omega arith)) (s .one' refl) (s .three' refl) (s .four' refl),
+    )
+
+pub place-form-of : (fm k : ℕ) (p : List ℕ) → isForm fm ≡ true → length p ≡ placeLength fm → Short fm p → same p (accessBytes fm (readPlace k p)) ≡ blockTests fm p
+place-form-of fm k p f h s =
+    by-form (λ f. length p ≡ placeLength f → Short f p → same p (accessBytes f (readPlace k p)) ≡ blockTests f p) fm f
+    (same-one k p)
+    (same-two k p)
+    h s
+
+-- the row by places
+
+same-places : (fm : ℕ) (r : List ℕ) (a : List Access) (b n : ℕ) → 1 ≤ b → length r ≡ 512 + placeLength fm * (b - 1 + n)
+    → same (drop (placeStart fm b) r) (placesBytes fm a (counted b n)) ≡ every (λ k. same (part r (placeStart fm k) (placeLength fm)) (placeBytes fm a k)) (counted b n)
 unfolding placesBytes counted every same
-same-places r a b zero h = rw (lib.ListN.drop-of-length-le r {i = 512 * b} (omega arith))
-same-places r a b (suc n) h =
-    let q : 512 * b + 512 ≡ 512 * suc b = omega arith in
-    rw (same-past 512 (placeBytes a b) (placesBytes a (counted (suc b) n)) (drop (512 * b) r) (length-place a b), drop-drop 512 (512 * b) r, q, same-places r a (suc b) n (omega arith))
+same-places fm r a b zero l h = rw (lib.ListN.drop-of-length-le r {i = 512 + 512 * fm * (b - 1)} (omega arith))
+same-places fm r a b (suc n) l h =
+    let q : 512 + 512 * fm * (b - 1) + 512 * fm ≡ 512 + 512 * fm * (suc b - 1) = next-start fm b l in
+    let s : length r ≡ 512 + 512 * fm * (suc b - 1 + n) = h ∙ ap (λ (i : ℕ). 512 + 512 * fm * i) (omega arith) in
+    rw (same-past (512 * fm) (placeBytes fm a b) (placesBytes fm a (counted (suc b) n)) (drop (512 + 512 * fm * (b - 1)) r) (length-place fm a b), drop-drop (512 * fm) (512 + 512 * fm * (b - 1)) r, q, same-places fm r a (suc b) n (omega arith) s)
+  where
+    next-start : (fm b : ℕ) → 1 ≤ b → 512 + 512 * fm * (b - 1) + 512 * fm ≡ 512 + 512 * fm * (suc b - 1)
+    next-start fm zero l = absurd (omega arith)
+    next-start fm (suc b) l =
+        let p : suc b - 1 ≡ b = omega arith in
+        let q : suc (suc b) - 1 ≡ suc b = omega arith in
+        rw (p, q) (omega arith)
 
-same-row : (r : List ℕ) (s : Subscriber) → length r ≡ rowLength
-    → same r (rowBytes s) ≡ same (block r 0) (headBytes s) && every (λ k. same (block r k) (placeBytes (s .accesses) k)) places
-unfolding rowBytes places
-same-row r s h = rw (same-past 512 (headBytes s) (placesBytes (s .accesses) (counted 1 8)) r (length-head s), same-places r (s .accesses) 1 8 h)
+same-row : (r : List ℕ) (s : Subscriber) → length r ≡ rowLength (formOf r)
+    → same r (rowBytes (formOf r) s) ≡ same (head r) (headBytes s) && every (λ k. same (place r k) (placeBytes (formOf r) (s .accesses) k)) places
+unfolding rowBytes places place rowLength
+same-row r s h =
+    let q : 512 ≡ 512 + 512 * formOf r * (1 - 1) = omega arith in
+    let m : same (drop 512 r) (placesBytes (formOf r) (s .accesses) (counted 1 8))
+    ≡ every (λ k. same (part r (placeStart (formOf r) k) (placeLength (formOf r))) (placeBytes (formOf r) (s .accesses) k)) (counted 1 8) =
+    ap (λ (i : ℕ). same (drop i r) (placesBytes (formOf r) (s .accesses) (counted 1 8))) q ∙ same-places (formOf r) r (s .accesses) 1 8 (omega arith) (h ∙ omega arith) in
+    same-past 512 (headBytes s) (placesBytes (formOf r) (s .accesses) (counted 1 8)) r (length-head s) ∙ ap (λ (x : Bool). same (head r) (headBytes s) && x) m
 
 -- a place of the row
 
-pub place-read : (r : List ℕ) (l : List ℕ) (k : ℕ)
-    → placeBytes (map (λ (j : ℕ). readAccess j (block r j)) l) k ≡ pick (isOn l k) (accessBytes (readAccess k (block r k))) (zeros 512)
-unfolding placeBytes isOn every pick readAccess
-place-read r [] k = refl
-place-read r (j ∷ l) k =
+pub place-read : (fm : ℕ) (r : List ℕ) (l : List ℕ) (k : ℕ)
+    → placeBytes fm (map (accessAt r) l) k ≡ pick (isOn l k) (accessBytes fm (accessAt r k)) (zeros (placeLength fm))
+unfolding placeBytes isOn every pick accessAt readAccess
+place-read fm r [] k = refl
+place-read fm r (j ∷ l) k =
     by-test (eqb j k)
-    (λ e. rw e (ap (λ (i : ℕ). accessBytes (readAccess i (block r i))) (eqb-true j k e)))
-    (λ e. rw e (place-read r l k))
+    (λ e. rw e (ap (λ (i : ℕ). accessBytes fm (accessAt r i)) (eqb-true j k e)))
+    (λ e. rw e (place-read fm r l k))
 
 unfoldable pub placeTests : List ℕ → ℕ → Bool
-placeTests r k = pick (isOn (orderLine r) k) (accessTests (block r k)) (allZero (block r k))
+placeTests r k = pick (isOn (orderLine r) k) (blockTests (formOf r) (place r k)) (allZero (place r k))
 
 pub every-on : (f : ℕ → Bool) (l : List ℕ) (k : ℕ) → every f l ≡ true → isOn l k ≡ true → f k ≡ true
 unfolding every isOn
@@ -180,8 +260,45 @@ unfolding every
 every-cong f g p [] h c = refl
 every-cong f g p (k ∷ ks) h c = rw (c k (and-left (p k) (every p ks) h), every-cong f g p ks (and-right (p k) _ h) c)
 
-pub length-block : (r : List ℕ) (k : ℕ) → length r ≡ rowLength → k ≤ 8 → length (block r k) ≡ 512
-length-block r k h le = length-part r (512 * k) 512 (omega arith)
+-- the sizes of a row's parts
+pub record Sized (r : List ℕ) : Type 0 where
+  pub form : isForm (formOf r) ≡ true
+  pub size : length r ≡ rowLength (formOf r)
+
+pub sized : (r : List ℕ) → isRow r ≡ true → Sized r
+unfolding isRow
+sized r h =
+    record {
+      form = and-left (isForm (formOf r)) _ h;
+      size = eqb-true (length r) _ (and-right (isForm (formOf r)) _ h);
+    }
+
+pub is-sized : (r : List ℕ) → Sized r → isRow r ≡ true
+unfolding isRow
+is-sized r s = rw (s .form, eq-eqb (length r) (rowLength (formOf r)) (s .size))
+
+pub length-head-of : (r : List ℕ) → Sized r → length (head r) ≡ 512
+unfolding rowLength
+length-head-of r s = rw length-take (omega (arith, s .size))
+
+-- a place ends within the row
+pub place-ends : (fm k : ℕ) → 1 ≤ k → k ≤ 8 → placeStart fm k + placeLength fm ≤ rowLength fm
+unfolding rowLength
+place-ends fm k lo hi =
+    let m : 512 * fm * (k - 1) ≤ 512 * fm * 7 = native.Mathlib.Nat.mul-le-mul-left (512 * fm) (omega arith) in
+    omega arith
+
+pub length-place-of : (r : List ℕ) (k : ℕ) → Sized r → 1 ≤ k → k ≤ 8 → length (place r k) ≡ placeLength (formOf r)
+unfolding place
+length-place-of r k s lo hi = length-part r (placeStart (formOf r) k) (placeLength (formOf r)) (omega (arith, s .size, place-ends (formOf r) k lo hi))
+
+-- its blocks
+pub length-first-of : (r : List ℕ) (k : ℕ) → Sized r → 1 ≤ k → k ≤ 8 → length (firstBlock (place r k)) ≡ 512
+unfolding isForm
+length-first-of r k s lo hi = rw length-take (omega (arith, length-place-of r k s lo hi, within-low 1 2 _ (s .form)))
+
+pub length-second-of : (r : List ℕ) (k : ℕ) → Sized r → 1 ≤ k → k ≤ 8 → length (secondBlock (place r k)) ≡ 512 * (formOf r - 1)
+length-second-of r k s lo hi = rw length-drop (omega (arith, length-place-of r k s lo hi))
 
 text-bound : (b : List ℕ) (i n : ℕ) → length b ≡ 512 → i ≤ 264 → length (part b i n) ≤ 128 → n ≤ 128
 text-bound b i n h le t = omega (arith, simp (length-take, length-drop) at t)
@@ -190,24 +307,39 @@ zero-all : (b : List ℕ) (n : ℕ) → length b ≡ n → same b (zeros n) ≡ 
 unfolding allZero
 zero-all b n h = rw h
 
-bounded : (k : ℕ) (b : List ℕ) (n : ℕ) → length b ≡ 512 → Standing n (readAccess k b) → same b (accessBytes (readAccess k b)) ≡ accessTests b
-unfolding readAccess
-bounded k b n h t =
-    access-form k b h
-    (text-bound b 8 (getD b 2 0) h (omega arith) (within-high 1 128 _ (t .sid-fits)))
-    (text-bound b 136 (getD b 3 0) h (omega arith) (within-high 1 128 _ (t .host-fits)))
-    (text-bound b 264 (getD b 5 0) h (omega arith) (leb-true _ 128 (t .policy-fits)))
+-- the texts of an access that stands are no longer than their rooms
+short : (fm k n : ℕ) (p : List ℕ) → isForm fm ≡ true → length p ≡ placeLength fm → Standing fm n (readPlace k p) → Short fm p
+unfolding readAccess isForm spare
+short fm k n p f h t =
+    let lo : 1 ≤ fm = within-low 1 2 fm f in
+    let b : List ℕ = firstBlock p in
+    let c : List ℕ = secondBlock p in
+    let lb : length b ≡ 512 = rw length-take (omega arith) in
+    let hi : fm ≤ 2 = within-high 1 2 fm f in
+    let lc : fm ≡ 2 → length c ≡ 512 = λ e. rw length-drop (omega arith) in
+    record {
+      two = text-bound b 8 (getD b 2 0) lb (omega arith) (within-high 1 128 _ (t .sid-fits));
+      three = text-bound b 136 (getD b 3 0) lb (omega arith) (within-high 1 128 _ (t .host-fits));
+      five = text-bound b 264 (getD b 5 0) lb (omega arith) (leb-true _ 128 (t .first-fits));
+      one' = λ e. text-bound c 8 (getD c 1 0) (lc e) (omega arith) (omega (arith, leb-true _ (128 * (fm - 1)) (t .realm-fits)));
+      three' = λ e. text-bound c 136 (getD c 3 0) (lc e) (omega arith) (omega (arith, leb-true _ (128 * (fm - 1)) (t .second-fits)));
+      four' = λ e. text-bound c 264 (getD c 4 0) (lc e) (omega arith) (omega (arith, leb-true _ (128 * (fm - 1)) (t .third-fits)));
+    }
 
-place-form : (r : List ℕ) (n : ℕ) → length r ≡ rowLength → every (goodAccess n) ((readRow r) .accesses) ≡ true → (k : ℕ) → within 1 8 k ≡ true
-    → same (block r k) (placeBytes ((readRow r) .accesses) k) ≡ placeTests r k
+place-said : (r : List ℕ) (n : ℕ) → Sized r → (k : ℕ) → Standing (formOf r) n (accessAt r k) → length (place r k) ≡ placeLength (formOf r)
+    → same (place r k) (accessBytes (formOf r) (accessAt r k)) ≡ blockTests (formOf r) (place r k)
+unfolding accessAt
+place-said r n z k t lp = place-form-of (formOf r) k (place r k) (z .form) lp (short (formOf r) k n (place r k) (z .form) lp t)
+
+place-form : (r : List ℕ) (n : ℕ) → Sized r → every (goodAccess (formOf r) n) ((readRow r) .accesses) ≡ true → (k : ℕ) → within 1 8 k ≡ true
+    → same (place r k) (placeBytes (formOf r) ((readRow r) .accesses) k) ≡ placeTests r k
 unfolding placeTests readRow pick
-place-form r n h g k w =
-    let hi : k ≤ 8 = within-high 1 8 k w in
-    let lb : length (block r k) ≡ 512 = length-block r k h hi in
+place-form r n z g k w =
+    let lp : length (place r k) ≡ placeLength (formOf r) = length-place-of r k z (within-low 1 8 k w) (within-high 1 8 k w) in
     by-test (isOn (orderLine r) k)
-    (λ e. let t : Standing n (readAccess k (block r k)) = standing n _ (every-on (λ j. goodAccess n (readAccess j (block r j))) (orderLine r) k (rw every-map at g) e) in
-    rw (place-read r (orderLine r) k, e) (bounded k (block r k) n lb t))
-    (λ e. rw (place-read r (orderLine r) k, e) (zero-all (block r k) 512 lb))
+    (λ e. let t : Standing (formOf r) n (accessAt r k) = standing n _ (every-on (λ j. goodAccess (formOf r) n (accessAt r j)) (orderLine r) k (rw every-map at g) e) in
+    rw (place-read (formOf r) r (orderLine r) k, e) (place-said r n z k t lp))
+    (λ e. rw (place-read (formOf r) r (orderLine r) k, e) (zero-all (place r k) _ lp))
 
 -- entries in a room
 
@@ -327,8 +459,8 @@ same-head b n bits c o nm l es lb =
       drop-take 448 62 510 b (omega arith),
     )
 
-pub line-read : (r l : List ℕ) → line (map (λ (k : ℕ). readAccess k (block r k)) l) ≡ l
-unfolding line readAccess
+pub line-read : (r l : List ℕ) → line (map (accessAt r) l) ≡ l
+unfolding line accessAt readAccess
 line-read r [] = refl
 line-read r (k ∷ l) = rw (line-read r l)
 
@@ -370,25 +502,25 @@ head-form-of b a la lb n15 n4 g =
 name-bound : (b : List ℕ) → length b ≡ 512 → length (part b 2 (getD b 1 0)) ≤ 15 → getD b 1 0 ≤ 15
 name-bound b h t = omega (arith, simp (length-take, length-drop) at t)
 
-head-form : (r : List ℕ) → length r ≡ rowLength → Good (readRow r) → same (block r 0) (headBytes (readRow r)) ≡ headTests (block r 0)
+head-form : (r : List ℕ) → Sized r → Good (formOf r) (readRow r) → same (head r) (headBytes (readRow r)) ≡ headTests (head r)
 unfolding readRow orderLine
-head-form r h g =
-    let lb : length (block r 0) ≡ 512 = length-block r 0 h (omega arith) in
-    let nl : length (part (block r 0) 2 (getD (block r 0) 1 0)) ≤ 15 = name-length _ (g .name-good) in
-    let es : length (readEntries (getD (block r 0) 18 0) (part (block r 0) 32 416)) ≤ 4 = leb-true _ 4 (g .entries-good .four) in
-    head-form-of (block r 0) _ (line-read r _) lb
-    (name-bound (block r 0) lb nl)
-    (omega (arith, length-read (getD (block r 0) 18 0) (part (block r 0) 32 416)))
+head-form r z g =
+    let lb : length (head r) ≡ 512 = length-head-of r z in
+    let nl : length (part (head r) 2 (getD (head r) 1 0)) ≤ 15 = name-length _ (g .name-good) in
+    let es : length (readEntries (getD (head r) 18 0) (part (head r) 32 416)) ≤ 4 = leb-true _ 4 (g .entries-good .four) in
+    head-form-of (head r) _ (line-read r _) lb
+    (name-bound (head r) lb nl)
+    (omega (arith, length-read (getD (head r) 18 0) (part (head r) 32 416)))
     (g .entries-good .each)
 
 -- these tests pass exactly if the row is the bytes of the subscriber that it says, and that is a good one (`said-tests`)
 unfoldable pub tests : List ℕ → Bool
-tests r = (headTests (block r 0) && every (placeTests r) places) && good (readRow r)
+tests r = (headTests (head r) && every (placeTests r) places) && good (formOf r) (readRow r)
 
-pub said-tests : (r : List ℕ) → length r ≡ rowLength → saidSound r ≡ tests r
+pub said-tests : (r : List ℕ) → Sized r → saidSound r ≡ tests r
 unfolding saidSound tests
-said-tests r h =
-    by-test (good (readRow r))
-    (λ e. let g : Good (readRow r) = is-good (readRow r) e in
-    rw (same-row r (readRow r) h, head-form r h g, every-cong _ _ (within 1 8) places (places-eight .1) (place-form r _ h (g .accesses-good .each))))
+said-tests r z =
+    by-test (good (formOf r) (readRow r))
+    (λ e. let g : Good (formOf r) (readRow r) = is-good (readRow r) e in
+    rw (same-row r (readRow r) (z .size), head-form r z g, every-cong _ _ (within 1 8) places (places-eight .1) (place-form r _ z (g .accesses-good .each))))
     (λ e. simp (e, and-false))

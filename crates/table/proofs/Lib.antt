@@ -2,6 +2,7 @@ pub mod Good
 pub mod Bytes
 pub mod Form
 pub mod Sound
+pub mod Widths
 pub mod Rows
 pub mod Tests
 pub mod Entries

@@ -5,8 +5,8 @@ use mathlib.Core.List.{List, [], _∷_}
 use Prim.Native.Nat.{ℕ, zero, suc, _+_, _-_, _*_, _/_, _%_, _≤_, _<_}
 use native.Mathlib.Nat.{mul-zero}
 use native.Mathlib.Omega.{arith}
-use borrow.Author.Tests.{eqb-true, eqb-false, eq-eqb, leb-false, leb-true, ne-eqb}
-use lib.Dec.{eqb, leb}
+use borrow.Author.Tests.{eqb-true, eqb-false, eq-eqb, leb-false, leb-true, ltb-false, ltb-true, ne-eqb}
+use lib.Dec.{eqb, leb, ltb}
 use lib.ListN.{length, getD, set, take, drop}
 use lib.Seq.{drop-drop, getD-drop, getD-take}
 use Rattle.octets.specs.Choice.{pick, require, within}
@@ -14,54 +14,134 @@ use Rattle.octets.specs.Texts.{part, pieces, put, same, allZero}
 use Rattle.octets.specs.Lists.{keep}
 use Rattle.octets.proofs.Choice.{first-passes, others-pass, passed}
 use Rattle.octets.specs.Numbers.{low64}
-use Rattle.octets.proofs.Pieces.{joined, join-pieces, length-piece, length-with, next-begins, part-take, piece-other, piece-with, pieces-at, pieces-with, with-same}
-use Rattle.octets.proofs.Texts.{zero-step}
+use Rattle.octets.proofs.Pieces.{joined, join-pieces, length-piece, length-with, next-begins, part-take, piece-ends, piece-other, piece-with, pieces-at, pieces-with, with-same}
+use Rattle.octets.proofs.Texts.{length-part, zero-step}
 use Rattle.octets.proofs.Words.{low-eq}
 use Rattle.octets.proofs.Lists.{and-left, and-right, by-test, in-within, same-eq, within-high, within-low}
-use Rattle.table.specs.TheTable.{Found, row, nothing, later, firstRow, foundBy, rows, rowAt, rowLength, tableNumber, isRowOf, withRow, Account, firstNumber, hasName}
+use Rattle.table.specs.TheTable.{Account, Found, Table, firstNumber, firstRow, formOf, foundBy, hasName, isForm, isRowOf, later, nothing, row, rowAt, rowLength, tableNumber, width, withRow}
+use Rattle.table.specs.Answers.{lent}
+use Rattle.table.proofs.Widths.{fewer-rows, rows-order, split}
+
+-- THE FORM AND ITS WIDTH
+
+pub width-least : (f : ℕ) → 512 ≤ rowLength f
+unfolding rowLength
+width-least f = omega arith
+
+pub width-most : (f : ℕ) → f ≤ 2 → rowLength f ≤ 8704
+unfolding rowLength
+width-most f h = omega arith
+
+-- a row of a form has that form
+pub row-form : (r : List ℕ) (f : ℕ) → length r ≡ rowLength f → formOf r ≡ f
+unfolding formOf rowLength
+row-form r f h = omega arith
+
+pub a-form : (f : ℕ) → 1 ≤ f → f ≤ 2 → isForm f ≡ true
+unfolding isForm
+a-form f lo hi = in-within 1 2 f lo hi
+
+pub no-form : (f : ℕ) → (1 ≤ f → f ≤ 2 → ⊥) → isForm f ≡ false
+unfolding isForm
+no-form f h = by-test (within 1 2 f) (λ e. absurd (h (within-low 1 2 f e) (within-high 1 2 f e))) (λ e. e)
+
+pub form-most : (f : ℕ) → isForm f ≡ true → f ≤ 2
+unfolding isForm
+form-most f h = within-high 1 2 f h
 
 -- A TABLE OF NUMBER 0
 
-pub whole-rows : (t : List ℕ) → tableNumber t ≡ 0 → length t ≡ rowLength * (length t / rowLength)
+pub form-in : (t : Table) → tableNumber t ≡ 0 → isForm (t .form) ≡ true
 unfolding tableNumber
-whole-rows t h =
-    let w : eqb (length t % rowLength) 0 && within 1 1024 (length t / rowLength) ≡ true = passed _ 1 (omega arith) h in
-    omega (arith, eqb-true (length t % rowLength) 0 (and-left (eqb (length t % rowLength) 0) _ w))
+form-in t h = and-left (isForm (t .form)) _ (passed _ 1 (omega arith) h)
 
-pub rows-count : (t : List ℕ) → tableNumber t ≡ 0 → within 1 1024 (length t / rowLength) ≡ true
+pub form-top : (t : Table) → tableNumber t ≡ 0 → t .form ≤ 2
+form-top t h = form-most (t .form) (form-in t h)
+
+no-rest : (t : Table) → tableNumber t ≡ 0 → length (t .bytes) % width t ≡ 0
 unfolding tableNumber
-rows-count t h = and-right (eqb (length t % rowLength) 0) _ (passed _ 1 (omega arith) h)
+no-rest t h = eqb-true _ 0 (and-left (eqb (length (t .bytes) % width t) 0) _ (and-right (isForm (t .form)) _ (passed _ 1 (omega arith) h)))
 
-pub rows-most : (t : List ℕ) → tableNumber t ≡ 0 → length t / rowLength ≤ 1024
+pub whole-rows : (t : Table) → tableNumber t ≡ 0 → length (t .bytes) ≡ width t * (length (t .bytes) / width t)
+whole-rows t h = omega (arith, split (width t) (length (t .bytes)), no-rest t h)
+
+pub rows-count : (t : Table) → tableNumber t ≡ 0 → within 1 1024 (length (t .bytes) / width t) ≡ true
+unfolding tableNumber
+rows-count t h = and-right (eqb (length (t .bytes) % width t) 0) _ (and-right (isForm (t .form)) _ (passed _ 1 (omega arith) h))
+
+pub rows-most : (t : Table) → tableNumber t ≡ 0 → length (t .bytes) / width t ≤ 1024
 rows-most t h = within-high 1 1024 _ (rows-count t h)
 
--- the number by the length
-pub number-right : (t : List ℕ) → length t % rowLength ≡ 0 → rowLength ≤ length t → length t ≤ 4718592 → tableNumber t ≡ 0
-unfolding tableNumber require
-number-right t m lo hi = rw (eq-eqb (length t % rowLength) 0 m, in-within 1 1024 (length t / rowLength) (omega arith) (omega arith))
+-- no sum of bytes of such a table, and a row, is too large for the machine
+pub bytes-most : (t : Table) → tableNumber t ≡ 0 → (width t ≤ 8704) × (length (t .bytes) ≤ 8912896)
+bytes-most t h =
+    let w : width t ≤ 8704 = width-most (t .form) (form-top t h) in
+    let l : width t * (length (t .bytes) / width t) ≤ width t * 1024 = rows-order (width t) _ 1024 (rows-most t h) in
+    (w, omega (arith, w, l, whole-rows t h))
 
-pub number-rest : (t : List ℕ) → (length t % rowLength ≡ 0 → ⊥) → tableNumber t ≡ 1
-unfolding tableNumber require
-number-rest t m = rw (ne-eqb (length t % rowLength) 0 m)
+module _ (t : Table) (right : tableNumber t ≡ 0) where
+  -- where a byte of row i is inside, all of the row is
+  pub row-inside : (i o : ℕ) → width t * i + o < length (t .bytes) → (i < length (t .bytes) / width t) × (width t * i + width t ≤ length (t .bytes))
+  row-inside i o h =
+      let n : ℕ = length (t .bytes) / width t in
+      let there : i < n = fewer-rows (width t) i n o (omega (arith, whole-rows t right)) in
+      (there, omega (arith, whole-rows t right, piece-ends (width t) i n there))
 
-refused : (a : Bool) → require (a && false) 1 ≡ 1
+  -- where row i begins behind the table, no row is left
+  pub rows-over : (i : ℕ) → length (t .bytes) ≤ width t * i → length (t .bytes) / width t ≤ i
+  rows-over i h =
+      by-test (ltb i (length (t .bytes) / width t))
+      (λ e. absurd (omega (arith, whole-rows t right, width-least (t .form), piece-ends (width t) i _ (ltb-true i _ e))))
+      (λ e. ltb-false i _ e)
+
+  pub rows-fit : (i : ℕ) → i ≤ length (t .bytes) / width t → width t * i ≤ 8912896
+  rows-fit i h = omega (arith, rows-order (width t) i _ h, whole-rows t right, (bytes-most t right) .1)
+
+-- the number by the form and the length
+pub number-right : (t : Table) → isForm (t .form) ≡ true → length (t .bytes) % width t ≡ 0 → width t ≤ length (t .bytes) → length (t .bytes) ≤ 1024 * width t → tableNumber t ≡ 0
+unfolding tableNumber require
+number-right t f m lo hi =
+    let n : ℕ = length (t .bytes) / width t in
+    let whole : length (t .bytes) ≡ width t * n = omega (arith, split (width t) (length (t .bytes)), m) in
+    let few : n < 1025 = fewer-rows (width t) n 1025 0 (omega (arith, whole, width-least (t .form))) in
+    let some : 0 < n = fewer-rows (width t) 0 n 0 (omega (arith, whole, width-least (t .form))) in
+    rw (f, eq-eqb (length (t .bytes) % width t) 0 m, in-within 1 1024 n some (omega (arith, few)))
+
+pub number-form : (t : Table) → isForm (t .form) ≡ false → tableNumber t ≡ 1
+unfolding tableNumber require
+number-form t h = rw h
+
+wrong : (a : Bool) → require (a && false) 1 ≡ 1
 unfolding require
-refused true = refl
-refused false = refl
+wrong true = refl
+wrong false = refl
 
-pub number-few : (t : List ℕ) → (1 ≤ length t / rowLength → length t / rowLength ≤ 1024 → ⊥) → tableNumber t ≡ 1
+pub number-rest : (t : Table) → (length (t .bytes) % width t ≡ 0 → ⊥) → tableNumber t ≡ 1
+unfolding tableNumber
+number-rest t m = rw (ne-eqb (length (t .bytes) % width t) 0 m) (wrong (isForm (t .form)))
+
+pub number-few : (t : Table) → (1 ≤ length (t .bytes) / width t → length (t .bytes) / width t ≤ 1024 → ⊥) → tableNumber t ≡ 1
 unfolding tableNumber
 number-few t m =
-    by-test (within 1 1024 (length t / rowLength))
+    by-test (within 1 1024 (length (t .bytes) / width t))
     (λ e. absurd (m (within-low 1 1024 _ e) (within-high 1 1024 _ e)))
-    (λ e. rw e (refused (eqb (length t % rowLength) 0)))
+    (λ e. rw (e, and-false (eqb (length (t .bytes) % width t) 0)) (wrong (isForm (t .form))))
+
+-- a table of less than a row, and of more than 1,024
+pub number-short : (t : Table) → length (t .bytes) < width t → tableNumber t ≡ 1
+number-short t h =
+    number-few t (λ lo hi. omega (arith, split (width t) (length (t .bytes)), rows-order (width t) 1 _ lo))
+
+pub number-long : (t : Table) → 1024 * width t < length (t .bytes) → length (t .bytes) % width t ≡ 0 → tableNumber t ≡ 1
+number-long t h m =
+    number-few t (λ lo hi. omega (arith, split (width t) (length (t .bytes)), m, rows-order (width t) _ 1024 hi))
 
 -- the first number of a call that brings an operator
-pub first-table : (t : List ℕ) (o : ℕ) → firstNumber t o ≡ 0 → tableNumber t ≡ 0
+pub first-table : (t : Table) (o : ℕ) → firstNumber t o ≡ 0 → tableNumber t ≡ 0
 unfolding firstNumber
 first-table t o h = first-passes (tableNumber t) _ h
 
-pub first-operator : (t : List ℕ) (o : ℕ) → firstNumber t o ≡ 0 → leb o 15 ≡ true
+pub first-operator : (t : Table) (o : ℕ) → firstNumber t o ≡ 0 → leb o 15 ≡ true
 unfolding firstNumber
 first-operator t o h = passed (leb o 15) 33 (omega arith) (first-passes _ _ (others-pass (tableNumber t) _ h))
 
@@ -145,58 +225,81 @@ module _ (f : List ℕ → Bool) (w n : ℕ) (t : List ℕ) where
   unfolding keptFrom keep pieces
   kept-end i h = let q : n - i ≡ 0 = omega arith in rw q
 
+-- A PART THAT IS LENT
+
+-- of n bytes
+pub lent-length : (s : List ℕ) (a n : ℕ) → a + n ≤ length s → length (take (a + n - a) (drop a s)) ≡ n
+lent-length s a n h = let q : a + n - a ≡ n = omega arith in rw q (length-part s a n h)
+
+-- of as many bytes as a number says
+pub lent-part : (s : List ℕ) (a n m : ℕ) → n ≡ m → take (a + n - a) (drop a s) ≡ part s a m
+lent-part s a n m e = let q : a + n - a ≡ m = omega arith in rw q
+
+pub lent-at : (s : List ℕ) (a b n : ℕ) → a ≡ b → take (a + n - a) (drop a s) ≡ part s b n
+lent-at s a b n e = let q : a + n - a ≡ n = omega arith in rw (q, e)
+
 -- ROW i
 
-pub piece-row : (t : List ℕ) (i : ℕ) → part t (rowLength * i) rowLength ≡ rowAt t i
+pub piece-row : (t : Table) (i : ℕ) → part (t .bytes) (width t * i) (width t) ≡ rowAt t i
 unfolding rowAt
 piece-row t i = refl
 
--- the part of the table that is lent for row i
-pub lent-row : (t : List ℕ) (at i : ℕ) → at ≡ rowLength * i → take (at + rowLength - at) (drop at t) ≡ rowAt t i
+-- the part of the table that is lent for row i; w is the width as the code has it
+pub lent-row : (t : Table) (w at i : ℕ) → w ≡ width t → at ≡ width t * i → take (at + w - at) (drop at (t .bytes)) ≡ rowAt t i
 unfolding rowAt
-lent-row t at i e = let q : at + rowLength - at ≡ rowLength = omega arith in rw (q, e)
+lent-row t w at i v e = let q : at + w - at ≡ width t = omega arith in rw (q, e)
 
 -- what a test said of the part is what it says of row i
-pub lent-test : (f : List ℕ → Bool) (t : List ℕ) (at i : ℕ) (x b : Bool) → at ≡ rowLength * i → x ≡ f (take (at + rowLength - at) (drop at t)) → x ≡ b → f (rowAt t i) ≡ b
-lent-test f t at i x b e w y = ap f (sym (lent-row t at i e)) ∙ sym w ∙ y
+pub lent-test : (f : List ℕ → Bool) (t : Table) (w at i : ℕ) (x b : Bool) → w ≡ width t → at ≡ width t * i → x ≡ f (take (at + w - at) (drop at (t .bytes))) → x ≡ b → f (rowAt t i) ≡ b
+lent-test f t w at i x b v e y z = ap f (sym (lent-row t w at i v e)) ∙ sym y ∙ z
 
 -- ROW i OF n, READ AND REPLACED: the laws of pieces, for a table's rows
 
-module _ (n : ℕ) (t : List ℕ) (size : length t ≡ rowLength * n) where
-  pub joined-rows : joined (pieces rowLength n t) ≡ t
-  joined-rows = join-pieces rowLength n t size
+module _ (n : ℕ) (t : Table) (size : length (t .bytes) ≡ width t * n) where
+  pub joined-rows : joined (pieces (width t) n (t .bytes)) ≡ t .bytes
+  joined-rows = join-pieces (width t) n (t .bytes) size
 
   module _ (i : ℕ) (there : i < n) where
-    pub nth-row : getD (pieces rowLength n t) i [] ≡ rowAt t i
+    pub nth-row : getD (pieces (width t) n (t .bytes)) i [] ≡ rowAt t i
     unfolding rowAt
-    nth-row = pieces-at rowLength n t i there
+    nth-row = pieces-at (width t) n (t .bytes) i there
 
-    pub length-rowAt : length (rowAt t i) ≡ rowLength
+    pub length-rowAt : length (rowAt t i) ≡ width t
     unfolding rowAt
-    length-rowAt = length-piece rowLength n t size i there
+    length-rowAt = length-piece (width t) n (t .bytes) size i there
 
     -- a row that stays
     pub row-same : withRow t i (rowAt t i) ≡ t
     unfolding withRow rowAt
-    row-same = with-same rowLength n t size i there
+    row-same = ap (λ (b : List ℕ). lent (t .form) b) (with-same (width t) n (t .bytes) size i there)
 
-    module _ (r : List ℕ) (full : length r ≡ rowLength) where
-      pub length-withRow : length (withRow t i r) ≡ length t
+    module _ (r : List ℕ) (full : length r ≡ width t) where
+      pub length-withRow : length ((withRow t i r) .bytes) ≡ length (t .bytes)
       unfolding withRow
-      length-withRow = length-with rowLength n t size i there r full
+      length-withRow = length-with (width t) n (t .bytes) size i there r full
 
-      pub rows-with : pieces rowLength n (withRow t i r) ≡ set (pieces rowLength n t) i r
+      pub rows-with : pieces (width t) n ((withRow t i r) .bytes) ≡ set (pieces (width t) n (t .bytes)) i r
       unfolding withRow
-      rows-with = pieces-with rowLength n t size i there r full
+      rows-with = pieces-with (width t) n (t .bytes) size i there r full
 
       -- the row that was written, and the others
       pub row-with : rowAt (withRow t i r) i ≡ r
       unfolding withRow rowAt
-      row-with = piece-with rowLength n t size i there r full
+      row-with = piece-with (width t) n (t .bytes) size i there r full
 
       pub row-other : (j : ℕ) → (j ≡ i → ⊥) → rowAt (withRow t i r) j ≡ rowAt t j
       unfolding withRow rowAt
-      row-other j ne = piece-other rowLength n t size i there r full j ne
+      row-other j ne = piece-other (width t) n (t .bytes) size i there r full j ne
+
+-- another row changes nothing of the form
+pub form-with : (t : Table) (i : ℕ) (r : List ℕ) → (withRow t i r) .form ≡ t .form
+unfolding withRow
+form-with t i r = refl
+
+-- each row of a table has its form
+pub rowAt-form : (t : Table) (i : ℕ) → tableNumber t ≡ 0 → i < length (t .bytes) / width t → formOf (rowAt t i) ≡ t .form
+rowAt-form t i h there =
+    row-form (rowAt t i) (t .form) (length-rowAt (length (t .bytes) / width t) t (whole-rows t h) i there)
 
 -- THE LOOKUP'S TEST
 
@@ -246,15 +349,15 @@ found-alike a q r e = found-by a q (foundBy r) e ∙ sym (found-by a r (foundBy 
 -- THE LAST EIGHT BYTES OF A NAME, looked at first
 
 -- the bytes of row i's name
-name-byte : (t : List ℕ) (i n a k : ℕ) → a + k < n → n ≤ 15 → getD (part (rowAt t i) 2 n) (a + k) 0 ≡ getD t (rowLength * i + (2 + a) + k) 0
+name-byte : (t : Table) (i n a k : ℕ) → a + k < n → n ≤ 15 → getD (part (rowAt t i) 2 n) (a + k) 0 ≡ getD (t .bytes) (width t * i + (2 + a) + k) 0
 unfolding rowAt
 name-byte t i n a k h m =
-    getD-take n (drop 2 (part t (rowLength * i) rowLength)) (a + k) 0 h ∙ getD-drop 2 (part t (rowLength * i) rowLength) (a + k) 0
-    ∙ getD-take rowLength (drop (rowLength * i) t) (2 + (a + k)) 0 (omega arith) ∙ getD-drop (rowLength * i) t (2 + (a + k)) 0
-    ∙ ap (λ (j : ℕ). getD t j 0) (omega arith)
+    getD-take n (drop 2 (part (t .bytes) (width t * i) (width t))) (a + k) 0 h ∙ getD-drop 2 (part (t .bytes) (width t * i) (width t)) (a + k) 0
+    ∙ getD-take (width t) (drop (width t * i) (t .bytes)) (2 + (a + k)) 0 (omega (arith, width-least (t .form))) ∙ getD-drop (width t * i) (t .bytes) (2 + (a + k)) 0
+    ∙ ap (λ (j : ℕ). getD (t .bytes) j 0) (omega arith)
 
-pub other-end : (t name : List ℕ) (i at : ℕ) → 8 ≤ length name → length name ≤ 15 → at ≡ rowLength * i + (length name - 6)
-    → (low64 t at ≡ low64 name (length name - 8) → ⊥) → hasName name (rowAt t i) ≡ false
+pub other-end : (t : Table) (name : List ℕ) (i at : ℕ) → 8 ≤ length name → length name ≤ 15 → at ≡ width t * i + (length name - 6)
+    → (low64 (t .bytes) at ≡ low64 name (length name - 8) → ⊥) → hasName name (rowAt t i) ≡ false
 unfolding hasName
 other-end t name i at lo hi p h =
     by-test (hasName name (rowAt t i))
@@ -263,19 +366,19 @@ other-end t name i at lo hi p h =
     let e3 = and-right (eqb (getD (rowAt t i) 1 0) (length name)) _ e2 in
     let is : part (rowAt t i) 2 (length name) ≡ name = same-eq _ name e3 in
     let a : ℕ = length name - 8 in
-    let here : at ≡ rowLength * i + (2 + a) = omega arith in
-    let word : low64 (part (rowAt t i) 2 (length name)) a ≡ low64 t (rowLength * i + (2 + a)) =
-    low-eq (part (rowAt t i) 2 (length name)) t a (rowLength * i + (2 + a)) (λ k l. name-byte t i (length name) a k (omega arith) hi) in
-    absurd (h (ap (low64 t) here ∙ sym word ∙ ap (λ (s : List ℕ). low64 s a) is)))
+    let here : at ≡ width t * i + (2 + a) = omega arith in
+    let word : low64 (part (rowAt t i) 2 (length name)) a ≡ low64 (t .bytes) (width t * i + (2 + a)) =
+    low-eq (part (rowAt t i) 2 (length name)) (t .bytes) a (width t * i + (2 + a)) (λ k l. name-byte t i (length name) a k (omega arith) hi) in
+    absurd (h (ap (low64 (t .bytes)) here ∙ sym word ∙ ap (λ (s : List ℕ). low64 s a) is)))
     (λ e. e)
 
 -- a row with another operator
-pub other-operator : (t : List ℕ) (a : Account) (i at : ℕ) → at ≡ rowLength * i + 19 → (getD t at 0 ≡ a .operator → ⊥) → isRowOf a (rowAt t i) ≡ false
+pub other-operator : (t : Table) (a : Account) (i at : ℕ) → at ≡ width t * i + 19 → (getD (t .bytes) at 0 ≡ a .operator → ⊥) → isRowOf a (rowAt t i) ≡ false
 unfolding isRowOf rowAt
 other-operator t a i at p h =
-    let byte : getD (part t (rowLength * i) rowLength) 19 0 ≡ getD t at 0 =
-    getD-take rowLength (drop (rowLength * i) t) 19 0 (omega arith) ∙ getD-drop (rowLength * i) t 19 0 ∙ ap (λ (j : ℕ). getD t j 0) (sym p) in
-    rw (byte, ne-eqb (getD t at 0) (a .operator) h)
+    let byte : getD (part (t .bytes) (width t * i) (width t)) 19 0 ≡ getD (t .bytes) at 0 =
+    getD-take (width t) (drop (width t * i) (t .bytes)) 19 0 (omega (arith, width-least (t .form))) ∙ getD-drop (width t * i) (t .bytes) 19 0 ∙ ap (λ (j : ℕ). getD (t .bytes) j 0) (sym p) in
+    rw (byte, ne-eqb (getD (t .bytes) at 0) (a .operator) h)
 
 -- a row whose first byte is not zero
 pub not-zero : (s : List ℕ) → 0 < length s → (getD s 0 0 ≡ 0 → ⊥) → false ≡ allZero s

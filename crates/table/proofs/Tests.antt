@@ -15,8 +15,7 @@ use Rattle.octets.specs.Texts.{part, same, allZero}
 use Rattle.octets.proofs.Lists.{by-test, and-left, and-right, both, within-high}
 use Rattle.octets.proofs.Texts.{length-part}
 use Rattle.table.proofs.Sound.{Headed, head-of, text-within}
-use Rattle.table.specs.Soundness.{zeroBehind, accessForm, isName, isDigit, headForm}
-use Rattle.table.specs.TheTable.{block}
+use Rattle.table.specs.Soundness.{zeroBehind, accessForm, isName, isDigit, headForm, secondForm}
 
 pub too-low : (low high n : ℕ) → n < low → false ≡ within low high n
 unfolding within
@@ -29,10 +28,6 @@ low-enough low high n h = rw (le-leb low n h)
 pub behind : (room : List ℕ) (n : ℕ) → n ≤ length room → allZero (take (length room - n) (drop n room)) ≡ zeroBehind n room
 unfolding zeroBehind
 behind room n h = rw (take-all (length room - n) (drop n room) (rw length-drop (omega arith)))
-
--- a lent part of n bytes
-pub lent-length : (s : List ℕ) (a n : ℕ) → a + n ≤ length s → length (take (a + n - a) (drop a s)) ≡ n
-lent-length s a n h = let q : a + n - a ≡ n = omega arith in rw q (length-part s a n h)
 
 -- the last two bytes of a block
 pub two-bytes : (b : List ℕ) (x y : ℕ) → length b ≡ 512 → same (part b 510 2) (x ∷ y ∷ []) ≡ eqb (getD b 510 0) x && eqb (getD b 511 0) y
@@ -81,13 +76,6 @@ passes-on {x} e n = sym e ∙ not-false x n
 pub both-fail : (a b c : Bool) → a && b ≡ false → a && (b && c) ≡ false
 both-fail true b c e = rw e
 both-fail false b c e = refl
-
--- a lent part of as many bytes as a number says
-pub lent-part : (s : List ℕ) (a n m : ℕ) → n ≡ m → take (a + n - a) (drop a s) ≡ part s a m
-lent-part s a n m e = let q : a + n - a ≡ m = omega arith in rw q
-
-pub lent-at : (s : List ℕ) (a b n : ℕ) → a ≡ b → take (a + n - a) (drop a s) ≡ part s b n
-lent-at s a b n e = let q : a + n - a ≡ n = omega arith in rw (q, e)
 
 -- BLOCK 0
 
@@ -150,6 +138,20 @@ lengths-fit b h =
       leb-true (getD b 5 0) 128 (and-right (within 1 128 (getD b 3 0)) _ h2),
     )
 
--- the part that is lent for block k
-pub block-lent : (r : List ℕ) (k : ℕ) → take (512 * k + 512 - 512 * k) (drop (512 * k) r) ≡ block r k
-block-lent r k = lent-at r (512 * k) (512 * k) 512 refl
+-- its second block, by the code's two functions
+pub second-parts : (b : List ℕ) → secondForm b
+    ≡ (eqb (getD b 0 0) 3 && (leb (getD b 1 0) 128 && (leb (getD b 3 0) 128 && leb (getD b 4 0) 128)))
+    && (eqb (getD b 2 0) 0 && (allZero (part b 5 3)
+    && (zeroBehind (getD b 1 0) (part b 8 128) && (zeroBehind (getD b 3 0) (part b 136 128) && (zeroBehind (getD b 4 0) (part b 264 128) && allZero (part b 392 118))))))
+unfolding secondForm
+second-parts b = simp and-assoc
+
+pub second-lengths : (b : List ℕ) → eqb (getD b 0 0) 3 && (leb (getD b 1 0) 128 && (leb (getD b 3 0) 128 && leb (getD b 4 0) 128)) ≡ true
+    → (getD b 1 0 ≤ 128) × (getD b 3 0 ≤ 128) × (getD b 4 0 ≤ 128)
+second-lengths b h =
+    let h1 = and-right (eqb (getD b 0 0) 3) _ h in
+    let h2 = and-right (leb (getD b 1 0) 128) _ h1 in (
+      leb-true (getD b 1 0) 128 (and-left (leb (getD b 1 0) 128) _ h1),
+      leb-true (getD b 3 0) 128 (and-left (leb (getD b 3 0) 128) _ h2),
+      leb-true (getD b 4 0) 128 (and-right (leb (getD b 3 0) 128) _ h2),
+    )

@@ -2,14 +2,19 @@
 use Prim.Native.Nat.{ℕ, _+_, _*_}
 use Rattle.table.specs.declared.RowFound.{RowFound}
 use Rattle.table.specs.declared.RowFound.the-variants.{At, Nothing}
-use Rattle.table.specs.TheTable.{Found, row, nothing, rowLength}
+use Rattle.table.specs.TheTable.{Found, Table, row, nothing, rowLength}
+use mathlib.Core.List.{List}
 
 -- The row that was found, or none.
 abbrev pub found : RowFound → Found
 found (At i) = row i
 found Nothing = nothing
 
+-- A table, from what is lent.
+abbrev pub lent : (form : ℕ) → (bytes : List ℕ) → Table
+lent form bytes = record { form = form; bytes = bytes }
+
 -- The byte behind the row that was found; 0 where none was.
-abbrev pub rowEnd : RowFound → ℕ
-rowEnd (At i) = rowLength * i + rowLength
-rowEnd Nothing = 0
+abbrev pub rowEnd : (form : ℕ) → RowFound → ℕ
+rowEnd form (At i) = rowLength form * i + rowLength form
+rowEnd form Nothing = 0

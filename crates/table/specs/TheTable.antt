@@ -1,7 +1,7 @@
 -- The table: its rows, what a row says, the bytes of a row, and how a subscriber's row is found.
 use mathlib.Core.Bool.{Bool, true, false, _&&_}
 use mathlib.Core.List.{List, [], _∷_, _++_, map}
-use Prim.Native.Nat.{ℕ, zero, suc, _+_, _*_, _/_, _%_}
+use Prim.Native.Nat.{ℕ, zero, suc, _+_, _-_, _*_, _/_, _%_}
 use lib.Dec.{eqb, leb}
 use lib.ListN.{length, getD, take, drop}
 use Rattle.octets.specs.Choice.{firstOf, pick, require, within}
@@ -23,6 +23,23 @@ sums s = sumsFrom 0 0 s
 unfoldable pub sealed : List ℕ → List ℕ
 sealed s = s ++ sums s
 
+-- THE FORMS
+
+-- A table has form 1 or form 2 (W5), and the caller says which. In form f a place has f blocks of 512 bytes. A row is block 0 and eight
+-- places: 4,608 bytes in form 1, 8,704 in form 2.
+unfoldable pub isForm : ℕ → Bool
+isForm f = within 1 2 f
+
+abbrev pub placeLength : (form : ℕ) → ℕ
+placeLength f = 512 * f
+
+unfoldable pub rowLength : (form : ℕ) → ℕ
+rowLength f = 512 + 8 * placeLength f
+
+-- The form of a row is told by its length.
+unfoldable pub formOf : List ℕ → ℕ
+formOf r = (length r - 512) / 4096
+
 -- WHAT A ROW SAYS
 
 -- A W-APN entry. Flag 1 is barred, flag 2 may roam.
@@ -37,14 +54,21 @@ barred e = eqb (e .flags % 2) 1
 unfoldable pub mayRoam : Entry → Bool
 mayRoam e = eqb (e .flags / 2 % 2) 1
 
--- An access: its place 1 to 8, the number of its entry counted from 1, Session-Id, gateway host and policy
--- (no bytes where none is held).
+-- The routing policies of an access, in order; no bytes where there is none. Form 1 holds the first alone.
+pub record Policies : Type 0 where
+  pub first : List ℕ
+  pub second : List ℕ
+  pub third : List ℕ
+
+-- An access: its place 1 to 8, the number of its entry counted from 1, Session-Id, host and realm of its gateway (no realm
+-- in form 1), and its policies.
 pub record Access : Type 0 where
   pub place : ℕ
   pub entry : ℕ
   pub session : List ℕ
   pub host : List ℕ
-  pub policy : List ℕ
+  pub realm : List ℕ
+  pub policies : Policies
 
 -- Whose a row is: the operator that the account is of, 0 to 15, and the name.
 pub record Account : Type 0 where
@@ -97,34 +121,55 @@ unfoldable pub held : List ℕ → ℕ
 held [] = 0
 held (x ∷ xs) = 1
 
--- An access: 2; its entry's number; the lengths of Session-Id and host; whether a policy is held, and its length;
--- 2 zeros; the three texts in 128 bytes each; zeros; the sums.
-unfoldable pub accessBytes : Access → List ℕ
-accessBytes a =
-    sealed (2 ∷ a .entry ∷ length (a .session) ∷ length (a .host) ∷ held (a .policy) ∷ length (a .policy) ∷ 0 ∷ 0
-    ∷ filled (a .session) 128 ++ (filled (a .host) 128 ++ (filled (a .policy) 128 ++ zeros 118)))
+-- The first block of an access: 2; its entry's number; the lengths of Session-Id and host; whether a policy is held, and the length of
+-- the first; 2 zeros; Session-Id, host and first policy in 128 bytes each; zeros; the sums.
+unfoldable pub firstBytes : Access → List ℕ
+firstBytes a =
+    sealed (2 ∷ a .entry ∷ length (a .session) ∷ length (a .host) ∷ held (a .policies .first) ∷ length (a .policies .first) ∷ 0 ∷ 0
+    ∷ filled (a .session) 128 ++ (filled (a .host) 128 ++ (filled (a .policies .first) 128 ++ zeros 118)))
 
--- The block of place k: that of its access; a free place is a wholly zero block.
-unfoldable pub placeBytes : List Access → ℕ → List ℕ
-placeBytes [] k = zeros 512
-placeBytes (a ∷ r) k = pick (eqb (a .place) k) (accessBytes a) (placeBytes r k)
+-- Its second block: 3; the length of the realm; zero; the lengths of the second and the third policy; 3 zeros; the realm and these two
+-- policies in 128 bytes each; zeros; the sums.
+unfoldable pub secondBytes : Access → List ℕ
+secondBytes a =
+    sealed (3 ∷ length (a .realm) ∷ 0 ∷ length (a .policies .second) ∷ length (a .policies .third) ∷ 0 ∷ 0 ∷ 0
+    ∷ filled (a .realm) 128 ++ (filled (a .policies .second) 128 ++ (filled (a .policies .third) 128 ++ zeros 118)))
 
-unfoldable pub placesBytes : List Access → List ℕ → List ℕ
-placesBytes a [] = []
-placesBytes a (k ∷ ks) = placeBytes a k ++ placesBytes a ks
+-- An access in its place, which ends behind the first block in form 1 and behind the second in form 2.
+unfoldable pub accessBytes : (form : ℕ) → Access → List ℕ
+accessBytes f a = filled (firstBytes a ++ secondBytes a) (placeLength f)
 
--- A row: block 0, and a block for each of the places 1 to 8.
-unfoldable pub rowBytes : Subscriber → List ℕ
-rowBytes s = headBytes s ++ placesBytes (s .accesses) places
+-- Place k: that of its access; a free place is wholly zero.
+unfoldable pub placeBytes : (form : ℕ) → List Access → ℕ → List ℕ
+placeBytes f [] k = zeros (placeLength f)
+placeBytes f (a ∷ r) k = pick (eqb (a .place) k) (accessBytes f a) (placeBytes f r k)
+
+unfoldable pub placesBytes : (form : ℕ) → List Access → List ℕ → List ℕ
+placesBytes f a [] = []
+placesBytes f a (k ∷ ks) = placeBytes f a k ++ placesBytes f a ks
+
+-- A row: block 0, and the places 1 to 8.
+unfoldable pub rowBytes : (form : ℕ) → Subscriber → List ℕ
+rowBytes f s = headBytes s ++ placesBytes f (s .accesses) places
 
 -- READING A ROW
 
--- A row has nine blocks of 512 bytes; block k is that of place k.
-abbrev pub rowLength : ℕ
-rowLength = 4608
+-- Block 0, and place k behind it.
+abbrev pub head : List ℕ → List ℕ
+head r = take 512 r
 
-abbrev pub block : List ℕ → ℕ → List ℕ
-block r k = part r (512 * k) 512
+abbrev pub placeStart : (form k : ℕ) → ℕ
+placeStart f k = 512 + placeLength f * (k - 1)
+
+unfoldable pub place : List ℕ → ℕ → List ℕ
+place r k = part r (placeStart (formOf r) k) (placeLength (formOf r))
+
+-- The first block of a place; and the second, of which form 1 has no byte.
+abbrev pub firstBlock : List ℕ → List ℕ
+firstBlock p = take 512 p
+
+abbrev pub secondBlock : List ℕ → List ℕ
+secondBlock p = drop 512 p
 
 unfoldable pub readEntry : List ℕ → Entry
 readEntry b = record { label = part b 1 (getD b 0 0); flags = getD b 101 0; limit = getD b 102 0 }
@@ -133,22 +178,27 @@ unfoldable pub readEntries : ℕ → List ℕ → List Entry
 readEntries zero b = []
 readEntries (suc n) b = readEntry (take 104 b) ∷ readEntries n (drop 104 b)
 
-unfoldable pub readAccess : ℕ → List ℕ → Access
-readAccess k b =
+-- From the two blocks of its place.
+unfoldable pub readAccess : (k : ℕ) → (first second : List ℕ) → Access
+readAccess k b c =
     record {
       place = k;
       entry = getD b 1 0;
       session = part b 8 (getD b 2 0);
       host = part b 136 (getD b 3 0);
-      policy = part b 264 (getD b 5 0);
+      realm = part c 8 (getD c 1 0);
+      policies = record { first = part b 264 (getD b 5 0); second = part c 136 (getD c 3 0); third = part c 264 (getD c 4 0) };
     }
+
+unfoldable pub accessAt : List ℕ → ℕ → Access
+accessAt r k = readAccess k (firstBlock (place r k)) (secondBlock (place r k))
 
 -- The rooms of the order line, bytes 20 to 27, and of the entries.
 abbrev pub lineRoom : List ℕ → List ℕ
-lineRoom r = part (block r 0) 20 8
+lineRoom r = part (head r) 20 8
 
 abbrev pub entriesRoom : List ℕ → List ℕ
-entriesRoom r = part (block r 0) 32 416
+entriesRoom r = part (head r) 32 416
 
 -- The places on the order line, up to the first zero.
 unfoldable pub orderLine : List ℕ → List ℕ
@@ -158,32 +208,40 @@ orderLine r = upTo0 (lineRoom r)
 unfoldable pub readRow : List ℕ → Subscriber
 readRow r =
     record {
-      operator = getD (block r 0) 19 0;
-      name = part (block r 0) 2 (getD (block r 0) 1 0);
-      entries = readEntries (getD (block r 0) 18 0) (entriesRoom r);
-      accesses = map (λ (k : ℕ). readAccess k (block r k)) (orderLine r);
+      operator = getD (head r) 19 0;
+      name = part (head r) 2 (getD (head r) 1 0);
+      entries = readEntries (getD (head r) 18 0) (entriesRoom r);
+      accesses = map (accessAt r) (orderLine r);
     }
 
--- THE ROWS OF A TABLE
+-- A TABLE AND ITS ROWS
 
--- Number 1: a table has 1 to 1,024 rows and nothing behind them.
-unfoldable pub tableNumber : List ℕ → ℕ
-tableNumber t = require (eqb (length t % rowLength) 0 && within 1 1024 (length t / rowLength)) 1
+-- A table, as it is lent: its form and its bytes.
+pub record Table : Type 0 where
+  pub form : ℕ
+  pub bytes : List ℕ
+
+abbrev pub width : Table → ℕ
+width t = rowLength (t .form)
+
+-- Number 1: there is no such form, or the table has not 1 to 1,024 rows of it and nothing behind them.
+unfoldable pub tableNumber : Table → ℕ
+tableNumber t = require (isForm (t .form) && (eqb (length (t .bytes) % width t) 0 && within 1 1024 (length (t .bytes) / width t))) 1
 
 -- The first numbers of every call that brings an operator: 1, then 33, an operator over 15.
-unfoldable pub firstNumber : List ℕ → (operator : ℕ) → ℕ
+unfoldable pub firstNumber : Table → (operator : ℕ) → ℕ
 firstNumber t o = firstOf (tableNumber t ∷ require (leb o 15) 33 ∷ [])
 
 -- The rows, one behind another.
-unfoldable pub rows : List ℕ → List (List ℕ)
-rows t = pieces rowLength (length t / rowLength) t
+unfoldable pub rows : Table → List (List ℕ)
+rows t = pieces (width t) (length (t .bytes) / width t) (t .bytes)
 
 -- Row i, counted from 0, and the table with another row there.
-unfoldable pub rowAt : List ℕ → ℕ → List ℕ
-rowAt t i = part t (rowLength * i) rowLength
+unfoldable pub rowAt : Table → ℕ → List ℕ
+rowAt t i = part (t .bytes) (width t * i) (width t)
 
-unfoldable pub withRow : List ℕ → ℕ → List ℕ → List ℕ
-withRow t i r = put t (rowLength * i) r
+unfoldable pub withRow : Table → ℕ → List ℕ → Table
+withRow t i r = record { form = t .form; bytes = put (t .bytes) (width t * i) r }
 
 -- THE LOOKUP
 
@@ -204,7 +262,7 @@ isRowOf a r = eqb (getD r 19 0) (a .operator) && hasName (a .name) r
 unfoldable pub isOwn : (operator : ℕ) → List ℕ → Bool
 isOwn o r = eqb (getD r 0 0) 1 && eqb (getD r 19 0) o
 
-unfoldable pub ownRows : (operator : ℕ) → List ℕ → List (List ℕ)
+unfoldable pub ownRows : (operator : ℕ) → Table → List (List ℕ)
 ownRows o t = keep (isOwn o) (rows t)
 
 -- The first row that passes a test.
@@ -221,7 +279,7 @@ firstRow f [] = nothing
 firstRow f (r ∷ rs) = let others : Found = later (firstRow f rs) in pick (f r) (row 0) others
 
 -- A subscriber's row is the first that is found by operator and name, sound or not.
-unfoldable pub lookup : List ℕ → Account → Found
+unfoldable pub lookup : Table → Account → Found
 lookup t a = firstRow (isRowOf a) (rows t)
 
 unfoldable pub isFound : Found → Bool

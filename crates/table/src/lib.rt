@@ -8,15 +8,23 @@ ghost use Rattle.octets.specs.Numbers.{low64};
 ghost use Rattle.octets.specs.Texts.{allZero};
 ghost use Rattle.table.specs.TheTable.{firstNumber, firstRow, hasName, isOwn, isRowOf, lookup, ownRows, rowAt, rowLength, rows, sums, tableNumber};
 ghost use Rattle.table.specs.Columns.{columnFirst, columnBefore};
-ghost use Rattle.table.specs.Answers.{found, rowEnd};
+ghost use Rattle.table.specs.Answers.{found, lent, rowEnd};
 
-// A row has nine blocks of 512 bytes.
+// A row is block 0 and eight places, each of as many blocks as the form says.
 pub const BLOCK_LENGTH: usize = 512;
 
-pub const ROW_LENGTH: usize = 9 * BLOCK_LENGTH;
+const PLACES: usize = 8;
 
 // A table has at most 1,024 rows.
-const LONGEST: usize = 1024 * ROW_LENGTH;
+const MOST_ROWS: usize = 1024;
+
+// The bytes of a row: 4,608 in form 1, 8,704 in form 2.
+pub fn row_length(form: usize) -> usize
+    requires { ⌜ form ≤ 2 ⌝ }
+    ensures { λ r. ⌜ r ≡ rowLength form ⌝ }
+{
+    BLOCK_LENGTH + PLACES * (BLOCK_LENGTH * form)
+}
 
 // The two sums of a block, each a remainder modulo 255.
 pub struct Sums {
@@ -90,28 +98,35 @@ pub fn sums_of(s: &[u8]) -> Sums
 
 // THE ROWS OF A TABLE
 
-// Number 1 where a table is not 1 to 1,024 rows of 4,608 bytes, else 0.
-pub fn table_number(t: &[u8]) -> u32
-    ensures { λ r. ⌜ r ≡ tableNumber (now (t .entry)) ⌝ }
+// Number 1 where there is no such form or the table is not 1 to 1,024 rows of it, else 0.
+pub fn table_number(t: &[u8], form: u32) -> u32
+    ensures { λ r. ⌜ r ≡ tableNumber (lent form (now (t .entry))) ⌝ }
 {
+    if form < 1 {
+        return 1;
+    }
+    if 2 < form {
+        return 1;
+    }
+    let width = row_length(form as usize);
     let n = t.len();
-    if n % ROW_LENGTH != 0 {
+    if n % width != 0 {
         return 1;
     }
-    if n < ROW_LENGTH {
+    if n < width {
         return 1;
     }
-    if LONGEST < n {
+    if MOST_ROWS * width < n {
         return 1;
     }
     0
 }
 
 // The first number of a call that brings an operator: that of the table, or 33; 0 where there is none.
-pub fn number_for(t: &[u8], op: u32) -> u32
-    ensures { λ r. ⌜ r ≡ firstNumber (now (t .entry)) op ⌝ }
+pub fn number_for(t: &[u8], form: u32, op: u32) -> u32
+    ensures { λ r. ⌜ r ≡ firstNumber (lent form (now (t .entry))) op ⌝ }
 {
-    let n = table_number(t);
+    let n = table_number(t, form);
     if n != 0 {
         return n;
     }
@@ -129,7 +144,7 @@ pub enum RowFound {
 
 // Whether a row is found by the name. Nothing behind the name's bytes is read.
 fn has_name(r: &[u8], name: &[u8]) -> bool
-    requires { ⌜ length (now r) ≡ rowLength ⌝ }
+    requires { ⌜ 20 ≤ length (now r) ⌝ }
     ensures { λ x. ⌜ x ≡ hasName (now (name .entry)) (now (r .entry)) ⌝ }
 {
     if r[0] != 1 {
@@ -151,7 +166,7 @@ fn has_name(r: &[u8], name: &[u8]) -> bool
 
 // Whether a row is that of an account.
 fn is_row_of(r: &[u8], op: u32, name: &[u8]) -> bool
-    requires { ⌜ length (now r) ≡ rowLength ⌝ }
+    requires { ⌜ 20 ≤ length (now r) ⌝ }
     ensures { λ x. ⌜ x ≡ isRowOf (record { operator = op; name = now (name .entry) }) (now (r .entry)) ⌝ }
 {
     if octets::wide(r[19]) != op {
@@ -161,27 +176,28 @@ fn is_row_of(r: &[u8], op: u32, name: &[u8]) -> bool
 }
 
 // The first place from `from` on, in steps of a row, that has these eight bytes; past the table's end where none has.
-fn next_like(t: &[u8], end: u64, from: usize) -> usize
-    requires { ⌜ (tableNumber (now t) ≡ 0) × (from % rowLength + 8 ≤ rowLength) × (from / rowLength ≤ length (now t) / rowLength) ⌝ }
-    ensures { λ r. ⌜ (r % rowLength ≡ from % rowLength) × (from / rowLength ≤ r / rowLength) × (r / rowLength ≤ length (now (t .entry)) / rowLength)
-        × ((j : ℕ) → from / rowLength ≤ j → j < r / rowLength → low64 (now (t .entry)) (rowLength * j + from % rowLength) ≡ end → ⊥) ⌝ }
+fn next_like(t: &[u8], form: usize, end: u64, from: usize) -> usize
+    requires { ⌜ (tableNumber (lent form (now t)) ≡ 0) × (from % rowLength form + 8 ≤ rowLength form) × (from / rowLength form ≤ length (now t) / rowLength form) ⌝ }
+    ensures { λ r. ⌜ (r % rowLength form ≡ from % rowLength form) × (from / rowLength form ≤ r / rowLength form) × (r / rowLength form ≤ length (now (t .entry)) / rowLength form)
+        × ((j : ℕ) → from / rowLength form ≤ j → j < r / rowLength form → low64 (now (t .entry)) (rowLength form * j + from % rowLength form) ≡ end → ⊥) ⌝ }
 {
+    let width = row_length(form);
     let mut at: usize = from;
     while at < t.len() {
         if octets::eight(t, at) == end {
             break;
         }
-        at += ROW_LENGTH;
+        at += width;
     }
     at
 }
 
 // Rows from the i-th on and before the result are not the account's. Of a name of 8 bytes or more the last eight are looked at first, at once:
 // names of one operator differ there. Where they are the same, the operator is looked at: other operators may have the same names.
-fn rows_passed(t: &[u8], op: u32, name: &[u8], i: usize) -> usize
-    requires { ⌜ (tableNumber (now t) ≡ 0) × (i ≤ length (now t) / rowLength) ⌝ }
-    ensures { λ r. ⌜ (i ≤ r) × (r ≤ length (now (t .entry)) / rowLength)
-        × ((j : ℕ) → i ≤ j → j < r → isRowOf (record { operator = op; name = now (name .entry) }) (rowAt (now (t .entry)) j) ≡ false) ⌝ }
+fn rows_passed(t: &[u8], form: usize, op: u32, name: &[u8], i: usize) -> usize
+    requires { ⌜ (tableNumber (lent form (now t)) ≡ 0) × (i ≤ length (now t) / rowLength form) ⌝ }
+    ensures { λ r. ⌜ (i ≤ r) × (r ≤ length (now (t .entry)) / rowLength form)
+        × ((j : ℕ) → i ≤ j → j < r → isRowOf (record { operator = op; name = now (name .entry) }) (rowAt (lent form (now (t .entry))) j) ≡ false) ⌝ }
 {
     let n = name.len();
     if n < 8 {
@@ -192,37 +208,39 @@ fn rows_passed(t: &[u8], op: u32, name: &[u8], i: usize) -> usize
     }
     let end = octets::eight(name, n - 8);
     let behind = 25 - n;
-    let mut at: usize = next_like(t, end, ROW_LENGTH * i + (n - 6));
+    let width = row_length(form);
+    let mut at: usize = next_like(t, form, end, width * i + (n - 6));
     while at < t.len() {
         if octets::wide(t[at + behind]) == op {
             break;
         }
-        at = next_like(t, end, at + ROW_LENGTH);
+        at = next_like(t, form, end, at + width);
     }
-    at / ROW_LENGTH
+    at / width
 }
 
 // A subscriber's row, sound or not.
-pub fn lookup(t: &[u8], op: u32, name: &[u8]) -> RowFound
-    requires { ⌜ tableNumber (now t) ≡ 0 ⌝ }
-    ensures { λ r. ⌜ (found r ≡ lookup (now (t .entry)) (record { operator = op; name = now (name .entry) })) × (rowEnd r ≤ length (now (t .entry))) ⌝ }
+pub fn lookup(t: &[u8], form: usize, op: u32, name: &[u8]) -> RowFound
+    requires { ⌜ tableNumber (lent form (now t)) ≡ 0 ⌝ }
+    ensures { λ r. ⌜ (found r ≡ lookup (lent form (now (t .entry))) (record { operator = op; name = now (name .entry) })) × (rowEnd form r ≤ length (now (t .entry))) ⌝ }
 {
-    let mut n: usize = rows_passed(t, op, name, 0);
-    let mut at: usize = ROW_LENGTH * n;
+    let width = row_length(form);
+    let mut n: usize = rows_passed(t, form, op, name, 0);
+    let mut at: usize = width * n;
     while at < t.len() {
-        let end = at + ROW_LENGTH;
+        let end = at + width;
         if is_row_of(&t[at..end], op, name) {
             return RowFound::At(n);
         }
-        n = rows_passed(t, op, name, n + 1);
-        at = ROW_LENGTH * n;
+        n = rows_passed(t, form, op, name, n + 1);
+        at = width * n;
     }
     RowFound::Nothing
 }
 
 // Whether a row is one of an operator's.
 fn is_own(r: &[u8], op: u32) -> bool
-    requires { ⌜ length (now r) ≡ rowLength ⌝ }
+    requires { ⌜ 20 ≤ length (now r) ⌝ }
     ensures { λ x. ⌜ x ≡ isOwn op (now (r .entry)) ⌝ }
 {
     if r[0] != 1 {
@@ -232,14 +250,15 @@ fn is_own(r: &[u8], op: u32) -> bool
 }
 
 // How many rows are an operator's.
-pub fn own_rows(t: &[u8], op: u32) -> u32
-    requires { ⌜ tableNumber (now t) ≡ 0 ⌝ }
-    ensures { λ r. ⌜ r ≡ length (ownRows op (now (t .entry))) ⌝ }
+pub fn own_rows(t: &[u8], form: usize, op: u32) -> u32
+    requires { ⌜ tableNumber (lent form (now t)) ≡ 0 ⌝ }
+    ensures { λ r. ⌜ r ≡ length (ownRows op (lent form (now (t .entry)))) ⌝ }
 {
+    let width = row_length(form);
     let mut count: u32 = 0;
     let mut at: usize = 0;
     while at < t.len() {
-        let end = at + ROW_LENGTH;
+        let end = at + width;
         if is_own(&t[at..end], op) {
             count += 1;
         }
@@ -250,7 +269,7 @@ pub fn own_rows(t: &[u8], op: u32) -> u32
 
 // Whether a row is wholly zero. A row in use differs in byte 0 already.
 fn zero_row(r: &[u8]) -> bool
-    requires { ⌜ length (now r) ≡ rowLength ⌝ }
+    requires { ⌜ 1 ≤ length (now r) ⌝ }
     ensures { λ x. ⌜ x ≡ allZero (now (r .entry)) ⌝ }
 {
     if r[0] != 0 {
@@ -260,14 +279,15 @@ fn zero_row(r: &[u8]) -> bool
 }
 
 // The first wholly zero row.
-pub fn first_zero_row(t: &[u8]) -> RowFound
-    requires { ⌜ tableNumber (now t) ≡ 0 ⌝ }
-    ensures { λ r. ⌜ (found r ≡ firstRow allZero (rows (now (t .entry)))) × (rowEnd r ≤ length (now (t .entry))) ⌝ }
+pub fn first_zero_row(t: &[u8], form: usize) -> RowFound
+    requires { ⌜ tableNumber (lent form (now t)) ≡ 0 ⌝ }
+    ensures { λ r. ⌜ (found r ≡ firstRow allZero (rows (lent form (now (t .entry))))) × (rowEnd form r ≤ length (now (t .entry))) ⌝ }
 {
+    let width = row_length(form);
     let mut i: usize = 0;
     let mut at: usize = 0;
     while at < t.len() {
-        let end = at + ROW_LENGTH;
+        let end = at + width;
         if zero_row(&t[at..end]) {
             return RowFound::At(i);
         }

@@ -5,6 +5,7 @@ use message::Asked;
 use message::Kind;
 use message::Span;
 use message::Told;
+use tool_operator::Number;
 use tool_streams::Source;
 use tool_streams::Way;
 
@@ -21,10 +22,16 @@ fn about_of(asked: Asked) -> About {
         Asked::Tunnel {
             session,
             host: _,
+            realm: _,
             label: _,
             visited: _,
         } => About { which: 0, session },
-        Asked::Policy { session, route: _ } => About { which: 1, session },
+        Asked::Policy {
+            session,
+            first: _,
+            second: _,
+            third: _,
+        } => About { which: 1, session },
         Asked::Termination { session, label: _ } => About { which: 2, session },
     }
 }
@@ -101,6 +108,7 @@ fn feed_cut(k: usize, screens: &mut [[u8; 140]], notice: &[u8; 256], n: usize) -
 // A request: fed, served on the table in memory, its result and the notice of its cut fed.
 fn serve(
     k: usize,
+    form: u32,
     table: &mut [u8],
     screens: &mut [[u8; 140]],
     m: &[u8],
@@ -114,6 +122,7 @@ fn serve(
     }
     let o = decision::handle(
         table,
+        form,
         0,
         b"wm.example",
         b"example",
@@ -130,7 +139,14 @@ fn serve(
 }
 
 // A message whose Session-Id is that part of it.
-fn serve_about(k: usize, table: &mut [u8], screens: &mut [[u8; 140]], m: &[u8], a: About) -> bool {
+fn serve_about(
+    k: usize,
+    form: u32,
+    table: &mut [u8],
+    screens: &mut [[u8; 140]],
+    m: &[u8],
+    a: About,
+) -> bool {
     let span = a.session;
     let from = span.at;
     let n = span.len;
@@ -140,20 +156,26 @@ fn serve_about(k: usize, table: &mut [u8], screens: &mut [[u8; 140]], m: &[u8], 
     if m.len() - from < n {
         return true;
     }
-    serve(k, table, screens, m, a.which, &m[from..from + n])
+    serve(k, form, table, screens, m, a.which, &m[from..from + n])
 }
 
 // A message. One that is no whole request is refused by the server as it is read, and tells the board nothing.
-fn serve_message(k: usize, table: &mut [u8], screens: &mut [[u8; 140]], m: &[u8]) -> bool {
+fn serve_message(
+    k: usize,
+    form: u32,
+    table: &mut [u8],
+    screens: &mut [[u8; 140]],
+    m: &[u8],
+) -> bool {
     if m.len() < 20 {
         return true;
     }
-    let heard = request::read(m);
+    let heard = request::read(m, tool_request_line::most_policies(form));
     let told = heard.told;
     let Told::Request(_, asked) = told else {
         return true;
     };
-    serve_about(k, table, screens, m, about_of(asked))
+    serve_about(k, form, table, screens, m, about_of(asked))
 }
 
 // ALL MESSAGES
@@ -169,6 +191,7 @@ fn source(file: i32) -> Source {
 // The message of n bytes in the room.
 fn take_message(
     k: usize,
+    form: u32,
     table: &mut [u8],
     screens: &mut [[u8; 140]],
     room: &[u8; 8192],
@@ -178,29 +201,42 @@ fn take_message(
     if all.len() < n {
         return false;
     }
-    serve_message(k, table, screens, &all[0..n])
+    serve_message(k, form, table, screens, &all[0..n])
 }
 
 // The next message of the file.
-fn step(fd: i32, requests: &[u8], table: &mut [u8], screens: &mut [[u8; 140]], w: Way) -> Way {
+fn step(
+    fd: i32,
+    requests: &[u8],
+    form: u32,
+    table: &mut [u8],
+    screens: &mut [[u8; 140]],
+    w: Way,
+) -> Way {
     let mut room = [0u8; 8192];
     let v = tool_streams::look(source(fd), requests, w, &mut room);
     if v.last == 0 {
         return v;
     }
-    if take_message(v.messages, table, screens, &room, v.last) {
+    if take_message(v.messages, form, table, screens, &room, v.last) {
         return v;
     }
     tool_streams::over(v, false)
 }
 
 // All messages; whether the file was followed to its end. A proved loop has to end, so the turns are counted down.
-fn follow(fd: i32, requests: &[u8], table: &mut [u8], screens: &mut [[u8; 140]]) -> bool {
+fn follow(
+    fd: i32,
+    requests: &[u8],
+    form: u32,
+    table: &mut [u8],
+    screens: &mut [[u8; 140]],
+) -> bool {
     let mut w = tool_streams::start();
     let mut turns: usize = 4294967296;
     while turns > 0 {
         turns -= 1;
-        w = step(fd, requests, table, screens, w);
+        w = step(fd, requests, form, table, screens, w);
         if w.last == 0 {
             return w.well;
         }
@@ -208,12 +244,17 @@ fn follow(fd: i32, requests: &[u8], table: &mut [u8], screens: &mut [[u8; 140]])
     false
 }
 
-fn open_and_follow(requests: &[u8], table: &mut [u8], screens: &mut [[u8; 140]]) -> bool {
+fn open_and_follow(
+    requests: &[u8],
+    form: u32,
+    table: &mut [u8],
+    screens: &mut [[u8; 140]],
+) -> bool {
     let fd = tool_files::open_plain(requests);
     if fd < 0 {
         return false;
     }
-    let done = follow(fd, requests, table, screens);
+    let done = follow(fd, requests, form, table, screens);
     libc::close(fd);
     done
 }
@@ -221,17 +262,23 @@ fn open_and_follow(requests: &[u8], table: &mut [u8], screens: &mut [[u8; 140]])
 // THE COMMAND
 
 // The board that the screens make, fed and drawn.
-fn feed_and_draw(path: &[u8], requests: &[u8], table: &mut [u8], screens: &mut [[u8; 140]]) {
+fn feed_and_draw(
+    path: &[u8],
+    requests: &[u8],
+    form: u32,
+    table: &mut [u8],
+    screens: &mut [[u8; 140]],
+) {
     if !tool_screens::check(path, screens) {
         return;
     }
-    if open_and_follow(requests, table, screens) {
+    if open_and_follow(requests, form, table, screens) {
         tool_screens::draw(screens);
     }
 }
 
 // The screens of a file, one more than a board may have, so that too many are told.
-fn with_screens(path: &[u8], requests: &[u8], table: &mut [u8]) {
+fn with_screens(path: &[u8], requests: &[u8], form: u32, table: &mut [u8]) {
     let mut screens = [[0u8; 140]; 65];
     let n = tool_screens::read(path, &mut screens);
     if n == 0 {
@@ -240,27 +287,32 @@ fn with_screens(path: &[u8], requests: &[u8], table: &mut [u8]) {
     if n > 65 {
         return;
     }
-    feed_and_draw(path, requests, table, &mut screens[0..n]);
+    feed_and_draw(path, requests, form, table, &mut screens[0..n]);
 }
 
-fn with_table(path: &[u8], from: &[u8], requests: &[u8], table: &mut [u8]) {
-    let n = tool_files::read_table(from, table);
+fn with_table(path: &[u8], said: u32, from: &[u8], requests: &[u8], table: &mut [u8]) {
+    let found = tool_form::read(from, said, table);
+    let n = found.length;
     if n == 0 {
         return;
     }
     if table.len() < n {
         return;
     }
-    with_screens(path, requests, &mut table[0..n]);
+    with_screens(path, requests, found.form, &mut table[0..n]);
 }
 
-// SCREENS TABLE REQUESTS. The table is read, and stays as it is.
+// SCREENS TABLE REQUESTS [form=F]. The table is read, and stays as it is.
 pub fn run(table: &mut [u8]) {
+    let said = tool_form::only(5);
+    let Number::Is(form) = said else {
+        return;
+    };
     let mut path = io::buffer();
     let mut from = io::buffer();
     let mut requests = io::buffer();
     let n = os::arg(2, &mut path);
     let t = os::arg(3, &mut from);
     let m = os::arg(4, &mut requests);
-    with_table(&path[..n], &from[..t], &requests[..m], table);
+    with_table(&path[..n], form, &from[..t], &requests[..m], table);
 }

@@ -63,28 +63,28 @@ fn line(out: &mut [u8; 4096], at: usize, what: u8, row: &[u8]) -> usize {
     say(out, b, b"\n")
 }
 
-// A fresh table with the subscriber of the cases, who is of operator 0, as its only row is.
+// A fresh table of form 1 with the subscriber of the cases, who is of operator 0, as its only row is.
 fn fresh(table: &mut [u8; 4608], out: &mut [u8; 4096]) -> usize {
     let user = b"001010123456789";
     let shares: [u32; 16] = [1, 0, 0, 0, 0, 0, 0, 0, 0, 0, 0, 0, 0, 0, 0, 0];
-    let a = set(out, 0, b"  clear: ", setup::clear(table));
+    let a = set(out, 0, b"  clear: ", setup::clear(table, 1));
     let b = set(
         out,
         a,
         b"  enter 001010123456789: ",
-        setup::enter(table, 0, &shares, user),
+        setup::enter(table, 1, 0, &shares, user),
     );
     let c = set(
         out,
         b,
         b"  add board, limit 2: ",
-        setup::add(table, 0, user, b"board", 2, 0),
+        setup::add(table, 1, 0, user, b"board", 2, 0),
     );
     set(
         out,
         c,
         b"  add yard, limit 1, barred: ",
-        setup::add(table, 0, user, b"yard", 1, 1),
+        setup::add(table, 1, 0, user, b"yard", 1, 1),
     )
 }
 
@@ -140,7 +140,7 @@ fn send(
     let why = tool_reply_line::why(table, &room[0..n], true, answer, notice);
     let o = tool_reply_line::call_server(table, &room[0..n], true, answer, notice);
     let a = say(out, at, b": ");
-    let b = tool_reply_line::outcome(out, a, o, why, notice);
+    let b = tool_reply_line::outcome(out, a, 1, o, why, notice);
     say(out, b, b"\n")
 }
 

@@ -203,27 +203,3 @@ pub fn open_plain(path: &[u8]) -> i32 {
     libc::close(fd);
     -1
 }
-
-// The table in an open file, put at the start of `table`: its length, or 0 where there is none, which is then said.
-pub fn fill_table(fd: i32, path: &[u8], table: &mut [u8]) -> usize {
-    let n = io::read_full(fd, table);
-    if table::table_number(&table[..n]) != 0 {
-        refuse_word(
-            path,
-            b": no table: its length is not that of 1 to 1,024 rows of 4,608 bytes",
-        );
-        return 0;
-    }
-    n
-}
-
-// The same of the file at a path.
-pub fn read_table(path: &[u8], table: &mut [u8]) -> usize {
-    let fd = open_plain(path);
-    if fd < 0 {
-        return 0;
-    }
-    let n = fill_table(fd, path, table);
-    libc::close(fd);
-    n
-}

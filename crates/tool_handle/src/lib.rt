@@ -56,7 +56,7 @@ fn serve(
 }
 
 // What lies ready once every file is open.
-fn desk(i: Inputs, s: Sheets, op: u32) -> Desk {
+fn desk(i: Inputs, s: Sheets, form: u32, op: u32) -> Desk {
     let gateway = tool_options::find(tool_options::WAG);
     Desk {
         requests: i.requests,
@@ -67,7 +67,8 @@ fn desk(i: Inputs, s: Sheets, op: u32) -> Desk {
         hex: tool_inputs::is_hex(),
         quiet: tool_options::find(tool_options::QUIET) != 0,
         wag: tool_options::is_wag(gateway),
-        op: op,
+        form,
+        op,
         host: tool_options::find(tool_options::HOST),
         realm: tool_options::find(tool_options::REALM),
         only: tool_options::find(tool_options::ONLY),
@@ -94,7 +95,7 @@ fn begin(
     if !both.well {
         return;
     }
-    let d = desk(i, both, op);
+    let d = desk(i, both, h.form, op);
     serve(d, h, path, requests, answers, notices, table, all);
 }
 
@@ -148,7 +149,11 @@ fn run(path: &[u8], requests: &[u8], answers: &[u8], notices: &[u8], room: &mut 
     let Number::Is(op) = said else {
         return;
     };
-    let h = tool_hold::hold(path, room);
+    let form = tool_form::word(tool_options::find(tool_options::FORM));
+    let Number::Is(f) = form else {
+        return;
+    };
+    let h = tool_hold::hold(path, f, room);
     if tool_hold::is_held(h) {
         handle_held(op, h, path, requests, answers, notices, room);
         tool_hold::leave(path, h);

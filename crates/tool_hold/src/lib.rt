@@ -6,11 +6,12 @@ mod locks;
 
 use tool_words::say;
 
-// What is open while a table is held; -1 where it is not.
+// What is open while a table is held, -1 where it is not, and the table's form and length.
 pub struct Held {
     pub lock: i32,
     pub table: i32,
     pub new: i32,
+    pub form: u32,
     pub length: usize,
 }
 
@@ -24,6 +25,7 @@ fn none(lock: i32) -> Held {
         lock,
         table: -1,
         new: -1,
+        form: 0,
         length: 0,
     }
 }
@@ -168,13 +170,13 @@ fn open(path: &[u8]) -> i32 {
 }
 
 // The table read, and the file for the new one made.
-fn take(path: &[u8], lock: i32, room: &mut [u8]) -> Held {
+fn take(path: &[u8], said: u32, lock: i32, room: &mut [u8]) -> Held {
     let table = open(path);
     if table < 0 {
         return none(lock);
     }
-    let length = tool_files::fill_table(table, path, room);
-    if length < 1 {
+    let found = tool_form::fill(table, path, said, room);
+    if found.length < 1 {
         libc::close(table);
         return none(lock);
     }
@@ -182,7 +184,8 @@ fn take(path: &[u8], lock: i32, room: &mut [u8]) -> Held {
         lock,
         table,
         new: new(path),
-        length,
+        form: found.form,
+        length: found.length,
     }
 }
 
@@ -194,8 +197,9 @@ fn check_length(path: &[u8]) -> bool {
     false
 }
 
-// The table at a path held and read to the start of the room. Where it can not be, that is said and nothing is left behind.
-pub fn hold(path: &[u8], room: &mut [u8]) -> Held {
+// The table at a path, whose form was said or is 0, held and read to the start of the room. Where it can not be, that is said and nothing is left
+// behind.
+pub fn hold(path: &[u8], said: u32, room: &mut [u8]) -> Held {
     if !check_length(path) {
         return none(-1);
     }
@@ -203,7 +207,7 @@ pub fn hold(path: &[u8], room: &mut [u8]) -> Held {
     if lock < 0 {
         return none(-1);
     }
-    let h = take(path, lock, room);
+    let h = take(path, said, lock, room);
     if !is_held(h) {
         leave(path, h);
         return none(-1);
@@ -246,6 +250,7 @@ pub fn hold_name(path: &[u8]) -> Held {
         lock,
         table: -1,
         new: new(path),
+        form: 0,
         length: 0,
     };
     if is_held(h) {

@@ -1,7 +1,10 @@
 // The header of a message in words, and the first test that the message fails.
 use message::Told;
+use reasons::Reason;
 use tool_words::number;
 use tool_words::say;
+ghost use Prim.Native.Nat.{_≤_};
+ghost use lib.ListN.{length};
 
 // THE HEADER
 
@@ -69,24 +72,56 @@ pub fn header(out: &mut [u8; 4096], k: usize, place: &[u8], from: usize, m: &[u8
 
 // THE TESTS
 
-// The code with which a request would be refused before any table is looked at, and why.
+// A code, its name and why it is given on a table of that form.
+fn refused(out: &mut [u8; 4096], at: usize, code: u32, why: Reason, form: u32) -> usize {
+    let a = number(out, at, code as u64);
+    let b = say(out, a, b" ");
+    let c = tool_names::result(out, b, code);
+    let d = tool_why::reason(out, c, why, form);
+    say(out, d, b"\n")
+}
+
+// The code of a message as it was read, 0 for none.
+fn code_of(told: Told) -> u32 {
+    match told {
+        Told::Request(_, _) => 0,
+        Told::Refused(code) => code,
+    }
+}
+
+// The code that a message gets on a table of form 2, or of any where that makes no difference, and why; nothing where it passes.
+fn refusal_of(out: &mut [u8; 4096], m: &[u8], code: u32) -> usize
+    requires { ⌜ 20 ≤ length (now m) ⌝ }
+{
+    if code == 0 {
+        return 0;
+    }
+    let a = say(out, 0, b"  the first test that fails gives ");
+    refused(out, a, code, reasons::reading_failed(m, 3), 2)
+}
+
+// The code with which a request would be refused before any table is looked at, and why. Form 2 takes up to three policies; where form 1, which takes
+// one, gives another code for that, it is said too.
 fn refusal(out: &mut [u8; 4096], m: &[u8]) -> usize {
     if m.len() < 20 {
         return 0;
     }
-    let heard = request::read(m);
-    let told = heard.told;
-    match told {
-        Told::Request(_, _) => 0,
-        Told::Refused(code) => {
-            let a = say(out, 0, b"  the first test that fails gives ");
-            let b = number(out, a, code as u64);
-            let c = say(out, b, b" ");
-            let d = tool_names::result(out, c, code);
-            let e = tool_why::reason(out, d, reasons::reading_failed(m));
-            say(out, e, b"\n")
-        }
+    let in_form_2 = request::read(m, 3);
+    let in_form_1 = request::read(m, 1);
+    let told_2 = in_form_2.told;
+    let told_1 = in_form_1.told;
+    let wide = code_of(told_2);
+    let plain = code_of(told_1);
+    let a = refusal_of(out, m, wide);
+    if plain == wide {
+        return a;
     }
+    let b = say(
+        out,
+        a,
+        b"  on a table of form 1 the first test that fails gives ",
+    );
+    refused(out, b, plain, reasons::reading_failed(m, 1), 1)
 }
 
 // The first test that a message fails: nothing where it passes, or is an answer.

@@ -35,7 +35,7 @@ pub fn experimental(out: &mut [u8; 4096], at: usize, code: u32) -> usize {
 // The number of a call that gets no answer.
 pub fn no_answer(out: &mut [u8; 4096], at: usize, number: u32) -> usize {
     match number {
-        1 => say(out, at, b"the table is not 1 to 1,024 rows of 4,608 bytes"),
+        1 => say(out, at, b"the table is not 1 to 1,024 rows of its form"),
         2 => say(out, at, b"own host or realm is not 1 to 128 bytes"),
         3 => say(out, at, b"the answer room is under 5,120 bytes"),
         4 => say(out, at, b"the notice room is under 256 bytes"),
@@ -55,7 +55,7 @@ pub fn no_answer(out: &mut [u8; 4096], at: usize, number: u32) -> usize {
 // The number of a set-up operation that changed nothing.
 pub fn set_up(out: &mut [u8; 4096], at: usize, number: u32) -> usize {
     match number {
-        1 => say(out, at, b"the table is not 1 to 1,024 rows of 4,608 bytes"),
+        1 => say(out, at, b"the table is not 1 to 1,024 rows of its form"),
         9 => say(out, at, b"a name is 1 to 15 decimal digits"),
         10 => say(out, at, b"the operator has that name already"),
         11 => say(out, at, b"the table has no free row"),

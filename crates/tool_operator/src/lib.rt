@@ -1,8 +1,8 @@
 // The words that say for which operator something is done, and how the rows are shared out: operator=N, and shares=A,B,..
 use tool_files::Said;
 
-// The last of all words has the number 13.
-const BEHIND: usize = 14;
+// The last of all words has the number 14.
+const BEHIND: usize = 15;
 
 fn is_at(i: usize, start: &[u8]) -> bool {
     let mut word = io::buffer();
@@ -62,18 +62,6 @@ pub fn operator(i: usize) -> Number {
         return Number::Nothing;
     };
     Number::Is(op)
-}
-
-// The same of a command that takes no other word at that place.
-pub fn only(i: usize) -> Number {
-    if os::arg_count() <= i {
-        return Number::Is(0);
-    }
-    if find(i, b"operator=") == i {
-        return operator(i);
-    }
-    tool_files::refuse(b"the last word may be operator=N, and nothing else");
-    Number::Nothing
 }
 
 // THE SHARES

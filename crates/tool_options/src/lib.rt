@@ -19,10 +19,12 @@ pub const CODES: usize = 7;
 
 pub const OPERATOR: usize = 8;
 
+pub const FORM: usize = 9;
+
 // The first of these words.
 const FIRST: usize = 6;
 // As many as there are kinds.
-const BEHIND: usize = 14;
+const BEHIND: usize = 15;
 
 // What the gateway says, for all messages or for each one in a file: one of the three.
 fn is_of_gateway(word: &[u8]) -> bool {
@@ -60,6 +62,9 @@ fn kind_of(word: &[u8]) -> usize {
     }
     if tool_files::is_begun(word, b"operator=") {
         return OPERATOR;
+    }
+    if tool_files::is_begun(word, b"form=") {
+        return FORM;
     }
     0
 }

@@ -41,14 +41,14 @@ pub fn keep(
     true
 }
 
-// The line of a message: what it asks, what came of it, and why; whether it could be said.
-fn tell(k: usize, m: &[u8], o: Outcome, why: Why, notice: &[u8; 256]) -> bool {
+// The line of a message: what it asks of a table of that form, what came of it, and why; whether it could be said.
+fn tell(k: usize, m: &[u8], form: u32, o: Outcome, why: Why, notice: &[u8; 256]) -> bool {
     let mut out = [0u8; 4096];
     let a = number(&mut out, 0, k as u64);
     let b = say(&mut out, a, b". ");
-    let c = tool_request_line::asked(&mut out, b, m);
+    let c = tool_request_line::asked(&mut out, b, m, form);
     let d = say(&mut out, c, b": ");
-    let e = tool_reply_line::outcome(&mut out, d, o, why, notice);
+    let e = tool_reply_line::outcome(&mut out, d, form, o, why, notice);
     let f = say(&mut out, e, b"\n");
     tool_files::print(&out, f)
 }
@@ -59,6 +59,7 @@ pub fn tell_unless_quiet(
     expected: usize,
     k: usize,
     m: &[u8],
+    form: u32,
     o: Outcome,
     why: Why,
     notice: &[u8; 256],
@@ -67,9 +68,9 @@ pub fn tell_unless_quiet(
         if quiet {
             return true;
         }
-        return tell(k, m, o, why, notice);
+        return tell(k, m, form, o, why, notice);
     }
-    if !tell(k, m, o, why, notice) {
+    if !tell(k, m, form, o, why, notice) {
         return false;
     }
     let mut out = [0u8; 4096];

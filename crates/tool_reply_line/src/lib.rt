@@ -6,8 +6,11 @@ use reasons::Why;
 use tool_words::number;
 use tool_words::say;
 use tool_words::text;
+ghost use mathlib.Core.Path.{_≡_};
+ghost use mathlib.Core.Bool.{true};
+ghost use Rattle.table.specs.Soundness.{isRow};
 
-// A request to the server, for operator 0. Its own host and realm have fixed names.
+// A request to the server on a table of form 1, for operator 0. Its own host and realm have fixed names.
 pub fn call_server(
     table: &mut [u8],
     m: &[u8],
@@ -15,12 +18,32 @@ pub fn call_server(
     answer: &mut [u8; 5120],
     notice: &mut [u8; 256],
 ) -> Outcome {
-    decision::handle(table, 0, b"wm.example", b"example", m, wag, answer, notice)
+    decision::handle(
+        table,
+        1,
+        0,
+        b"wm.example",
+        b"example",
+        m,
+        wag,
+        answer,
+        notice,
+    )
 }
 
 // Why `call_server` answers a request as it does, asked before it.
 pub fn why(table: &[u8], m: &[u8], wag: bool, answer: &[u8; 5120], notice: &[u8; 256]) -> Why {
-    reasons::first_failed(table, 0, b"wm.example", b"example", m, wag, answer, notice)
+    reasons::first_failed(
+        table,
+        1,
+        0,
+        b"wm.example",
+        b"example",
+        m,
+        wag,
+        answer,
+        notice,
+    )
 }
 
 // A code by its number and its name.
@@ -72,11 +95,18 @@ fn cut(out: &mut [u8; 4096], at: usize, notice: &[u8], session: usize, host: usi
     text(out, c, &notice[128..e])
 }
 
-// The code and its name, why it is no success, the place, who was cut.
-pub fn outcome(out: &mut [u8; 4096], at: usize, o: Outcome, why: Why, notice: &[u8; 256]) -> usize {
+// The code and its name, why it is no success on a table of that form, the place, who was cut.
+pub fn outcome(
+    out: &mut [u8; 4096],
+    at: usize,
+    form: u32,
+    o: Outcome,
+    why: Why,
+    notice: &[u8; 256],
+) -> usize {
     let kind = o.kind;
     let a = code(out, at, kind, o.code);
-    let b = tool_why::why(out, a, why);
+    let b = tool_why::why(out, a, why, form);
     let c = place(out, b, o.place);
     let what = o.cut;
     match what {
@@ -86,10 +116,9 @@ pub fn outcome(out: &mut [u8; 4096], at: usize, o: Outcome, why: Why, notice: &[
 }
 
 // A place of the line, with the Session-Id of its access.
-fn standing(out: &mut [u8; 4096], at: usize, row: &[u8], k: usize) -> usize {
-    if row.len() != table::ROW_LENGTH {
-        return at;
-    }
+fn standing(out: &mut [u8; 4096], at: usize, row: &[u8], k: usize) -> usize
+    requires { ⌜ isRow (now row) ≡ true ⌝ }
+{
     if k < 1 {
         return at;
     }
@@ -105,7 +134,7 @@ fn standing(out: &mut [u8; 4096], at: usize, row: &[u8], k: usize) -> usize {
 
 // The order line, first opened first.
 pub fn line(out: &mut [u8; 4096], at: usize, row: &[u8]) -> usize {
-    if row.len() != table::ROW_LENGTH {
+    if !tool_row_lines::is_row(row) {
         return at;
     }
     let mut a = say(out, at, b"line:");

@@ -200,10 +200,18 @@ fn next_hour(fd: i32) -> Said {
     Said::Nothing
 }
 
+// The files that are open while messages are counted, the form of the table, and the operator.
+pub struct Desk {
+    pub requests: i32,
+    pub hours: i32,
+    pub form: u32,
+    pub op: u32,
+}
+
 // One message served on the table in memory and counted; whether it could be.
 fn count_message(
+    d: Desk,
     table: &mut [u8],
-    op: u32,
     m: &[u8],
     hour: u32,
     report: &mut [u64; 96],
@@ -213,7 +221,8 @@ fn count_message(
     let mut notice = [0u8; 256];
     let o = decision::handle(
         table,
-        op,
+        d.form,
+        d.op,
         b"wm.example",
         b"example",
         m,
@@ -223,13 +232,6 @@ fn count_message(
     );
     let list = [told(hour, m, o)];
     check_number(report::count(report, &list), path)
-}
-
-// The files that are open while messages are counted, and the operator.
-pub struct Desk {
-    pub requests: i32,
-    pub hours: i32,
-    pub op: u32,
 }
 
 // The message of n bytes in the room, counted at the next hour of the file; whether it could be.
@@ -252,7 +254,7 @@ fn take_message(
     if hour > 9999 {
         return false;
     }
-    count_message(table, d.op, &all[0..n], hour as u32, report, hours)
+    count_message(d, table, &all[0..n], hour as u32, report, hours)
 }
 
 // The messages stand back to back in their file.
@@ -305,6 +307,7 @@ fn follow(
 
 // Messages and hours opened, followed, closed.
 fn open_and_follow(
+    form: u32,
     op: u32,
     requests: &[u8],
     hours: &[u8],
@@ -323,7 +326,8 @@ fn open_and_follow(
     let d = Desk {
         requests: m,
         hours: h,
-        op: op,
+        form,
+        op,
     };
     let done = follow(d, requests, hours, table, report);
     libc::close(m);
@@ -331,19 +335,27 @@ fn open_and_follow(
     done
 }
 
-fn count_at(op: u32, path: &[u8], from: &[u8], requests: &[u8], hours: &[u8], table: &mut [u8]) {
+// The form that was said of the table, 0 for none, and the operator.
+struct Words {
+    form: u32,
+    op: u32,
+}
+
+fn count_at(w: Words, path: &[u8], from: &[u8], requests: &[u8], hours: &[u8], table: &mut [u8]) {
     let mut report = [0u64; 96];
     if !read_report(path, &mut report) {
         return;
     }
-    let n = tool_files::read_table(from, table);
+    let found = tool_form::read(from, w.form, table);
+    let n = found.length;
     if n == 0 {
         return;
     }
     if table.len() < n {
         return;
     }
-    if open_and_follow(op, requests, hours, &mut table[0..n], &mut report) {
+    let form = found.form;
+    if open_and_follow(form, w.op, requests, hours, &mut table[0..n], &mut report) {
         replace(path, &report, b": the messages are counted");
     }
 }
@@ -360,10 +372,17 @@ fn new() {
     }
 }
 
-// REPORT TABLE REQUESTS HOURS [operator=N]. The table is read, and stays as it is.
+// REPORT TABLE REQUESTS HOURS [operator=N] [form=F]. The table is read, and stays as it is.
 fn count(table: &mut [u8]) {
-    let said = tool_operator::only(7);
+    if !tool_form::check_both(7, 8) {
+        return;
+    }
+    let said = tool_operator::operator(tool_operator::find(7, b"operator="));
     let Number::Is(op) = said else {
+        return;
+    };
+    let word = tool_form::word(tool_operator::find(7, b"form="));
+    let Number::Is(form) = word else {
         return;
     };
     let mut path = io::buffer();
@@ -375,7 +394,7 @@ fn count(table: &mut [u8]) {
     let m = os::arg(5, &mut requests);
     let h = os::arg(6, &mut hours);
     count_at(
-        op,
+        Words { form, op },
         &path[..n],
         &from[..t],
         &requests[..m],
@@ -432,7 +451,7 @@ fn run_word(word: &[u8], table: &mut [u8]) {
         new();
         return;
     }
-    if is_called(word, b"count", 7, 8) {
+    if is_called(word, b"count", 7, 9) {
         count(table);
         return;
     }

@@ -5,6 +5,7 @@ use message::Told;
 use reader::Step;
 use tool_words::say;
 use tool_words::text;
+ghost use Prim.Native.Nat.{_≤_};
 
 // A part of the message.
 fn part(out: &mut [u8; 4096], at: usize, m: &[u8], s: Span) -> usize {
@@ -27,19 +28,36 @@ fn both(out: &mut [u8; 4096], at: usize, m: &[u8], session: Span, label: Span) -
     part(out, b, m, label)
 }
 
+// How many policies are brought, where it is more than one.
+fn policies(out: &mut [u8; 4096], at: usize, second: Span, third: Span) -> usize {
+    if third.len != 0 {
+        return say(out, at, b"three policies for ");
+    }
+    if second.len != 0 {
+        return say(out, at, b"two policies for ");
+    }
+    say(out, at, b"policy for ")
+}
+
 fn request(out: &mut [u8; 4096], at: usize, m: &[u8], asked: Asked) -> usize {
     match asked {
         Asked::Tunnel {
             session,
             host: _,
+            realm: _,
             label,
             visited: _,
         } => {
             let a = say(out, at, b"open ");
             both(out, a, m, session, label)
         }
-        Asked::Policy { session, route: _ } => {
-            let a = say(out, at, b"policy for ");
+        Asked::Policy {
+            session,
+            first: _,
+            second,
+            third,
+        } => {
+            let a = policies(out, at, second, third);
             part(out, a, m, session)
         }
         Asked::Termination { session, label } => {
@@ -70,12 +88,22 @@ fn no_request(out: &mut [u8; 4096], at: usize, m: &[u8]) -> usize {
     part(out, b, m, session)
 }
 
-// Who asks for what; a message that is no whole request is only said to be one.
-pub fn asked(out: &mut [u8; 4096], at: usize, m: &[u8]) -> usize {
+// How many policies a request may bring to a table of that form.
+pub fn most_policies(form: u32) -> usize
+    ensures { λ r. ⌜ (1 ≤ r) × (r ≤ 3) ⌝ }
+{
+    if form == 2 {
+        return 3;
+    }
+    1
+}
+
+// Who asks a table of that form for what; a message that is no whole request is only said to be one.
+pub fn asked(out: &mut [u8; 4096], at: usize, m: &[u8], form: u32) -> usize {
     if m.len() < 20 {
         return say(out, at, b"no request");
     }
-    let heard = request::read(m);
+    let heard = request::read(m, most_policies(form));
     let told = heard.told;
     match told {
         Told::Refused(_) => no_request(out, at, m),

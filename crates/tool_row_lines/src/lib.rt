@@ -1,13 +1,30 @@
-// A row of the table in words, a line at a time. Every function takes any row: what does not stand in it is left out.
+// A row of the table in words, a line at a time. Every function takes any row, of either form: what does not stand in it is left out.
 use tool_words::number;
 use tool_words::say;
 use tool_words::text;
+ghost use mathlib.Core.Path.{_≡_};
+ghost use mathlib.Core.Bool.{true};
+ghost use Prim.Native.Nat.{_≤_};
+ghost use lib.ListN.{length};
+ghost use Rattle.table.specs.Soundness.{isRow};
+
+// Whether so many bytes are a row, of form 1 or 2.
+pub fn is_row(row: &[u8]) -> bool
+    ensures { λ r. ⌜ (r ≡ isRow (now (row .entry))) × (r ≡ true → 512 ≤ length (now (row .entry))) ⌝ }
+{
+    if row.len() == table::row_length(1) {
+        return true;
+    }
+    if row.len() == table::row_length(2) {
+        return true;
+    }
+    false
+}
 
 // The name in a row, nothing where byte 1 is no length of a name.
-fn name(out: &mut [u8; 4096], at: usize, row: &[u8]) -> usize {
-    if row.len() != table::ROW_LENGTH {
-        return at;
-    }
+fn name(out: &mut [u8; 4096], at: usize, row: &[u8]) -> usize
+    requires { ⌜ 512 ≤ length (now row) ⌝ }
+{
     let n = octets::long(row[1]);
     if 15 < n {
         return at;
@@ -31,20 +48,18 @@ fn ones(x: u8) -> u32 {
 }
 
 // Whose a row is: the name and the operator.
-fn whose(out: &mut [u8; 4096], at: usize, row: &[u8]) -> usize {
-    if row.len() != table::ROW_LENGTH {
-        return at;
-    }
+fn whose(out: &mut [u8; 4096], at: usize, row: &[u8]) -> usize
+    requires { ⌜ 512 ≤ length (now row) ⌝ }
+{
     let a = name(out, at, row);
     let b = say(out, a, b", operator ");
     number(out, b, octets::wide(row[19]) as u64)
 }
 
 // The first line of row i: whose it is, and how many accesses stand.
-pub fn head(out: &mut [u8; 4096], i: usize, row: &[u8]) -> usize {
-    if row.len() != table::ROW_LENGTH {
-        return 0;
-    }
+pub fn head(out: &mut [u8; 4096], i: usize, row: &[u8]) -> usize
+    requires { ⌜ 512 ≤ length (now row) ⌝ }
+{
     let a = which(out, i);
     let b = say(out, a, b": ");
     let c = whose(out, b, row);
@@ -54,7 +69,9 @@ pub fn head(out: &mut [u8; 4096], i: usize, row: &[u8]) -> usize {
 }
 
 // The start of the line of row i, which is not sound.
-pub fn unsound(out: &mut [u8; 4096], i: usize, row: &[u8]) -> usize {
+pub fn unsound(out: &mut [u8; 4096], i: usize, row: &[u8]) -> usize
+    requires { ⌜ 512 ≤ length (now row) ⌝ }
+{
     let a = which(out, i);
     let b = say(out, a, b": ");
     let c = whose(out, b, row);
@@ -70,10 +87,9 @@ fn more(n: usize) -> usize {
 }
 
 // How many accesses stand on entry e, counted from 1.
-pub fn standing(row: &[u8], e: usize) -> usize {
-    if row.len() != table::ROW_LENGTH {
-        return 0;
-    }
+pub fn standing(row: &[u8], e: usize) -> usize
+    requires { ⌜ isRow (now row) ≡ true ⌝ }
+{
     let mut n: usize = 0;
     let mut k: usize = 1;
     while k < 9 {
@@ -95,10 +111,9 @@ fn flags(out: &mut [u8; 4096], at: usize, x: u8) -> usize {
 }
 
 // The label of entry e.
-fn label(out: &mut [u8; 4096], at: usize, row: &[u8], e: usize) -> usize {
-    if row.len() != table::ROW_LENGTH {
-        return at;
-    }
+fn label(out: &mut [u8; 4096], at: usize, row: &[u8], e: usize) -> usize
+    requires { ⌜ 512 ≤ length (now row) ⌝ }
+{
     if e < 1 {
         return at;
     }
@@ -113,10 +128,9 @@ fn label(out: &mut [u8; 4096], at: usize, row: &[u8], e: usize) -> usize {
 }
 
 // The line of entry e: its label, limit and flags, and how many accesses stand on it.
-pub fn entry(out: &mut [u8; 4096], row: &[u8], e: usize) -> usize {
-    if row.len() != table::ROW_LENGTH {
-        return 0;
-    }
+pub fn entry(out: &mut [u8; 4096], row: &[u8], e: usize) -> usize
+    requires { ⌜ (isRow (now row) ≡ true) × (512 ≤ length (now row)) ⌝ }
+{
     if e < 1 {
         return 0;
     }
@@ -137,34 +151,68 @@ pub fn entry(out: &mut [u8; 4096], row: &[u8], e: usize) -> usize {
     say(out, h, b" standing\n")
 }
 
-// The policy of the access at place k.
-fn policy(out: &mut [u8; 4096], at: usize, row: &[u8], k: usize) -> usize {
-    if row.len() != table::ROW_LENGTH {
+// A policy of n bytes, behind what it is called; nothing where it is not there.
+fn policy(out: &mut [u8; 4096], at: usize, name: &[u8], bytes: &[u8]) -> usize {
+    if bytes.len() == 0 {
         return at;
     }
-    if 8 < k {
-        return at;
-    }
+    let a = say(out, at, name);
+    text(out, a, bytes)
+}
+
+// The first policy of the access at place k.
+fn first_policy(out: &mut [u8; 4096], at: usize, row: &[u8], k: usize) -> usize
+    requires { ⌜ (isRow (now row) ≡ true) × (1 ≤ k) × (k ≤ 8) ⌝ }
+{
     let n = row::policy_length(row, k);
     if n == 0 {
-        return say(out, at, b", no policy\n");
+        return say(out, at, b", no policy");
     }
     if 128 < n {
-        return say(out, at, b", a policy too long\n");
+        return say(out, at, b", a policy too long");
     }
-    let a = say(out, at, b", policy ");
-    let b = text(out, a, row::policy(row, k));
-    say(out, b, b"\n")
+    policy(out, at, b", policy ", row::policy(row, k))
+}
+
+// The other two, in its second block.
+fn other_policies(out: &mut [u8; 4096], at: usize, more: &[u8]) -> usize
+    requires { ⌜ length (now more) ≡ 512 ⌝ }
+{
+    let a = policy(out, at, b", second policy ", row::second_policy(more));
+    if 128 < more[4] {
+        return say(out, a, b", a third policy too long");
+    }
+    policy(out, a, b", third policy ", row::third_policy(more))
+}
+
+// The realm of its gateway, in its second block.
+fn realm(out: &mut [u8; 4096], at: usize, more: &[u8]) -> usize
+    requires { ⌜ length (now more) ≡ 512 ⌝ }
+{
+    if more[1] == 0 {
+        return say(out, at, b", no realm");
+    }
+    let a = say(out, at, b", realm ");
+    text(out, a, row::realm(more))
+}
+
+// What stands behind the host: the policy, and in form 2 realm and policies.
+fn rest(out: &mut [u8; 4096], at: usize, row: &[u8], k: usize) -> usize
+    requires { ⌜ (isRow (now row) ≡ true) × (1 ≤ k) × (k ≤ 8) ⌝ }
+{
+    let more = row::second(row, k);
+    if more.len() != 512 {
+        return first_policy(out, at, row, k);
+    }
+    let a = realm(out, at, more);
+    let b = first_policy(out, a, row, k);
+    other_policies(out, b, more)
 }
 
 // The access at place k.
-fn access_at(out: &mut [u8; 4096], at: usize, row: &[u8], k: usize) -> usize {
-    if row.len() != table::ROW_LENGTH {
-        return at;
-    }
-    if 8 < k {
-        return at;
-    }
+fn access_at(out: &mut [u8; 4096], at: usize, row: &[u8], k: usize) -> usize
+    requires { ⌜ (isRow (now row) ≡ true) × (512 ≤ length (now row)) × (1 ≤ k) × (k ≤ 8) ⌝ }
+{
     let a = text(out, at, row::session(row, k));
     let b = say(out, a, b" on ");
     let c = label(out, b, row, octets::long(row::entry_of(row, k)));
@@ -172,14 +220,14 @@ fn access_at(out: &mut [u8; 4096], at: usize, row: &[u8], k: usize) -> usize {
     let e = number(out, d, k as u64);
     let f = say(out, e, b", gateway ");
     let g = text(out, f, row::host(row, k));
-    policy(out, g, row, k)
+    let h = rest(out, g, row, k);
+    say(out, h, b"\n")
 }
 
 // The line of the i-th access by age, the oldest being the first.
-pub fn access(out: &mut [u8; 4096], row: &[u8], i: usize) -> usize {
-    if row.len() != table::ROW_LENGTH {
-        return 0;
-    }
+pub fn access(out: &mut [u8; 4096], row: &[u8], i: usize) -> usize
+    requires { ⌜ (isRow (now row) ≡ true) × (512 ≤ length (now row)) ⌝ }
+{
     if i < 1 {
         return 0;
     }
@@ -187,7 +235,10 @@ pub fn access(out: &mut [u8; 4096], row: &[u8], i: usize) -> usize {
         return 0;
     }
     let k = row::line_place(row, i - 1);
-    if k == 0 {
+    if k < 1 {
+        return 0;
+    }
+    if 8 < k {
         return 0;
     }
     let a = say(out, 0, b"    ");

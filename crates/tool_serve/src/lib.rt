@@ -6,7 +6,7 @@ use tool_streams::Source;
 use tool_totals::Totals;
 
 // The files that are open, -1 for one that was not asked for; the words that were said, by their numbers; what the gateway says where no
-// file has it; and the operator.
+// file has it; the form of the table, and the operator.
 pub struct Desk {
     pub requests: i32,
     pub answers: i32,
@@ -16,6 +16,7 @@ pub struct Desk {
     pub hex: bool,
     pub quiet: bool,
     pub wag: bool,
+    pub form: u32,
     pub op: u32,
     pub host: usize,
     pub realm: usize,
@@ -54,7 +55,16 @@ fn report(
         return tool_totals::broken(t);
     }
     let u = tool_totals::counted(t, o, tool_expected::is_expected(o, b.expected));
-    if tool_outcomes::tell_unless_quiet(d.quiet, b.expected, u.messages, m, o, why, notice) {
+    if tool_outcomes::tell_unless_quiet(
+        d.quiet,
+        b.expected,
+        u.messages,
+        m,
+        d.form,
+        o,
+        why,
+        notice,
+    ) {
         return u;
     }
     tool_totals::broken(u)
@@ -75,8 +85,18 @@ fn serve_one(
     let mut answer = [0u8; 5120];
     let mut notice = [0u8; 256];
     let wag = b.wag == tool_expected::YES;
-    let why = reasons::first_failed(table, d.op, host, realm, m, wag, &answer, &notice);
-    let o = decision::handle(table, d.op, host, realm, m, wag, &mut answer, &mut notice);
+    let why = reasons::first_failed(table, d.form, d.op, host, realm, m, wag, &answer, &notice);
+    let o = decision::handle(
+        table,
+        d.form,
+        d.op,
+        host,
+        realm,
+        m,
+        wag,
+        &mut answer,
+        &mut notice,
+    );
     report(d, answers, notices, m, b, o, why, &answer, &notice, t)
 }
 

@@ -25,43 +25,68 @@ fn keep(path: &[u8], h: Held, table: &[u8], done: &[u8]) {
     }
 }
 
-// A table of so many free rows, under a name that no file has yet.
-fn make(path: &[u8], table: &mut [u8], rows: usize) {
+// A table that is cleared, under a name that no file has yet.
+fn make_at(path: &[u8], form: u32, table: &[u8]) {
+    let h = tool_hold::hold_name(path);
+    if !tool_hold::is_held(h) {
+        return;
+    }
+    if form == 2 {
+        keep(path, h, table, b": a new table of form 2, all rows free");
+    } else {
+        keep(path, h, table, b": a new table, all rows free");
+    }
+    tool_hold::leave(path, h);
+}
+
+// A table of so many free rows.
+fn make(path: &[u8], form: u32, table: &mut [u8], rows: usize) {
     if 1024 < rows {
         refused(1);
         return;
     }
-    let n = 4608 * rows;
+    let n = tool_form::length_of(form, rows);
+    if !tool_form::check_room(path, n, table) {
+        return;
+    }
     if table.len() < n {
         return;
     }
-    let number = setup::clear(&mut table[0..n]);
+    let number = setup::clear(&mut table[0..n], form);
     if number != 0 {
         refused(number);
         return;
     }
-    let h = tool_hold::hold_name(path);
-    if tool_hold::is_held(h) {
-        keep(path, h, &table[0..n], b": a new table, all rows free");
-        tool_hold::leave(path, h);
-    }
+    make_at(path, form, &table[0..n]);
 }
 
-fn new_at(path: &[u8], rows: &[u8], table: &mut [u8]) {
+// Form 1 where none is said.
+fn form_or_1(said: u32) -> u32 {
+    if said == 0 {
+        return 1;
+    }
+    said
+}
+
+fn new_at(path: &[u8], form: u32, rows: &[u8], table: &mut [u8]) {
     let said = tool_files::number(rows);
     let Said::Number(n) = said else {
         tool_files::refuse_word(rows, b": no number of rows, 1 to 1,024");
         return;
     };
-    make(path, table, n);
+    make(path, form, table, n);
 }
 
 pub fn new(table: &mut [u8]) {
+    let said = tool_form::only(4);
+    let Number::Is(form) = said else {
+        return;
+    };
     let mut path = io::buffer();
     let mut rows = io::buffer();
     let n = os::arg(2, &mut path);
     let k = os::arg(3, &mut rows);
-    new_at(&path[..n], &rows[..k], table);
+    new_at(&path[..n], form_or_1(form), &rows[..k], table);
 }
 
 // ENTERING
@@ -80,7 +105,7 @@ fn enter_shared(
     if shares.len() < k {
         return;
     }
-    let number = setup::enter(table, op, &shares[0..k], name);
+    let number = setup::enter(table, h.form, op, &shares[0..k], name);
     if number != 0 {
         refused(number);
         return;
@@ -96,14 +121,14 @@ fn enter_held(path: &[u8], h: Held, op: u32, name: &[u8], table: &mut [u8]) {
     }
     let mut room = [0u32; 17];
     let word = tool_operator::find(4, b"shares=");
-    let k = tool_operator::shares(word, op, n / 4608, &mut room);
+    let k = tool_operator::shares(word, op, n / tool_form::row_length(h.form), &mut room);
     if k != 0 {
         enter_shared(path, h, op, &room, k, name, &mut table[0..n]);
     }
 }
 
-fn enter_at(path: &[u8], op: u32, name: &[u8], table: &mut [u8]) {
-    let h = tool_hold::hold(path, table);
+fn enter_at(path: &[u8], form: u32, op: u32, name: &[u8], table: &mut [u8]) {
+    let h = tool_hold::hold(path, form, table);
     if tool_hold::is_held(h) {
         enter_held(path, h, op, name, table);
         tool_hold::leave(path, h);
@@ -118,18 +143,28 @@ fn is_of_enter(i: usize) -> bool {
     if tool_operator::find(4, b"operator=") == i {
         return true;
     }
+    if tool_operator::find(4, b"form=") == i {
+        return true;
+    }
     tool_operator::find(4, b"shares=") == i
+}
+
+fn are_of_enter() -> bool {
+    if is_of_enter(4) {
+        if is_of_enter(5) {
+            return is_of_enter(6);
+        }
+    }
+    false
 }
 
 // Whether the words behind the name have a meaning; why not is said.
 fn check_enter() -> bool {
-    if is_of_enter(4) {
-        if is_of_enter(5) {
-            return true;
-        }
+    if are_of_enter() {
+        return true;
     }
     tool_files::refuse(
-        b"behind the name there may stand operator=N and shares=A,B,.., each once, and nothing else",
+        b"behind the name there may stand operator=N, shares=A,B,.. and form=1 or form=2, each once, and nothing else",
     );
     false
 }
@@ -142,11 +177,15 @@ pub fn enter(table: &mut [u8]) {
     let Number::Is(op) = said else {
         return;
     };
+    let form = tool_form::word(tool_operator::find(4, b"form="));
+    let Number::Is(f) = form else {
+        return;
+    };
     let mut path = io::buffer();
     let mut name = io::buffer();
     let n = os::arg(2, &mut path);
     let k = os::arg(3, &mut name);
-    enter_at(&path[..n], op, &name[..k], table);
+    enter_at(&path[..n], f, op, &name[..k], table);
 }
 
 // ADDING
@@ -165,7 +204,7 @@ fn add_held(
     if table.len() < n {
         return;
     }
-    let number = setup::add(&mut table[0..n], op, name, label, limit, flags);
+    let number = setup::add(&mut table[0..n], h.form, op, name, label, limit, flags);
     if number != 0 {
         refused(number);
         return;
@@ -173,15 +212,30 @@ fn add_held(
     keep(path, h, &table[0..n], b": the label is added");
 }
 
-fn add_at(path: &[u8], op: u32, name: &[u8], label: &[u8], limit: u8, flags: u8, table: &mut [u8]) {
-    let h = tool_hold::hold(path, table);
+// Which subscriber a label is for: the form of the table, 0 where it is not said, and the operator.
+struct Whose {
+    form: u32,
+    op: u32,
+}
+
+fn add_at(
+    path: &[u8],
+    w: Whose,
+    name: &[u8],
+    label: &[u8],
+    limit: u8,
+    flags: u8,
+    table: &mut [u8],
+) {
+    let h = tool_hold::hold(path, w.form, table);
     if tool_hold::is_held(h) {
-        add_held(path, h, op, name, label, limit, flags, table);
+        add_held(path, h, w.op, name, label, limit, flags, table);
         tool_hold::leave(path, h);
     }
 }
 
-// What a word behind the limit says of the label: 1 barred, 2 may roam, 0 nothing, but whose the subscriber is, 4 something else.
+// What a word behind the limit says of the label: 1 barred, 2 may roam, 0 nothing, but whose the subscriber is or which form the table has, 4 something
+// else.
 fn flag(i: usize) -> u8 {
     if os::arg_count() <= i {
         return 0;
@@ -197,18 +251,21 @@ fn flag(i: usize) -> u8 {
     if tool_operator::find(6, b"operator=") == i {
         return 0;
     }
+    if tool_operator::find(6, b"form=") == i {
+        return 0;
+    }
     4
 }
 
 // The words together: barred or roam twice says no more than once.
 fn flags() -> u8 {
-    flag(6) | flag(7) | flag(8)
+    flag(6) | flag(7) | flag(8) | flag(9)
 }
 
 // The limit is a byte for the server, which tests it; what is no byte is refused here.
 fn add_limited(
     path: &[u8],
-    op: u32,
+    w: Whose,
     name: &[u8],
     label: &[u8],
     limit: &[u8],
@@ -224,11 +281,11 @@ fn add_limited(
         tool_files::refuse_word(limit, b": no limit, 1 to 8");
         return;
     }
-    add_at(path, op, name, label, n as u8, flags, table);
+    add_at(path, w, name, label, n as u8, flags, table);
 }
 
 // The words behind the limit have a meaning.
-fn add_of(op: u32, flags: u8, table: &mut [u8]) {
+fn add_of(w: Whose, flags: u8, table: &mut [u8]) {
     let mut path = io::buffer();
     let mut name = io::buffer();
     let mut label = io::buffer();
@@ -239,7 +296,7 @@ fn add_of(op: u32, flags: u8, table: &mut [u8]) {
     let m = os::arg(5, &mut limit);
     add_limited(
         &path[..n],
-        op,
+        w,
         &name[..k],
         &label[..l],
         &limit[..m],
@@ -252,7 +309,7 @@ pub fn add(table: &mut [u8]) {
     let f = flags();
     if 3 < f {
         tool_files::refuse(
-            b"behind the limit there may stand barred, roam and, once, operator=N, and nothing else",
+            b"behind the limit there may stand barred, roam and, once each, operator=N and form=1 or form=2, and nothing else",
         );
         return;
     }
@@ -260,5 +317,9 @@ pub fn add(table: &mut [u8]) {
     let Number::Is(op) = said else {
         return;
     };
-    add_of(op, f, table);
+    let word = tool_form::word(tool_operator::find(6, b"form="));
+    let Number::Is(form) = word else {
+        return;
+    };
+    add_of(Whose { form, op }, f, table);
 }

@@ -2,9 +2,16 @@
 use table::RowFound;
 use tool_operator::Number;
 use tool_words::say;
+ghost use mathlib.Core.Path.{_≡_};
+ghost use mathlib.Core.Bool.{true};
+ghost use Prim.Native.Nat.{_≤_};
+ghost use lib.ListN.{length};
+ghost use Rattle.table.specs.Soundness.{isRow};
 
 // The labels of a sound row.
-fn entries(row: &[u8], out: &mut [u8; 4096]) {
+fn entries(row: &[u8], out: &mut [u8; 4096])
+    requires { ⌜ (isRow (now row) ≡ true) × (512 ≤ length (now row)) ⌝ }
+{
     let mut e: usize = 1;
     while e < 5 {
         let n = tool_row_lines::entry(out, row, e);
@@ -14,7 +21,9 @@ fn entries(row: &[u8], out: &mut [u8; 4096]) {
 }
 
 // The accesses of a sound row, from the oldest on.
-fn accesses(row: &[u8], out: &mut [u8; 4096]) {
+fn accesses(row: &[u8], out: &mut [u8; 4096])
+    requires { ⌜ (isRow (now row) ≡ true) × (512 ≤ length (now row)) ⌝ }
+{
     let mut i: usize = 1;
     while i < 9 {
         let n = tool_row_lines::access(out, row, i);
@@ -24,37 +33,38 @@ fn accesses(row: &[u8], out: &mut [u8; 4096]) {
 }
 
 // The line below a row that no lookup finds.
-fn say_hidden(table: &[u8], i: usize, row: &[u8], out: &mut [u8; 4096]) {
-    let n = tool_faults::hidden(out, table, i, row);
+fn say_hidden(table: &[u8], form: u32, i: usize, row: &[u8], out: &mut [u8; 4096])
+    requires { ⌜ 512 ≤ length (now row) ⌝ }
+{
+    let n = tool_faults::hidden(out, table, form, i, row);
     tool_files::print(out, n);
 }
 
 // A row that is not free.
-fn show_row(table: &[u8], i: usize, row: &[u8], out: &mut [u8; 4096]) {
-    if row.len() != table::ROW_LENGTH {
-        return;
-    }
+fn show_row(table: &[u8], form: u32, i: usize, row: &[u8], out: &mut [u8; 4096])
+    requires { ⌜ (isRow (now row) ≡ true) × (512 ≤ length (now row)) ⌝ }
+{
     if !soundness::row_sound(row) {
         let n = tool_row_lines::unsound(out, i, row);
         let end = tool_faults::reason(out, n, row, clauses::broken(row));
         tool_files::print(out, end);
-        say_hidden(table, i, row, out);
+        say_hidden(table, form, i, row, out);
         return;
     }
     let n = tool_row_lines::head(out, i, row);
     tool_files::print(out, n);
-    say_hidden(table, i, row, out);
+    say_hidden(table, form, i, row, out);
     entries(row, out);
     accesses(row, out);
 }
 
 // Row i, said; whether it is free, and nothing is said.
-fn show_or_skip(table: &[u8], i: usize, out: &mut [u8; 4096]) -> bool {
+fn show_or_skip(table: &[u8], form: u32, i: usize, out: &mut [u8; 4096]) -> bool {
     if 1024 < i {
         return false;
     }
-    let a = table::ROW_LENGTH * i;
-    let e = a + table::ROW_LENGTH;
+    let a = tool_form::length_of(form, i);
+    let e = a + tool_form::row_length(form);
     if table.len() < e {
         return false;
     }
@@ -62,7 +72,9 @@ fn show_or_skip(table: &[u8], i: usize, out: &mut [u8; 4096]) -> bool {
     if octets::all_zero(row) {
         return true;
     }
-    show_row(table, i, row, out);
+    if tool_row_lines::is_row(row) {
+        show_row(table, form, i, row, out);
+    }
     false
 }
 
@@ -75,11 +87,11 @@ fn more(n: usize) -> usize {
 }
 
 // All rows: how many are free.
-fn free_rows(table: &[u8], out: &mut [u8; 4096]) -> usize {
+fn free_rows(table: &[u8], form: u32, out: &mut [u8; 4096]) -> usize {
     let mut free: usize = 0;
     let mut i: usize = 0;
     while i < 1024 {
-        if show_or_skip(table, i, out) {
+        if show_or_skip(table, form, i, out) {
             free = more(free);
         }
         i += 1;
@@ -87,33 +99,45 @@ fn free_rows(table: &[u8], out: &mut [u8; 4096]) -> usize {
     free
 }
 
-fn show_all(table: &[u8], out: &mut [u8; 4096]) {
-    let free = free_rows(table, out);
-    let a = tool_words::number(out, 0, free as u64);
-    let b = say(out, a, b" of ");
-    let c = tool_words::number(out, b, (table.len() / table::ROW_LENGTH) as u64);
-    let d = say(out, c, b" rows free\n");
-    tool_files::print(out, d);
+// The end of the last line: the form of the table.
+fn say_form(form: u32, out: &mut [u8; 4096], at: usize) {
+    let a = say(out, at, b"form ");
+    let b = tool_words::number(out, a, form as u64);
+    let c = say(out, b, b"\n");
+    tool_files::print(out, c);
 }
 
-fn show_one(table: &[u8], op: u32, name: &[u8], out: &mut [u8; 4096]) {
-    if table::table_number(table) != 0 {
+fn show_all(table: &[u8], form: u32, out: &mut [u8; 4096]) {
+    let free = free_rows(table, form, out);
+    let rows = table.len() / tool_form::row_length(form);
+    let a = tool_words::number(out, 0, free as u64);
+    let b = say(out, a, b" of ");
+    let c = tool_words::number(out, b, rows as u64);
+    let d = say(out, c, b" rows free, ");
+    say_form(form, out, d);
+}
+
+fn show_one(table: &[u8], form: u32, op: u32, name: &[u8], out: &mut [u8; 4096]) {
+    if table::table_number(table, form) != 0 {
         return;
     }
-    if table::number_for(table, op) != 0 {
+    if table::number_for(table, form, op) != 0 {
         tool_files::refuse(b"number 33: the operator is over 15");
         return;
     }
-    let found = table::lookup(table, op, name);
+    let found = table::lookup(table, form as usize, op, name);
     let RowFound::At(i) = found else {
         tool_files::refuse_word(name, b": the operator has no such subscriber");
         return;
     };
-    show_or_skip(table, i, out);
+    show_or_skip(table, form, i, out);
+    say_form(form, out, 0);
 }
 
-fn shown(path: &[u8], table: &mut [u8]) {
-    let n = tool_files::read_table(path, table);
+// What is shown of the table at a path: the subscriber that word 3 names, or all where it names none.
+fn shown(path: &[u8], said: u32, op: u32, named: bool, table: &mut [u8]) {
+    let found = tool_form::read(path, said, table);
+    let n = found.length;
     if n < 1 {
         return;
     }
@@ -121,21 +145,40 @@ fn shown(path: &[u8], table: &mut [u8]) {
         return;
     }
     let mut out = [0u8; 4096];
-    if os::arg_count() < 4 {
-        show_all(&table[0..n], &mut out);
+    if !named {
+        show_all(&table[0..n], found.form, &mut out);
         return;
     }
-    let said = tool_operator::only(4);
+    let mut name = io::buffer();
+    let k = os::arg(3, &mut name);
+    show_one(&table[0..n], found.form, op, &name[..k], &mut out);
+}
+
+// Whether word 3 is there and is a name. A form may stand in its place, and then nothing stands behind it.
+fn is_named() -> bool {
+    if os::arg_count() < 4 {
+        return false;
+    }
+    if 4 < os::arg_count() {
+        return true;
+    }
+    tool_operator::find(3, b"form=") != 3
+}
+
+// TABLE [form=F], or TABLE NAME [operator=N] [form=F].
+pub fn show(table: &mut [u8]) {
+    if !tool_form::check_both(4, 5) {
+        return;
+    }
+    let said = tool_operator::operator(tool_operator::find(4, b"operator="));
     let Number::Is(op) = said else {
         return;
     };
-    let mut name = io::buffer();
-    let k = os::arg(3, &mut name);
-    show_one(&table[0..n], op, &name[..k], &mut out);
-}
-
-pub fn show(table: &mut [u8]) {
+    let word = tool_form::word(tool_operator::find(3, b"form="));
+    let Number::Is(form) = word else {
+        return;
+    };
     let mut path = io::buffer();
     let n = os::arg(2, &mut path);
-    shown(&path[..n], table);
+    shown(&path[..n], form, op, is_named(), table);
 }

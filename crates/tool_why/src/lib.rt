@@ -37,8 +37,18 @@ fn in_list(out: &mut [u8; 4096], at: usize, wrong: &[u8], slot: usize) -> usize 
     avp(out, a, slot)
 }
 
+// An AVP that stands too often. Of policies form 2 takes three, of everything else a request has one.
+fn too_many(out: &mut [u8; 4096], at: usize, slot: usize, form: u32) -> usize {
+    if slot == 13 {
+        if form == 2 {
+            return in_list(out, at, b": more than three ", slot);
+        }
+    }
+    in_list(out, at, b": more than one ", slot)
+}
+
 // Reading.
-fn reading(out: &mut [u8; 4096], at: usize, reason: Reason) -> usize {
+fn reading(out: &mut [u8; 4096], at: usize, reason: Reason, form: u32) -> usize {
     match reason {
         Reason::ReservedBits => say(out, at, b": reserved bits of the header are set"),
         Reason::ErrorBit => say(out, at, b": the E bit is set"),
@@ -55,7 +65,7 @@ fn reading(out: &mut [u8; 4096], at: usize, reason: Reason) -> usize {
         Reason::UnsupportedAvp(n) => at_byte(out, at, n, b" is not known and has M set"),
         Reason::SessionIdNotFirst => say(out, at, b": the first AVP is not Session-Id"),
         Reason::Absent(slot) => in_list(out, at, b": no ", slot),
-        Reason::Twice(slot) => in_list(out, at, b": more than one ", slot),
+        Reason::Twice(slot) => too_many(out, at, slot, form),
         Reason::WrongLength(slot) => in_list(out, at, b": wrong length of ", slot),
         Reason::WrongValue(slot) => in_list(out, at, b": wrong value of ", slot),
         _ => at,
@@ -78,16 +88,16 @@ fn deciding(out: &mut [u8; 4096], at: usize, reason: Reason) -> usize {
     }
 }
 
-// A reason belongs to one of the two.
-pub fn reason(out: &mut [u8; 4096], at: usize, reason: Reason) -> usize {
-    let a = reading(out, at, reason);
+// A reason belongs to one of the two. The form is that of the table.
+pub fn reason(out: &mut [u8; 4096], at: usize, reason: Reason, form: u32) -> usize {
+    let a = reading(out, at, reason, form);
     deciding(out, a, reason)
 }
 
 // Why a call is answered as it is. The number of one that gets no answer is said with its meaning already.
-pub fn why(out: &mut [u8; 4096], at: usize, why: Why) -> usize {
+pub fn why(out: &mut [u8; 4096], at: usize, why: Why, form: u32) -> usize {
     match why {
         Why::Unanswered(_) => at,
-        Why::Answered(r) => reason(out, at, r),
+        Why::Answered(r) => reason(out, at, r, form),
     }
 }

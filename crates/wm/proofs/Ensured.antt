@@ -10,6 +10,7 @@ use borrow.Fn.Kinds.{Dens, endedOf}
 use Rattle.setup.proofs.clear.Reads as Clearing
 use Rattle.setup.proofs.enter.Reads as Entering
 use Rattle.setup.proofs.add.Reads as Adding
+use Rattle.moving.proofs.move_table.Reads as Moving
 use Rattle.report.proofs.count.Reads as Counting
 use Rattle.report.proofs.add.Reads as AddingReports
 use Rattle.report.proofs.rate.Reads as Rating
@@ -27,6 +28,8 @@ use Rattle.wm.proofs.wm_enter.Kinds as Enter
 use Rattle.wm.proofs.wm_enter.Reads as WmEnter
 use Rattle.wm.proofs.wm_add.Kinds as Add
 use Rattle.wm.proofs.wm_add.Reads as WmAdd
+use Rattle.wm.proofs.wm_move.Kinds as Move
+use Rattle.wm.proofs.wm_move.Reads as WmMove
 use Rattle.wm.proofs.wm_handle.Kinds as Handle
 use Rattle.wm.proofs.wm_handle.Reads as Handling
 use Rattle.wm.proofs.wm_report_count.Kinds as ReportCount
@@ -45,18 +48,18 @@ use Rattle.wm.proofs.wm_screens_connected.Kinds as ScreensConnected
 use Rattle.wm.proofs.wm_screens_connected.Reads as WmScreensConnected
 use Rattle.wm.proofs.NoSecondAnswer.{one-answer-in-c}
 
--- table, operator, host, realm, message, wag, answer, notice
+-- table, form, operator, host, realm, message, wag, answer, notice
 module _ (κs : Lfts 6) (a : Dens κs Handle.ps) where
   abbrev After : Type 0
   After = AtExit (endedOf 6 Handle.ps Handle.r) κs
 
   abbrev given : WmOutcome → After → GivenInC
-  given o x = record { outcome = o; table = now (x .0); answer = now (x .1 .1 .1 .1 .1 .1 .0); notice = now (x .1 .1 .1 .1 .1 .1 .1 .0) }
+  given o x = record { outcome = o; table = now (x .0); answer = now (x .1 .1 .1 .1 .1 .1 .1 .0); notice = now (x .1 .1 .1 .1 .1 .1 .1 .1 .0) }
 
   pub handle-gives-one : (o p : WmOutcome) (x y : After) → Handling.Learnt κs a o x → Handling.Learnt κs a p y → given o x ≡ given p y
   handle-gives-one o p x y =
-      one-answer-in-c (now (a .0)) (a .1 .0) (now (a .1 .1 .0)) (now (a .1 .1 .1 .0)) (now (a .1 .1 .1 .1 .0)) (a .1 .1 .1 .1 .1 .0) (now (a .1 .1 .1 .1 .1 .1 .0))
-      (now (a .1 .1 .1 .1 .1 .1 .1 .0)) (given o x) (given p y)
+      one-answer-in-c (a .1 .0) (now (a .0)) (a .1 .1 .0) (now (a .1 .1 .1 .0)) (now (a .1 .1 .1 .1 .0)) (now (a .1 .1 .1 .1 .1 .0)) (a .1 .1 .1 .1 .1 .1 .0) (now (a .1 .1 .1 .1 .1 .1 .1 .0))
+      (now (a .1 .1 .1 .1 .1 .1 .1 .1 .0)) (given o x) (given p y)
 
 -- SET-UP: each ensures what the operation of `setup` does, word for word.
 
@@ -68,6 +71,9 @@ enter-as-set-up κs a n x e = e
 
 pub add-as-set-up : (κs : Lfts 3) (a : Dens κs Add.ps) (n : ℕ) (x : AtExit (endedOf 3 Add.ps Add.r) κs) → WmAdd.Learnt κs a n x → Adding.Learnt κs a n x
 add-as-set-up κs a n x e = e
+
+pub move-as-moving : (κs : Lfts 2) (a : Dens κs Move.ps) (n : ℕ) (x : AtExit (endedOf 2 Move.ps Move.r) κs) → WmMove.Learnt κs a n x → Moving.Learnt κs a n x
+move-as-moving κs a n x e = e
 
 -- THE REPORT: each ensures what the operation of `report` does, word for word, so that `Rattle.report` has its "no second answer" too.
 

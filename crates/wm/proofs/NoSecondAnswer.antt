@@ -1,5 +1,7 @@
 -- No second answer in C: all that was given back can be read back from all that was left, so that what is equal there was equal before.
 use mathlib.Core.Path.{_≡_, refl, sym, ap, _∙_}
+use Prim.Native.Nat.{ℕ}
+use Rattle.table.specs.Answers.{lent}
 use Rattle.rules.specs.Calls.{Left, Result}
 use Rattle.wm.specs.InC.{leavesInC, saidInC}
 use Rattle.wm.specs.NoSecondAnswer.{GivenInC, OneAnswerInC}
@@ -17,17 +19,17 @@ givenBack l =
         session = r .cutSession;
         host = r .cutHost;
       };
-      table = l .table;
+      table = l .table .bytes;
       answer = l .reply .answer;
       notice = l .reply .notice;
     }
 
-given-back : (g : GivenInC) → givenBack (leavesInC (g .outcome) (g .table) (g .answer) (g .notice)) ≡ g
+given-back : (form : ℕ) (g : GivenInC) → givenBack (leavesInC (g .outcome) (lent form (g .table)) (g .answer) (g .notice)) ≡ g
 unfolding givenBack leavesInC saidInC
-given-back g = refl
+given-back form g = refl
 
-one-given : (g h : GivenInC) → leavesInC (g .outcome) (g .table) (g .answer) (g .notice) ≡ leavesInC (h .outcome) (h .table) (h .answer) (h .notice) → g ≡ h
-one-given g h e = sym (given-back g) ∙ ap givenBack e ∙ given-back h
+one-given : (form : ℕ) (g h : GivenInC) → leavesInC (g .outcome) (lent form (g .table)) (g .answer) (g .notice) ≡ leavesInC (h .outcome) (lent form (h .table)) (h .answer) (h .notice) → g ≡ h
+one-given form g h e = sym (given-back form g) ∙ ap givenBack e ∙ given-back form h
 
 pub one-answer-in-c : OneAnswerInC
-one-answer-in-c table operator host realm message wag answer notice g h p q = one-given g h (p ∙ sym q)
+one-answer-in-c form table operator host realm message wag answer notice g h p q = one-given form g h (p ∙ sym q)

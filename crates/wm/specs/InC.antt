@@ -1,6 +1,7 @@
 -- What the C interface returns, in the paper's numbers.
 use mathlib.Core.List.{List}
 use Prim.Native.Nat.{ℕ, _<_}
+use Rattle.table.specs.TheTable.{Table}
 use Rattle.rules.specs.Calls.{Left, Result}
 use Rattle.wm.specs.declared.WmOutcome.{WmOutcome}
 
@@ -24,5 +25,5 @@ saidInC o =
       cutHost = o .host;
     }
 
-unfoldable pub leavesInC : WmOutcome → (table answer notice : List ℕ) → Left
+unfoldable pub leavesInC : WmOutcome → (table : Table) → (answer notice : List ℕ) → Left
 leavesInC o table answer notice = record { reply = record { result = saidInC o; answer = answer; notice = notice }; table = table }

@@ -5,6 +5,7 @@ use mathlib.Core.Path.{_≡_}
 use mathlib.Core.Bool.{Bool}
 use mathlib.Core.List.{List}
 use Prim.Native.Nat.{ℕ}
+use Rattle.table.specs.Answers.{lent}
 use Rattle.rules.specs.Calls.{handle}
 use Rattle.decision.specs.Outcomes.{callOf}
 use Rattle.wm.specs.declared.WmOutcome.{WmOutcome}
@@ -18,13 +19,13 @@ pub record GivenInC : Type 0 where
   pub notice : List ℕ
 
 -- What `wm_handle` ensures of that.
-abbrev pub PromisedInC : (table : List ℕ) → (operator : ℕ) → (host realm message : List ℕ) → (wag : Bool) → (answer notice : List ℕ) → GivenInC → Type 0
-PromisedInC table operator host realm message wag answer notice g =
-    leavesInC (g .outcome) (g .table) (g .answer) (g .notice) ≡ handle table (callOf operator message host realm answer notice wag)
+abbrev pub PromisedInC : (form : ℕ) → (table : List ℕ) → (operator : ℕ) → (host realm message : List ℕ) → (wag : Bool) → (answer notice : List ℕ) → GivenInC → Type 0
+PromisedInC form table operator host realm message wag answer notice g =
+    leavesInC (g .outcome) (lent form (g .table)) (g .answer) (g .notice) ≡ handle (lent form table) (callOf operator message host realm answer notice wag)
 
 abbrev pub OneAnswerInC : Type 0
 OneAnswerInC =
-    (table : List ℕ) (operator : ℕ) (host realm message : List ℕ) (wag : Bool) (answer notice : List ℕ) (g h : GivenInC)
-    → PromisedInC table operator host realm message wag answer notice g
-    → PromisedInC table operator host realm message wag answer notice h
+    (form : ℕ) (table : List ℕ) (operator : ℕ) (host realm message : List ℕ) (wag : Bool) (answer notice : List ℕ) (g h : GivenInC)
+    → PromisedInC form table operator host realm message wag answer notice g
+    → PromisedInC form table operator host realm message wag answer notice h
     → g ≡ h

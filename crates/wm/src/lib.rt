@@ -1,4 +1,4 @@
-// The server for C: the four operations under their C names (include/wm.h), and those of the report and of the screen board.
+// The server for C: its operations under their C names (include/wm.h), and those of the report and of the screen board.
 use decision::Outcome;
 use effects::Cut;
 use message::Kind;
@@ -8,7 +8,9 @@ ghost use mathlib.Core.Path.{_≡_};
 ghost use Prim.Native.Nat.{ℕ, _<_};
 ghost use Rattle.message.specs.Codes.{kindOf};
 ghost use Rattle.message.specs.Kinds.{codeFrom};
+ghost use Rattle.table.specs.Answers.{lent};
 ghost use Rattle.setup.specs.SetUp.{left, clear, enter, add};
+ghost use Rattle.moving.specs.Moving.{move};
 ghost use Rattle.rules.specs.Calls.{handle};
 ghost use Rattle.decision.specs.Outcomes.{callOf, cutHost, cutMade, cutSession, resultSaid};
 ghost use Rattle.report.specs.TheReport.{count, add as addReport};
@@ -22,34 +24,45 @@ ghost use Rattle.wm.specs.InC.{leavesInC, saidInC, In32};
 
 // Every byte of the table zero.
 #[no_mangle]
-pub extern "C" fn wm_clear(table: &mut [u8]) -> u32
-    ensures { λ r. ⌜ left r (now (table .exit)) ≡ clear (now (table .entry)) ⌝ }
+pub extern "C" fn wm_clear(table: &mut [u8], form: u32) -> u32
+    ensures { λ r. ⌜ left r (lent form (now (table .exit))) ≡ clear (lent form (now (table .entry))) ⌝ }
 {
-    setup::clear(table)
+    setup::clear(table, form)
 }
 
 // A subscriber of that operator and name, in the first row that is wholly zero, if the operator's share has room.
 #[no_mangle]
-pub extern "C" fn wm_enter(table: &mut [u8], op: u32, shares: &[u32], name: &[u8]) -> u32
-    ensures { λ r. ⌜ left r (now (table .exit)) ≡ enter (now (table .entry)) (now (shares .entry)) (record { operator = op; name = now (name .entry) }) ⌝ }
+pub extern "C" fn wm_enter(table: &mut [u8], form: u32, op: u32, shares: &[u32], name: &[u8]) -> u32
+    ensures { λ r. ⌜ left r (lent form (now (table .exit))) ≡ enter (lent form (now (table .entry))) (now (shares .entry)) (record { operator = op; name = now (name .entry) }) ⌝ }
 {
-    setup::enter(table, op, shares, name)
+    setup::enter(table, form, op, shares, name)
 }
 
 // An access point name for the subscriber of that operator and name.
 #[no_mangle]
 pub extern "C" fn wm_add(
     table: &mut [u8],
+    form: u32,
     op: u32,
     name: &[u8],
     label: &[u8],
     limit: u8,
     flags: u8,
 ) -> u32
-    ensures { λ r. ⌜ left r (now (table .exit))
-        ≡ add (now (table .entry)) (record { operator = op; name = now (name .entry) }) (record { label = now (label .entry); flags = flags; limit = limit }) ⌝ }
+    ensures { λ r. ⌜ left r (lent form (now (table .exit)))
+        ≡ add (lent form (now (table .entry))) (record { operator = op; name = now (name .entry) }) (record { label = now (label .entry); flags = flags; limit = limit }) ⌝ }
 {
-    setup::add(table, op, name, label, limit, flags)
+    setup::add(table, form, op, name, label, limit, flags)
+}
+
+// MOVING: 0, or 1, 19, 20 and 21, with which the target is as it was
+
+// The table, which has the other form, laid out in the form said, into the target.
+#[no_mangle]
+pub extern "C" fn wm_move(table: &[u8], target: &mut [u8], form: u32) -> u32
+    ensures { λ r. ⌜ record { number = r; target = now (target .exit) } ≡ move form (now (table .entry)) (now (target .entry)) ⌝ }
+{
+    moving::move_table(table, target, form)
 }
 
 // A REQUEST
@@ -133,6 +146,7 @@ fn outcome_in_c(o: Outcome) -> WmOutcome
 #[no_mangle]
 pub extern "C" fn wm_handle(
     table: &mut [u8],
+    form: u32,
     op: u32,
     host: &[u8],
     realm: &[u8],
@@ -141,10 +155,10 @@ pub extern "C" fn wm_handle(
     answer: &mut [u8],
     notice: &mut [u8],
 ) -> WmOutcome
-    ensures { λ r. ⌜ leavesInC r (now (table .exit)) (now (answer .exit)) (now (notice .exit))
-        ≡ handle (now (table .entry)) (callOf op (now (message .entry)) (now (host .entry)) (now (realm .entry)) (now (answer .entry)) (now (notice .entry)) wag) ⌝ }
+    ensures { λ r. ⌜ leavesInC r (lent form (now (table .exit))) (now (answer .exit)) (now (notice .exit))
+        ≡ handle (lent form (now (table .entry))) (callOf op (now (message .entry)) (now (host .entry)) (now (realm .entry)) (now (answer .entry)) (now (notice .entry)) wag) ⌝ }
 {
-    outcome_in_c(decision::handle(table, op, host, realm, message, wag, answer, notice))
+    outcome_in_c(decision::handle(table, form, op, host, realm, message, wag, answer, notice))
 }
 
 // THE YEAR BY HOUR: 0, or 29 and 30, with which the report is as it was

@@ -9,7 +9,7 @@ fn tables() {
     line(
         b"play                              the worked cases on a fresh table: watch a cut happen\n",
     );
-    line(b"play new TABLE ROWS               a new table of 1 to 1024 free rows\n");
+    line(b"play new TABLE ROWS [form=2]      a new table of 1 to 1024 free rows, of form 1 or 2\n");
     line(b"play enter TABLE NAME [operator=N] [shares=A,B,..]\n");
     line(
         b"                                  a subscriber, 1 to 15 digits, of that operator, 0 to 15. The shares are how\n",
@@ -24,6 +24,9 @@ fn tables() {
     line(b"play show TABLE [NAME [operator=N]]\n");
     line(
         b"                                  the subscribers, or one: labels, and accesses from the oldest on\n",
+    );
+    line(
+        b"play move TABLE TO                the table in the other form, written to TO, a new file; TABLE stays\n",
     );
 }
 
@@ -93,6 +96,19 @@ fn reports() {
     );
 }
 
+// The word that every command on a table takes.
+fn forms() {
+    line(
+        b"A command on a table takes form=1 or form=2 behind its other words, the form that the table has: rows of\n",
+    );
+    line(
+        b"4,608 bytes, or of 8,704, which hold the gateway's realm and up to three policies too. Without the word the\n",
+    );
+    line(
+        b"length of the file tells it; where that fits both forms, as 17 rows of form 1 and 9 of form 2, say it.\n",
+    );
+}
+
 // What else there is, and how files are read.
 fn rest() {
     line(
@@ -105,6 +121,7 @@ fn rest() {
         b"Messages stand back to back in their files, if it is not said that they are lines of hex; notices\n",
     );
     line(b"too, of 256 bytes each. The operator is 0 where it is not said.\n");
+    forms();
 }
 
 pub fn say() {
@@ -128,32 +145,39 @@ fn is_used(word: &[u8], name: &[u8], usage: &[u8]) -> bool {
 
 // A command that was called with too few words or too many.
 fn is_set_up(word: &[u8]) -> bool {
-    if is_used(word, b"new", b"usage: play new TABLE ROWS") {
+    if is_used(word, b"new", b"usage: play new TABLE ROWS [form=1|form=2]") {
         return true;
     }
     if is_used(
         word,
         b"enter",
-        b"usage: play enter TABLE NAME [operator=N] [shares=A,B,..]",
+        b"usage: play enter TABLE NAME [operator=N] [shares=A,B,..] [form=1|form=2]",
     ) {
         return true;
     }
     is_used(
         word,
         b"add",
-        b"usage: play add TABLE NAME LABEL LIMIT [barred] [roam] [operator=N]",
+        b"usage: play add TABLE NAME LABEL LIMIT [barred] [roam] [operator=N] [form=1|form=2]",
     )
 }
 
 // Likewise, for those that set nothing up.
 fn is_other(word: &[u8]) -> bool {
-    if is_used(word, b"show", b"usage: play show TABLE [NAME [operator=N]]") {
+    if is_used(
+        word,
+        b"show",
+        b"usage: play show TABLE [NAME [operator=N]] [form=1|form=2]",
+    ) {
+        return true;
+    }
+    if is_used(word, b"move", b"usage: play move TABLE TO [form=1|form=2]") {
         return true;
     }
     if is_used(
         word,
         b"handle",
-        b"usage: play handle TABLE REQUESTS ANSWERS NOTICES [hex] [quiet] [host=NAME] [realm=NAME] [wag=yes|wag=no|wags=FILE] [operator=N] [only=NAME] [codes=FILE]",
+        b"usage: play handle TABLE REQUESTS ANSWERS NOTICES [hex] [quiet] [host=NAME] [realm=NAME] [wag=yes|wag=no|wags=FILE] [operator=N] [only=NAME] [codes=FILE] [form=1|form=2]",
     ) {
         return true;
     }
@@ -163,11 +187,15 @@ fn is_other(word: &[u8]) -> bool {
     if is_used(
         word,
         b"report",
-        b"usage: play report new|count|add|show|draw REPORT [TABLE REQUESTS HOURS [operator=N]|OTHER]",
+        b"usage: play report new|count|add|show|draw REPORT [TABLE REQUESTS HOURS [operator=N] [form=1|form=2]|OTHER]",
     ) {
         return true;
     }
-    is_used(word, b"board", b"usage: play board SCREENS TABLE REQUESTS")
+    is_used(
+        word,
+        b"board",
+        b"usage: play board SCREENS TABLE REQUESTS [form=1|form=2]",
+    )
 }
 
 // What was meant can not be done with these words.

@@ -3,7 +3,7 @@
 use oracle::handling::{Call, handle, no_answer};
 use oracle::reading_a_message::*;
 use oracle::rules::Rules;
-use oracle::set_up::{NewEntry, add, may_add, name_fits};
+use oracle::set_up::{NewEntry, add, form_lent, may_add, name_fits};
 use oracle::the_table::*;
 use oracle::writing_the_answer::*;
 use oracle::{Code, Outcome, SUCCESS, plain};
@@ -86,15 +86,17 @@ pub fn programs() -> Vec<Wrong> {
         "takes every failure for a Result-Code": handle = |r, call| then(r, call, |o| {
             if let Code::Experimental(n) = o.code { o.code = plain(n) }
         });
-        "takes a table of any number of rows": table_fits = |t| {
-            !t.is_empty() && t.len().is_multiple_of(ROW)
+        "takes a table of any number of rows": table_fits = |form, t| {
+            !t.is_empty() && t.len().is_multiple_of(form.row())
         };
-        "takes an empty table": table_fits = |t| {
-            t.len().is_multiple_of(ROW) && t.len() <= MOST_ROWS * ROW
+        "takes an empty table": table_fits = |form, t| {
+            t.len().is_multiple_of(form.row()) && t.len() <= MOST_ROWS * form.row()
         };
-        "takes a table with a rest": table_fits = |t| (1..=MOST_ROWS).contains(&(t.len() / ROW));
-        "takes at most 1,023 rows": table_fits = |t| {
-            t.len().is_multiple_of(ROW) && (1..MOST_ROWS).contains(&(t.len() / ROW))
+        "takes a table with a rest": table_fits = |form, t| {
+            (1..=MOST_ROWS).contains(&(t.len() / form.row()))
+        };
+        "takes at most 1,023 rows": table_fits = |form, t| {
+            t.len().is_multiple_of(form.row()) && (1..MOST_ROWS).contains(&(t.len() / form.row()))
         };
         "tests the rooms before the names": no_answer = |r, call| {
             match no_answer(r, call) {
@@ -127,30 +129,32 @@ pub fn programs() -> Vec<Wrong> {
         };
     };
     all.extend(wrong! {
-        "clears row by row only what is used": clear = |_, table| {
-            if !(RIGHT.table_fits)(table) { return 1 }
-            table.chunks_mut(ROW).filter(|row| row[0] == 1).for_each(|row| row.fill(0));
+        "clears row by row only what is used": clear = |r, said, table| {
+            let Some(form) = form_lent(r, said, table) else { return 1 };
+            table.chunks_mut(form.row()).filter(|row| row[0] == 1).for_each(|row| row.fill(0));
             0
         };
         "a row is free if its first byte is zero": row_is_free = |row| row[0] == 0;
-        "enters a name that an unsound row holds": enter = |r, table, new| {
-            let held = (r.find)(r, table, new.operator, new.name);
-            let free = held.is_some_and(|i| sound(r, row_at(table, i)).is_none());
-            let other = Rules { find: |_, _, _, _| None, ..RIGHT };
-            if free { (RIGHT.enter)(&other, table, new) } else { (RIGHT.enter)(&RIGHT, table, new) }
+        "enters a name that an unsound row holds": enter = |r, said, table, new| {
+            let form = form_lent(r, said, table);
+            let held = form.and_then(|form| (r.find)(r, form, table, new.operator, new.name).map(|i| (form, i)));
+            let free = held.is_some_and(|(form, i)| sound(r, form, row_at(form, table, i)).is_none());
+            let other = Rules { find: |_, _, _, _, _| None, ..RIGHT };
+            let rules = if free { &other } else { &RIGHT };
+            (RIGHT.enter)(rules, said, table, new)
         };
-        "enters names of any characters": enter = |_, table, new| {
-            match (RIGHT.enter)(&RIGHT, table, new) {
+        "enters names of any characters": enter = |_, said, table, new| {
+            match (RIGHT.enter)(&RIGHT, said, table, new) {
                 9 if (1..=15).contains(&new.name.len()) => 11,
                 number => number,
             }
         };
-        "tests the name on adding a W-APN": add = |r, table, operator, name, new| {
-            match add(r, table, operator, name, new) { 12 if !name_fits(name) => 9, number => number }
+        "tests the name on adding a W-APN": add = |r, said, table, of, new| {
+            match add(r, said, table, of, new) { 12 if !name_fits(of.name) => 9, number => number }
         };
-        "tests the new entry before the row": add = |r, table, operator, name, new| {
+        "tests the new entry before the row": add = |r, said, table, of, new| {
             let bad = may_add(&Row::default(), new) == 14;
-            match add(r, table, operator, name, new) { 12 | 13 if bad => 14, number => number }
+            match add(r, said, table, of, new) { 12 | 13 if bad => 14, number => number }
         };
         "tests the sum before the count": may_add = |row, new| match may_add(row, new) {
             16 if limit_sum(row) + u32::from(new.limit) > 8 => 17,

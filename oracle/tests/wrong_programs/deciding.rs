@@ -121,7 +121,7 @@ pub fn programs() -> Vec<Wrong> {
             let old = row.clone();
             take_policy(row, q, wag)?;
             for (new, old) in row.places.iter_mut().flatten().zip(old.places.iter().flatten()) {
-                new.policy = old.policy.clone().or(new.policy.take());
+                new.policies[0] = old.policies[0].clone().or(new.policies[0].take());
             }
             Ok(())
         };
@@ -184,6 +184,7 @@ pub fn programs() -> Vec<Wrong> {
 
 fn row_asked_about(call: &Call) -> Option<Row> {
     let name = asked_about(call.message, USER_NAME);
-    let index = find(call.table, call.operator, &name)?;
-    decode(row_at(call.table, index))
+    let form = Form::numbered(call.form)?;
+    let index = find(form, call.table, call.operator, &name)?;
+    decode(form, row_at(form, call.table, index))
 }

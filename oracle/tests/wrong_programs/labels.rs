@@ -131,9 +131,9 @@ pub fn programs() -> Vec<Wrong> {
         "folds letters over 7F on adding": may_add = |row, new| may_add_by(row, new, |a, b| {
             folded(a, b, |x| if x >= 0xC0 { x | 0x20 } else { x.to_ascii_lowercase() })
         });
-        "stores the folded label": add = |r, table, operator, name, new| {
+        "stores the folded label": add = |r, said, table, of, new| {
             let label = new.label.to_ascii_lowercase();
-            add(r, table, operator, name, &NewEntry { label: &label, ..*new })
+            add(r, said, table, of, &NewEntry { label: &label, ..*new })
         };
         "compares Session-Ids in any case on opening": may_open = |row, q| {
             may_open(&session_in_any_case(row, q), q)
@@ -146,10 +146,10 @@ pub fn programs() -> Vec<Wrong> {
             *row = session_in_any_case(row, q);
             terminate(row, q)
         };
-        "compares names in any case": find = |_, table, operator, name| {
+        "compares names in any case": find = |_, form, table, operator, name| {
             let same = |row: &[u8]| is_of(row, operator) && row[NAME..][..name.len()].eq_ignore_ascii_case(name);
             let bears_it = |row: &[u8]| row[0] == 1 && usize::from(row[1]) == name.len() && same(row);
-            (1..=15).contains(&name.len()).then(|| table.chunks_exact(ROW).position(bears_it))?
+            (1..=15).contains(&name.len()).then(|| rows(form, table).position(bears_it))?
         };
     }
 }

@@ -3,14 +3,15 @@
 use oracle::handling::handle;
 use oracle::reading_a_message::*;
 use oracle::rules::Rules;
+use oracle::the_table::Form;
 use oracle::{Code, plain};
 
 use crate::calls::same_code_for_all;
 use crate::{RIGHT, Wrong, asked_about};
 
 /// The right list with one field changed.
-fn with_field(command: u32, name: Name, change: impl Fn(&mut Field)) -> Vec<Field> {
-    let mut fields = list(command);
+fn with_field(form: Form, command: u32, name: Name, change: impl Fn(&mut Field)) -> Vec<Field> {
+    let mut fields = list(form, command);
     fields
         .iter_mut()
         .filter(|f| f.name == name)
@@ -18,44 +19,49 @@ fn with_field(command: u32, name: Name, change: impl Fn(&mut Field)) -> Vec<Fiel
     fields
 }
 
-fn without(command: u32, name: Name) -> Vec<Field> {
-    let mut fields = list(command);
+fn without(form: Form, command: u32, name: Name) -> Vec<Field> {
+    let mut fields = list(form, command);
     fields.retain(|f| f.name != name);
     fields
 }
 
-/// Takes the first copy, with the test for a second one left out or put last.
+/// Takes as many copies as may be, with the test for one more left out or put last.
 fn once<'m>(
     rules: &Rules,
     avps: &[Avp<'m>],
     field: &Field,
     late: bool,
-) -> Result<Option<&'m [u8]>, Code> {
-    let copies = copies(rules, avps, field);
-    let Some(value) = copies.first() else {
-        return Ok(None);
-    };
-    length_and_value(value, field.form)?;
-    if late && copies.len() > 1 {
+) -> Result<Vec<&'m [u8]>, Code> {
+    let mut copies = copies(rules, avps, field);
+    for value in copies.iter().take(field.most) {
+        length_and_value(value, field.form)?;
+    }
+    if late && copies.len() > field.most {
         return Err(plain(5009));
     }
-    Ok(Some(value))
+    copies.truncate(field.most);
+    Ok(copies)
 }
 
 /// Looks for missing AVPs in the whole list before it looks at any value.
-fn test_by_test<'m>(rules: &Rules, command: u32, avps: &[Avp<'m>]) -> Result<Request<'m>, Code> {
-    for field in list(command) {
+fn test_by_test<'m>(
+    rules: &Rules,
+    form: Form,
+    command: u32,
+    avps: &[Avp<'m>],
+) -> Result<Request<'m>, Code> {
+    for field in list(form, command) {
         let needed = matches!(field.needed, Needed::Always | Needed::First);
         if needed && copies(rules, avps, &field).is_empty() {
             return Err(plain(5005));
         }
     }
-    read_list(rules, command, avps)
+    read_list(rules, form, command, avps)
 }
 
 /// The list of one command with the field at this index and the next one exchanged.
-fn swapped<const COMMAND: u32, const AT: usize>(command: u32) -> Vec<Field> {
-    let mut fields = list(command);
+fn swapped<const COMMAND: u32, const AT: usize>(form: Form, command: u32) -> Vec<Field> {
+    let mut fields = list(form, command);
     if command == COMMAND {
         fields.swap(AT, AT + 1);
     }
@@ -92,8 +98,8 @@ pub fn programs() -> Vec<Wrong> {
         "tests for a second copy after the length": read_field = |r, avps, f| once(r, avps, f, true);
         "does not test for a second copy": read_field = |r, avps, f| once(r, avps, f, false);
         "looks for missing AVPs first": read_list = test_by_test;
-        "takes a Session-Id anywhere": list = |c| {
-            with_field(c, SESSION_ID, |f| f.needed = Needed::Always)
+        "takes a Session-Id anywhere": list = |form, c| {
+            with_field(form, c, SESSION_ID, |f| f.needed = Needed::Always)
         };
         "takes a second Session-Id": read_field = |r, avps, f| {
             once(r, avps, f, true).or_else(|code| match f.name {
@@ -108,58 +114,58 @@ pub fn programs() -> Vec<Wrong> {
             let twice = avps.iter().filter(|a| is(a, SESSION_ID)).count() > 1;
             if twice && f.name == SESSION_ID { Err(plain(5009)) } else { read_field(r, avps, f) }
         };
-        "wants the W-APN in type 1": list = |c| with_field(c, W_APN, |f| f.needed = Needed::Always);
-        "does not want the W-APN in type 0": list = |c| {
-            with_field(c, W_APN, |f| if c == AA { f.needed = Needed::Never })
+        "wants the W-APN in type 1": list = |form, c| with_field(form, c, W_APN, |f| f.needed = Needed::Always);
+        "does not want the W-APN in type 0": list = |form, c| {
+            with_field(form, c, W_APN, |f| if c == AA { f.needed = Needed::Never })
         };
-        "wants the policy in type 0": list = |c| {
-            with_field(c, ROUTING_POLICY, |f| f.needed = Needed::Always)
+        "wants the policy in type 0": list = |form, c| {
+            with_field(form, c, ROUTING_POLICY, |f| f.needed = Needed::Always)
         };
-        "does not want the policy in type 1": list = |c| {
-            with_field(c, ROUTING_POLICY, |f| f.needed = Needed::Never)
+        "does not want the policy in type 1": list = |form, c| {
+            with_field(form, c, ROUTING_POLICY, |f| f.needed = Needed::Never)
         };
-        "wants the visited network": list = |c| {
-            with_field(c, VISITED_NETWORK, |f| f.needed = Needed::Always)
+        "wants the visited network": list = |form, c| {
+            with_field(form, c, VISITED_NETWORK, |f| f.needed = Needed::Always)
         };
-        "does not look at the visited network in type 1": read_list = |r, command, avps| {
-            let other = Rules { list: |c| without(c, VISITED_NETWORK), ..*r };
+        "does not look at the visited network in type 1": read_list = |r, form, command, avps| {
+            let other = Rules { list: |form, c| without(form, c, VISITED_NETWORK), ..*r };
             let type_1 = |a: &Avp| is(a, SESSION_REQUEST_TYPE) && number(a.value) == 1;
             let rules = if avps.iter().any(type_1) { &other } else { r };
-            read_list(rules, command, avps)
+            read_list(rules, form, command, avps)
         };
-        "does not look at the policy in type 0": read_list = |r, command, avps| {
-            let other = Rules { list: |c| without(c, ROUTING_POLICY), ..*r };
+        "does not look at the policy in type 0": read_list = |r, form, command, avps| {
+            let other = Rules { list: |form, c| without(form, c, ROUTING_POLICY), ..*r };
             let type_0 = |a: &Avp| is(a, SESSION_REQUEST_TYPE) && number(a.value) == 0;
             let rules = if avps.iter().any(type_0) { &other } else { r };
-            read_list(rules, command, avps)
+            read_list(rules, form, command, avps)
         };
-        "labels may have 128 bytes": list = |c| with_field(c, W_APN, |f| f.form = Form::Text(128));
-        "texts may have 129 bytes": list = |c| {
-            with_field(c, SESSION_ID, |f| f.form = Form::Text(129))
+        "labels may have 128 bytes": list = |form, c| with_field(form, c, W_APN, |f| f.form = ValueForm::Text(128));
+        "texts may have 129 bytes": list = |form, c| {
+            with_field(form, c, SESSION_ID, |f| f.form = ValueForm::Text(129))
         };
-        "texts may have 127 bytes": list = |c| {
-            with_field(c, ORIGIN_HOST, |f| f.form = Form::Text(127))
+        "texts may have 127 bytes": list = |form, c| {
+            with_field(form, c, ORIGIN_HOST, |f| f.form = ValueForm::Text(127))
         };
-        "User-Name may have 15 bytes": list = |c| with_field(c, USER_NAME, |f| f.form = Form::Text(15));
+        "User-Name may have 15 bytes": list = |form, c| with_field(form, c, USER_NAME, |f| f.form = ValueForm::Text(15));
     };
     all.extend(wrong! {
-        "Session-Request-Type may be 2": list = |c| {
-            with_field(c, SESSION_REQUEST_TYPE, |f| f.form = Form::Number(0, 2))
+        "Session-Request-Type may be 2": list = |form, c| {
+            with_field(form, c, SESSION_REQUEST_TYPE, |f| f.form = ValueForm::Number(0, 2))
         };
-        "Termination-Cause may be 0": list = |c| {
-            with_field(c, TERMINATION_CAUSE, |f| f.form = Form::Number(0, 8))
+        "Termination-Cause may be 0": list = |form, c| {
+            with_field(form, c, TERMINATION_CAUSE, |f| f.form = ValueForm::Number(0, 8))
         };
-        "Termination-Cause may be 9": list = |c| {
-            with_field(c, TERMINATION_CAUSE, |f| f.form = Form::Number(1, 9))
+        "Termination-Cause may be 9": list = |form, c| {
+            with_field(form, c, TERMINATION_CAUSE, |f| f.form = ValueForm::Number(1, 9))
         };
-        "Auth-Request-Type may be 3": list = |c| {
-            with_field(c, AUTH_REQUEST_TYPE, |f| f.form = Form::Number(2, 3))
+        "Auth-Request-Type may be 3": list = |form, c| {
+            with_field(form, c, AUTH_REQUEST_TYPE, |f| f.form = ValueForm::Number(2, 3))
         };
-        "Auth-Application-Id may be 0 for 275": list = |c| {
-            with_field(c, AUTH_APPLICATION_ID, |f| if c == TERMINATION { f.form = Form::Number(0, 1) })
+        "Auth-Application-Id may be 0 for 275": list = |form, c| {
+            with_field(form, c, AUTH_APPLICATION_ID, |f| if c == TERMINATION { f.form = ValueForm::Number(0, 1) })
         };
-        "wants no Destination-Host": list = |c| {
-            with_field(c, DESTINATION_HOST, |f| f.needed = Needed::Never)
+        "wants no Destination-Host": list = |form, c| {
+            with_field(form, c, DESTINATION_HOST, |f| f.needed = Needed::Never)
         };
         "compares Destination-Realm with its own": handle = |r, call| {
             let strange = asked_about(call.message, DESTINATION_REALM) != call.realm;
@@ -169,26 +175,26 @@ pub fn programs() -> Vec<Wrong> {
             let strange = asked_about(call.message, DESTINATION_HOST) != call.host;
             if strange { same_code_for_all(r, call, plain(3002)) } else { handle(r, call) }
         };
-        "tests the type in 275 too": list = |c| {
-            let kind = list(AA).into_iter().filter(|f| f.name == SESSION_REQUEST_TYPE);
+        "tests the type in 275 too": list = |form, c| {
+            let kind = list(form, AA).into_iter().filter(|f| f.name == SESSION_REQUEST_TYPE);
             let kind = kind.map(|f| Field { needed: Needed::Never, ..f });
-            list(c).into_iter().chain(kind.filter(|_| c == TERMINATION)).collect()
+            list(form, c).into_iter().chain(kind.filter(|_| c == TERMINATION)).collect()
         };
-        "tests the cause in 265 too": list = |c| {
-            let cause = list(TERMINATION).into_iter().filter(|f| f.name == TERMINATION_CAUSE);
+        "tests the cause in 265 too": list = |form, c| {
+            let cause = list(form, TERMINATION).into_iter().filter(|f| f.name == TERMINATION_CAUSE);
             let cause = cause.map(|f| Field { needed: Needed::Never, ..f });
-            list(c).into_iter().chain(cause.filter(|_| c == AA)).collect()
+            list(form, c).into_iter().chain(cause.filter(|_| c == AA)).collect()
         };
         "wants printable texts": read_field = |r, avps, f| {
-            let value = read_field(r, avps, f)?;
-            let printable = value.is_none_or(|v| v.iter().all(u8::is_ascii_graphic));
-            let text = matches!(f.form, Form::Text(_));
-            if text && !printable { Err(plain(5004)) } else { Ok(value) }
+            let values = read_field(r, avps, f)?;
+            let printable = values.iter().all(|v| v.iter().all(u8::is_ascii_graphic));
+            let text = matches!(f.form, ValueForm::Text(_));
+            if text && !printable { Err(plain(5004)) } else { Ok(values) }
         };
         "gives 5004 for a User-Name of no digits": read_field = |r, avps, f| {
-            let value = read_field(r, avps, f)?;
-            let digits = value.is_none_or(|v| v.len() <= 15 && v.iter().all(u8::is_ascii_digit));
-            if f.name == USER_NAME && !digits { Err(plain(5004)) } else { Ok(value) }
+            let values = read_field(r, avps, f)?;
+            let digits = values.iter().all(|v| v.len() <= 15 && v.iter().all(u8::is_ascii_digit));
+            if f.name == USER_NAME && !digits { Err(plain(5004)) } else { Ok(values) }
         };
         "gives 5004 for a wrong length": read_field = |r, avps, f| {
             read_field(r, avps, f).map_err(|code| if code == plain(5014) { plain(5004) } else { code })

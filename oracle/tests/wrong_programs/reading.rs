@@ -61,9 +61,9 @@ pub fn programs() -> Vec<Wrong> {
             _ => header_tests(h),
         };
         "does not look at the application": header_tests = |h| header_tests(&with_application(h, 1));
-        "tests the header after the walk": header_tests = |_| Ok(()), read_list = |r, command, avps| {
+        "tests the header after the walk": header_tests = |_| Ok(()), read_list = |r, form, command, avps| {
             if command != AA && command != TERMINATION { return Err(plain(3001)) }
-            read_list(r, command, avps)
+            read_list(r, form, command, avps)
         };
         "counts padding in the length": walk_tests = padding_in_the_value;
         "steps on without padding": walk_tests = no_padding;
@@ -137,12 +137,12 @@ fn of_known_avps() -> Vec<Wrong> {
         "refuses an unknown AVP without M": supported = |avp| {
             supported(&Avp { mandatory: true, ..*avp })
         };
-        "refuses an unknown AVP only behind the whole walk": supported = |_| Ok(()), read_list = |r, command, avps| {
+        "refuses an unknown AVP only behind the whole walk": supported = |_| Ok(()), read_list = |r, form, command, avps| {
             avps.iter().try_for_each(supported)?;
-            read_list(r, command, avps)
+            read_list(r, form, command, avps)
         };
-        "refuses an unknown AVP only behind the lists": supported = |_| Ok(()), read_list = |r, command, avps| {
-            let request = read_list(r, command, avps)?;
+        "refuses an unknown AVP only behind the lists": supported = |_| Ok(()), read_list = |r, form, command, avps| {
+            let request = read_list(r, form, command, avps)?;
             avps.iter().try_for_each(supported)?;
             Ok(request)
         };
@@ -157,9 +157,9 @@ fn of_known_avps() -> Vec<Wrong> {
         "gives an Experimental-Result for an unknown AVP": supported = |avp| {
             supported(avp).map_err(|_| oracle::experimental(5001))
         };
-        "lets the first AVP be unknown": supported = |_| Ok(()), read_list = |r, command, avps| {
+        "lets the first AVP be unknown": supported = |_| Ok(()), read_list = |r, form, command, avps| {
             avps.iter().skip(1).try_for_each(supported)?;
-            read_list(r, command, avps)
+            read_list(r, form, command, avps)
         };
         "knows every AVP by its code alone": supported = |avp| {
             let base = supported(&Avp { vendor: None, ..*avp });
@@ -189,11 +189,11 @@ fn of_known_avps() -> Vec<Wrong> {
             896 => Ok(()),
             _ => supported(avp),
         };
-        "knows the AA-Request's AVPs only in a 265": supported = |_| Ok(()), read_list = |r, command, avps| {
+        "knows the AA-Request's AVPs only in a 265": supported = |_| Ok(()), read_list = |r, form, command, avps| {
             let foreign = |avp: &&Avp| command == TERMINATION && AA_REQUEST.contains(&avp.code) && avp.vendor.is_none();
             match avps.iter().find(|avp| avp.mandatory && foreign(avp)) {
                 Some(_) => Err(plain(5001)),
-                None => avps.iter().try_for_each(supported).and_then(|_| read_list(r, command, avps)),
+                None => avps.iter().try_for_each(supported).and_then(|_| read_list(r, form, command, avps)),
             }
         };
     }

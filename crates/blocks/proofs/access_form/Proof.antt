@@ -3,7 +3,6 @@ use lib.ListN.{getD}
 use borrow.Author.Needs.{needs}
 use borrow.Author.Tests.{le-leb, lt-leb}
 use Rattle.table.proofs.Tests.{access-parts, fails, lengths-fit, passes-on}
-use Rattle.table.proofs.Good.{fit}
 use Rattle.blocks.proofs.access_form.Statement.{statement}
 use Rattle.blocks.proofs.access_form.Tie as tie
 

@@ -7,7 +7,6 @@ use borrow.Author.Needs.{needs}
 use Rattle.octets.specs.Choice.{pick, within}
 use Rattle.blocks.specs.RowTests.{accessSound}
 use Rattle.table.proofs.Tests.{fails, passes-on}
-use Rattle.table.proofs.Form.{access-form}
 use Rattle.blocks.proofs.access_sound.Statement.{statement}
 use Rattle.blocks.proofs.access_sound.Tie as tie
 

@@ -3,6 +3,7 @@ use mathlib.Core.Path.{_∙_, sym}
 use lib.ListN.{getD}
 use borrow.Author.Needs.{needs}
 use borrow.Author.Tests.{eq-eqb, ne-eqb}
+use Rattle.table.specs.Soundness.{sumsAgree}
 use Rattle.table.proofs.Tests.{two-bytes}
 use Rattle.blocks.proofs.block_sums_agree.Statement.{statement}
 use Rattle.blocks.proofs.block_sums_agree.Tie as tie
@@ -17,6 +18,7 @@ half-requires : tie.Need-half-requires
 half-requires c κs = search needs
 
 returns : tie.Need-returns
+unfolding sumsAgree
 returns c =
     let sums-of-was = c .before .before .before .sums-of in
     let given = c .before .before .before .before .before .args in
@@ -32,6 +34,7 @@ half-requires-2 : tie.Need-half-requires-2
 half-requires-2 c κs = search needs
 
 returns-2 : tie.Need-returns-2
+unfolding sumsAgree
 returns-2 c =
     let sums-of-was = c .before .before .before .before .before .sums-of in
     let given = c .before .before .before .before .before .before .before .args in

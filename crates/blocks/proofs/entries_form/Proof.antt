@@ -1,4 +1,5 @@
 -- The form of the entries from entry i on is that of all: `entries-turn` and `entries-end` of Entries.
+use Rattle.table.proofs.Rows.{lent-at, lent-length}
 use mathlib.Core.Path.{_∙_, _≡_, ap, sym}
 use mathlib.Core.Bool.{false, true}
 use Prim.Native.Nat.{_*_, _-_, _≤_}
@@ -7,7 +8,7 @@ use lib.ListN.{drop}
 use borrow.Author.Needs.{needs}
 use Rattle.octets.specs.Texts.{part}
 use Rattle.table.specs.Soundness.{entriesForm, entryForm}
-use Rattle.table.proofs.Tests.{fails, lent-at, lent-length, passes-on, rest-zero}
+use Rattle.table.proofs.Tests.{fails, passes-on, rest-zero}
 use Rattle.table.proofs.Entries.{entries-all, entries-end, entries-turn}
 use Rattle.blocks.proofs.entries_form.Statement.{statement}
 use Rattle.blocks.proofs.entries_form.Tie as tie

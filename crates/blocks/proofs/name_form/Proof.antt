@@ -1,4 +1,5 @@
 -- A name is 1 to 15 digits by its length byte: `name-is` of Tests.
+use Rattle.table.proofs.Rows.{lent-part}
 use mathlib.Core.Path.{_∙_, _≡_, ap, sym}
 use mathlib.Core.Bool.{false, true}
 use native.Mathlib.Omega.{arith}
@@ -9,7 +10,7 @@ use Rattle.octets.specs.Texts.{part}
 use Rattle.octets.proofs.Lists.{within-high}
 use Rattle.octets.proofs.Texts.{length-part}
 use Rattle.table.specs.Soundness.{isDigit}
-use Rattle.table.proofs.Tests.{behind-said, fails, lent-part, name-is, passes-on}
+use Rattle.table.proofs.Tests.{behind-said, fails, name-is, passes-on}
 use Rattle.blocks.proofs.name_form.Statement.{statement}
 use Rattle.blocks.proofs.name_form.Tie as tie
 

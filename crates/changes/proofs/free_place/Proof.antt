@@ -1,37 +1,23 @@
--- The zeroed block and block 0 are the two blocks of the freed subscriber that differ: `free-law` of Rows.
-use mathlib.Core.Path.{ap, _∙_}
+-- The zeroed place and block 0 are all of the freed subscriber that differs: `free-law` of Rows.
+use mathlib.Core.Path.{_≡_, ap, _∙_}
 use mathlib.Core.List.{List, _++_}
 use Prim.Native.Nat.{ℕ, _-_, _^_}
 use native.Mathlib.Omega.{arith}
 use lib.ListN.{getD, take, drop}
-use borrow.Author.Needs.{needs}
-use Rattle.octets.specs.Texts.{part, zeros}
+use Rattle.octets.specs.Texts.{part, put, zeros}
+use Rattle.table.specs.TheTable.{formOf, placeLength, placeStart}
+use Rattle.table.proofs.Form.{is-sized}
 use Rattle.changes.specs.Writes.{closedUp, headWith}
-use Rattle.changes.proofs.Puts.{putBlock}
-use Rattle.changes.proofs.Rows.{bit-in, free-law, head-agrees, head-stays, place-in, row-size}
+use Rattle.changes.proofs.Puts.{putHead}
+use Rattle.changes.proofs.Rows.{bit-in, free-law, head-agrees, head-stays, place-in, place-inside, place-long, row-size, row-sized}
+use borrow.Author.Needs.{needs}
 use Rattle.changes.proofs.free_place.Statement.{statement}
 use Rattle.changes.proofs.free_place.Tie as tie
-
-returns : tie.Need-returns
-returns c = let written = c .before .before .write-line in
-    let zeroed = c .before .before .before .before .before .before .put-zeros in
-    let closed = c .before .before .before .before .before .before .before .before .line-without in
-    let bit = c .before .before .before .before .before .before .before .before .before .before .before .bit-of in
-    let start = c .before .before .before .before .before .before .before .before .before .before .before .before .before .before in
-    let r = start .args .row .now in
-    let k = start .args .k in
-    let z : List ℕ = zeroed .last .0 in
-    ap (λ (t : List ℕ). t ++ drop 512 z)
-    (written .ensures
-    ∙ ap (λ (x : ℕ). headWith (take 512 z) (getD r 17 0 - x) (closed .result)) (bit .ensures)
-    ∙ ap (λ (t : List ℕ). headWith (take 512 z) (getD r 17 0 - 2 ^ (k - 1)) t) (closed .ensures))
-    ∙ ap (λ (t : List ℕ). putBlock t 0 (headWith (take 512 t) (getD r 17 0 - 2 ^ (k - 1)) (closedUp (part r 20 8) k))) (zeroed .ensures)
-    ∙ free-law r k (start .pre .0) (start .pre .1)
 
 slice-read-bits : tie.Need-slice-read-bits
 slice-read-bits c =
     let start = c .before .before in
-    omega (arith, row-size (start .args .row .now) (start .pre .0))
+    omega (arith, row-size (start .args .row .now) (start .pre .0) .size)
 
 bit-of-requires : tie.Need-bit-of-requires
 bit-of-requires c κs =
@@ -52,7 +38,7 @@ part-line-without-start c = search needs
 part-line-without-end : tie.Need-part-line-without-end
 part-line-without-end c =
     let start = c .before .before .before .before in
-    omega (arith, row-size (start .args .row .now) (start .pre .0))
+    omega (arith, row-size (start .args .row .now) (start .pre .0) .size)
 
 cast-line-without : tie.Need-cast-line-without
 cast-line-without c =
@@ -62,15 +48,18 @@ cast-line-without c =
 line-without-requires : tie.Need-line-without-requires
 line-without-requires c κs = search needs
 
-mul-put-zeros : tie.Need-mul-put-zeros
-mul-put-zeros c =
+start-requires : tie.Need-start-requires
+start-requires c κs =
     let start = c .before .before .before .before .before .before .before in
-    omega (arith, place-in (start .args .row .now) (start .pre .0) (start .args .k) (start .pre .1))
+    let r = start .args .row .now in
+    let w = place-in r (start .pre .0) (start .args .k) (start .pre .1) in
+    (is-sized r (row-sized r (start .pre .0)), w .0, w .1)
+
+sub-long : tie.Need-sub-long
+sub-long c = search needs
 
 put-zeros-requires : tie.Need-put-zeros-requires
-put-zeros-requires c κs =
-    let start = c .before .before .before .before .before .before .before in
-    omega (arith, place-in (start .args .row .now) (start .pre .0) (start .args .k) (start .pre .1), row-size (start .args .row .now) (start .pre .0))
+put-zeros-requires c κs = search needs
 
 sub-write-line : tie.Need-sub-write-line
 sub-write-line c = search needs
@@ -79,20 +68,41 @@ part-write-line-start : tie.Need-part-write-line-start
 part-write-line-start c = search needs
 
 part-write-line-end : tie.Need-part-write-line-end
-part-write-line-end c =
-    let start = c .before .before .before .before .before .before .before .before .before .before in
-    omega (arith, row-size (start .args .row .now) (start .pre .0), c .before .before .put-zeros .kept .0)
+part-write-line-end c = search needs
 
 write-line-requires : tie.Need-write-line-requires
 write-line-requires c κs =
-    let start = c .before .before .before .before .before .before .before .before .before .before .before in
+    let start = c .before .before .before .before .before .before .before .before .before .before .before .before .before in
     let r = start .args .row .now in
     let k = start .args .k in
     let w = place-in r (start .pre .0) k (start .pre .1) in
-    head-agrees r (c .before .before .before .put-zeros .last .0) (start .pre .0) (ap (take 512) (c .before .before .before .put-zeros .ensures) ∙ head-stays r k (zeros 512) (w .0) (w .1) (row-size r (start .pre .0)))
+    let size = row-size r (start .pre .0) in
+    let at = c .before .before .before .before .before .start in
+    let zeroed = c .before .before .before .put-zeros in
+    let place : zeroed .last .0 ≡ put r (placeStart (formOf r) k) (zeros (placeLength (formOf r))) = zeroed .ensures ∙ (λ i. put r (at .ensures .0 i) (zeros (place-long r size i))) in
+    head-agrees r (zeroed .last .0) (start .pre .0) (ap (take 512) place ∙ head-stays (formOf r) r k (zeros (placeLength (formOf r))) (omega (arith, place-inside r k size (w .0) (w .1))))
 
 same-length : tie.Need-same-length
 same-length c = search needs
+
+returns : tie.Need-returns
+returns c =
+    let written = c .before .before .write-line in
+    let zeroed = c .before .before .before .before .before .before .put-zeros in
+    let at = c .before .before .before .before .before .before .before .before .start in
+    let closed = c .before .before .before .before .before .before .before .before .before .before .line-without in
+    let bit = c .before .before .before .before .before .before .before .before .before .before .before .before .before .bit-of in
+    let start = c .before .before .before .before .before .before .before .before .before .before .before .before .before .before .before .before in
+    let r = start .args .row .now in
+    let k = start .args .k in
+    let z : List ℕ = zeroed .last .0 in
+    let place : z ≡ put r (placeStart (formOf r) k) (zeros (placeLength (formOf r))) = zeroed .ensures ∙ (λ i. put r (at .ensures .0 i) (zeros (place-long r (row-size r (start .pre .0)) i))) in
+    ap (λ (t : List ℕ). t ++ drop 512 z)
+    (written .ensures
+    ∙ ap (λ (x : ℕ). headWith (take 512 z) (getD r 17 0 - x) (closed .result)) (bit .ensures)
+    ∙ ap (λ (t : List ℕ). headWith (take 512 z) (getD r 17 0 - 2 ^ (k - 1)) t) (closed .ensures))
+    ∙ ap (λ (t : List ℕ). putHead t (headWith (take 512 t) (getD r 17 0 - 2 ^ (k - 1)) (closedUp (part r 20 8) k))) place
+    ∙ free-law r k (start .pre .0) (start .pre .1)
 
 pub free-place-spec : {M : Type 1} → statement M
 free-place-spec =
@@ -106,7 +116,8 @@ free-place-spec =
     part-line-without-end
     cast-line-without
     line-without-requires
-    mul-put-zeros
+    start-requires
+    sub-long
     put-zeros-requires
     sub-write-line
     part-write-line-start

@@ -1,70 +1,76 @@
--- Three writes into a zero block and the sums: `access-put` of Blocks.
-use mathlib.Core.Path.{_≡_, ap, _∙_}
-use mathlib.Core.List.{List, [], _∷_}
-use Prim.Native.Nat.{ℕ, _-_}
-use lib.ListN.{length, take}
+-- One block, or both: `opened-one` and `opened-two` of Rows.
+use mathlib.Core.Path.{_≡_}
+use Prim.Native.Nat.{_/_}
+use native.Mathlib.Omega.{arith}
+use lib.ListN.{length}
+use Rattle.changes.proofs.Rows.{opened-one, opened-two}
 use borrow.Author.Needs.{needs}
-use Rattle.octets.specs.Texts.{put, zeros}
-use Rattle.table.specs.TheTable.{sealed}
-use Rattle.changes.proofs.Blocks.{access-put}
 use Rattle.changes.proofs.write_access.Statement.{statement}
 use Rattle.changes.proofs.write_access.Tie as tie
 
-clear-requires : tie.Need-clear-requires
-clear-requires c κs = search needs
+sub-write-first : tie.Need-sub-write-first
+sub-write-first c = search needs
 
-cast-t10 : tie.Need-cast-t10
-cast-t10 c = search needs
+part-write-first-start : tie.Need-part-write-first-start
+part-write-first-start c = search needs
 
-cast-t12 : tie.Need-cast-t12
-cast-t12 c = search needs
+part-write-first-end : tie.Need-part-write-first-end
+part-write-first-end c = omega arith
 
-slice-aggregate-put-bytes : tie.Need-slice-aggregate-put-bytes
-slice-aggregate-put-bytes c = search needs
-
-put-bytes-requires : tie.Need-put-bytes-requires
-put-bytes-requires c κs = search needs
-
-put-text-requires : tie.Need-put-text-requires
-put-text-requires c κs = search needs
-
-put-text-requires-2 : tie.Need-put-text-requires-2
-put-text-requires-2 c κs = search needs
-
-seal-requires : tie.Need-seal-requires
-seal-requires c κs = search needs
+write-first-requires : tie.Need-write-first-requires
+write-first-requires c κs = search needs
 
 same-length : tie.Need-same-length
 same-length c = search needs
 
 returns : tie.Need-returns
-returns c = let d = c .before .before in
-    let w3 = d .before .before .before .before in
-    let w2 = w3 .before .before .before .before in
-    let w1 = w2 .before .before .before .before in
-    let z = w1 .before .before .before .before .before in
-    let start = z .before .before .before .before .before in
-    let s = start .args .session .now in
-    let h = start .args .host .now in
-    let head : List ℕ = 2 ∷ start .args .entry ∷ length s ∷ length h ∷ [] in
-    let cleared : z .clear .last .0 ≡ zeros 512 = z .clear .ensures ∙ ap zeros (start .pre .0) in
-    d .seal .ensures
-    ∙ ap (λ (t : List ℕ). sealed (take 510 t))
-    (w3 .put-text2 .ensures
-    ∙ ap (λ (t : List ℕ). put t 136 h) (w2 .put-text .ensures ∙ ap (λ (t : List ℕ). put t 8 s) (w1 .put-bytes .ensures ∙ ap (λ (t : List ℕ). put t 0 head) cleared)))
-    ∙ access-put (start .args .entry) s h (start .pre .1) (start .pre .2)
+returns c =
+    let start = c .before .before .before .before .before .before .before .before .before in
+    let first = c .before .before .before .write-first in
+    let p = start .args .place .now in
+    let size : length p ≡ 512 = omega (arith, c .if1 .taken, first .kept .0) in
+    opened-one (length p / 512) (start .args .entry) (start .args .session .now) (start .args .host .now) (start .args .realm .now) p (first .last .0) (omega arith) size (first .ensures)
+
+sub-write-second : tie.Need-sub-write-second
+sub-write-second c = search needs
+
+part-write-second-start : tie.Need-part-write-second-start
+part-write-second-start c = search needs
+
+part-write-second-end : tie.Need-part-write-second-end
+part-write-second-end c =
+    let first = c .before .before .before .write-first in
+    let start = c .before .before .before .before .before .before .before .before .before in
+    omega (arith, first .kept .0, c .if1 .left)
+
+write-second-requires : tie.Need-write-second-requires
+write-second-requires c κs = search needs
+
+same-length-2 : tie.Need-same-length-2
+same-length-2 c = search needs
+
+returns-2 : tie.Need-returns-2
+returns-2 c =
+    let start = c .before .before .before .before .before .before .before .before .before .before .before .before .before in
+    let first = c .before .before .before .before .before .before .before .write-first in
+    let second = c .before .before .write-second in
+    let p = start .args .place .now in
+    let size : length p ≡ 1024 = omega (arith, c .before .before .before .before .if1 .left, first .kept .0) in
+    opened-two (length p / 512) (start .args .entry) (start .args .session .now) (start .args .host .now) (start .args .realm .now) p (first .last .0) (second .last .0) (omega arith) size (first .ensures) (second .ensures)
 
 pub write-access-spec : {M : Type 1} → statement M
 write-access-spec =
     tie.close
     (tie.spec
-    clear-requires
-    cast-t10
-    cast-t12
-    slice-aggregate-put-bytes
-    put-bytes-requires
-    put-text-requires
-    put-text-requires-2
-    seal-requires
+    sub-write-first
+    part-write-first-start
+    part-write-first-end
+    write-first-requires
     same-length
-    returns)
+    returns
+    sub-write-second
+    part-write-second-start
+    part-write-second-end
+    write-second-requires
+    same-length-2
+    returns-2)

@@ -6,7 +6,7 @@ use native.Mathlib.Omega.{arith}
 use types.Run.{OneOf, miss}
 use denote.Enum.Declared.{tagOf}
 use Rattle.clauses.specs.declared.Clause.{Clause}
-use Rattle.clauses.specs.declared.Clause.the-variants.{NoClause, HeadForm, EntryForm, PlaceForm, Sums, Line, Labels, Limits, Sessions, NoEntry, OverLimit, PolicyMark}
+use Rattle.clauses.specs.declared.Clause.the-variants.{NoClause, HeadForm, EntryForm, PlaceForm, Sums, Line, Labels, Limits, Sessions, NoEntry, OverLimit, PolicyMark, PolicyOrder}
 use Rattle.clauses.specs.Clauses.{clauseNumber, brokenForm}
 use Rattle.clauses.proofs.Clause.{the-type}
 use Rattle.clauses.proofs.Laws.{form-first, form-then}
@@ -15,9 +15,9 @@ use Rattle.clauses.proofs.broken.Statement.{statement}
 use Rattle.clauses.proofs.broken.Tie as tie
 
 -- every clause but the first has a number
-some-clause : (x : Clause) → OneOf (1 ∷ 2 ∷ 3 ∷ 4 ∷ 5 ∷ 6 ∷ 7 ∷ 8 ∷ 9 ∷ 10 ∷ 11 ∷ []) (tagOf the-type x) → 1 ≤ clauseNumber x
+some-clause : (x : Clause) → OneOf (1 ∷ 2 ∷ 3 ∷ 4 ∷ 5 ∷ 6 ∷ 7 ∷ 8 ∷ 9 ∷ 10 ∷ 11 ∷ 12 ∷ []) (tagOf the-type x) → 1 ≤ clauseNumber x
 unfolding clauseNumber
-some-clause NoClause o = absurd (miss (1 ∷ 2 ∷ 3 ∷ 4 ∷ 5 ∷ 6 ∷ 7 ∷ 8 ∷ 9 ∷ 10 ∷ 11 ∷ []) 0 tt o)
+some-clause NoClause o = absurd (miss (1 ∷ 2 ∷ 3 ∷ 4 ∷ 5 ∷ 6 ∷ 7 ∷ 8 ∷ 9 ∷ 10 ∷ 11 ∷ 12 ∷ []) 0 tt o)
 some-clause HeadForm o = omega arith
 some-clause EntryForm o = omega arith
 some-clause PlaceForm o = omega arith
@@ -29,6 +29,7 @@ some-clause Sessions o = omega arith
 some-clause NoEntry o = omega arith
 some-clause OverLimit o = omega arith
 some-clause PolicyMark o = omega arith
+some-clause PolicyOrder o = omega arith
 
 broken-form-requires : tie.Need-broken-form-requires
 broken-form-requires c κs = search needs

@@ -1,18 +1,21 @@
--- One law of Laws for each way out: `breaks-5` to `breaks-11`, and `contents-kept`.
+-- One law of Laws for each way out: `breaks-5` to `breaks-12`, and `contents-kept`.
 use mathlib.Core.Path.{_∙_, ap}
 use native.Mathlib.Omega.{arith}
 use lib.ListN.{length}
 use Rattle.table.proofs.Tests.{fails, passes-on}
-use Rattle.row.proofs.Entries.{length-room}
+use Rattle.row.proofs.Entries.{length-room, row-least}
 use Rattle.soundness.proofs.Tested.{head-count}
 use Rattle.clauses.specs.Clauses.{clauseNumber}
-use Rattle.clauses.proofs.Laws.{breaks-10, breaks-11, breaks-5, breaks-6, breaks-7, breaks-8, breaks-9, contents-kept, entries-form-said, form-holds, labels-are, limits-fit, limits-over}
+use Rattle.clauses.proofs.Laws.{breaks-10, breaks-11, breaks-12, breaks-5, breaks-6, breaks-7, breaks-8, breaks-9, contents-kept, entries-form-said, form-holds, labels-are, limits-fit, limits-over}
 use borrow.Author.Needs.{needs}
 use Rattle.clauses.proofs.broken_contents.Statement.{statement}
 use Rattle.clauses.proofs.broken_contents.Tie as tie
 
 line-exact-requires : tie.Need-line-exact-requires
-line-exact-requires c κs = search needs
+line-exact-requires c κs =
+    let given = c .before .args in
+    let pre-was = c .before .pre in
+    row-least (given .r .now) (pre-was .0)
 
 returns : tie.Need-returns
 unfolding clauseNumber
@@ -24,16 +27,18 @@ returns c =
 
 entry-count-requires : tie.Need-entry-count-requires
 entry-count-requires c κs =
+    let given = c .before .before .before .args in
     let pre-was = c .before .before .before .pre in
-    pre-was .0
+    row-least (given .r .now) (pre-was .0)
 
 long-requires : tie.Need-long-requires
 long-requires c κs = search needs
 
 entries-room-requires : tie.Need-entries-room-requires
 entries-room-requires c κs =
+    let given = c .before .before .before .before .before .args in
     let pre-was = c .before .before .before .before .before .pre in
-    pre-was .0
+    row-least (given .r .now) (pre-was .0)
 
 labels-differ-requires : tie.Need-labels-differ-requires
 labels-differ-requires c κs =
@@ -42,7 +47,7 @@ labels-differ-requires c κs =
     let pre-was = c .before .before .before .before .before .before .pre in
     let long-was = c .before .long in
     let entry-count-was = c .before .before .entry-count in
-    (ap length (entries-room-was .ensures) ∙ length-room (given .r .now) (pre-was .0), omega (arith, head-count (given .r .now) (form-holds (given .r .now) (pre-was .1) .0), long-was .ensures .0 ∙ entry-count-was .ensures), entries-form-said (given .r .now) (long-was .result) (entries-room-was .result .now) (long-was .ensures .0 ∙ entry-count-was .ensures) (entries-room-was .ensures) (form-holds (given .r .now) (pre-was .1) .1))
+    (ap length (entries-room-was .ensures) ∙ length-room (given .r .now) (row-least (given .r .now) (pre-was .0)), omega (arith, head-count (given .r .now) (form-holds (given .r .now) (pre-was .1) .0), long-was .ensures .0 ∙ entry-count-was .ensures), entries-form-said (given .r .now) (long-was .result) (entries-room-was .result .now) (long-was .ensures .0 ∙ entry-count-was .ensures) (entries-room-was .ensures) (form-holds (given .r .now) (pre-was .1) .1))
 
 returns-2 : tie.Need-returns-2
 unfolding clauseNumber
@@ -64,7 +69,7 @@ limits-sum-requires c κs =
     let pre-was = c .before .before .before .before .before .before .before .before .pre in
     let long-was = c .before .before .before .long in
     let entry-count-was = c .before .before .before .before .entry-count in
-    (ap length (entries-room-was .ensures) ∙ length-room (given .r .now) (pre-was .0), omega (arith, head-count (given .r .now) (form-holds (given .r .now) (pre-was .1) .0), long-was .ensures .0 ∙ entry-count-was .ensures))
+    (ap length (entries-room-was .ensures) ∙ length-room (given .r .now) (row-least (given .r .now) (pre-was .0)), omega (arith, head-count (given .r .now) (form-holds (given .r .now) (pre-was .1) .0), long-was .ensures .0 ∙ entry-count-was .ensures))
 
 returns-3 : tie.Need-returns-3
 unfolding clauseNumber
@@ -192,28 +197,62 @@ returns-7 c =
     let test7 = c .if7 in
     breaks-11 (given .r .now) (passes-on (line-exact-was .ensures) (test1 .left)) (labels-are (given .r .now) (long-was .result) (entries-room-was .result .now) (long-was .ensures .0 ∙ entry-count-was .ensures) (entries-room-was .ensures) ∙ passes-on (labels-differ-was .ensures) (test2 .left)) (limits-fit (given .r .now) (long-was .result) (entries-room-was .result .now) (long-was .ensures .0 ∙ entry-count-was .ensures) (entries-room-was .ensures) (omega (arith, limits-sum-was .ensures .0, test3 .left))) (passes-on (sessions-differ-was .ensures) (test4 .left)) (passes-on (entries-exist-was .ensures) (test5 .left)) (passes-on (under-limits-was .ensures) (test6 .left)) (fails (policies-marked-was .ensures) (test7 .taken))
 
+policies-ordered-requires : tie.Need-policies-ordered-requires
+policies-ordered-requires c κs =
+    let pre-was = c .before .before .before .before .before .before .before .before .before .before .before .before .before .before .before .before .before .before .pre in
+    let line-exact-was = c .before .before .before .before .before .before .before .before .before .before .before .before .before .before .before .before .line-exact in
+    let test1 = c .before .before .before .before .before .before .before .before .before .before .before .before .before .before .before .if1 in
+    (pre-was .0, passes-on (line-exact-was .ensures) (test1 .left))
+
 returns-8 : tie.Need-returns-8
 unfolding clauseNumber
 returns-8 c =
-    let given = c .before .before .before .before .before .before .before .before .before .before .before .before .before .before .before .before .before .before .args in
-    let line-exact-was = c .before .before .before .before .before .before .before .before .before .before .before .before .before .before .before .before .line-exact in
-    let test1 = c .before .before .before .before .before .before .before .before .before .before .before .before .before .before .before .if1 in
-    let long-was = c .before .before .before .before .before .before .before .before .before .before .before .before .before .long in
-    let entries-room-was = c .before .before .before .before .before .before .before .before .before .before .before .before .entries-room in
-    let entry-count-was = c .before .before .before .before .before .before .before .before .before .before .before .before .before .before .entry-count in
-    let labels-differ-was = c .before .before .before .before .before .before .before .before .before .before .before .labels-differ in
-    let test2 = c .before .before .before .before .before .before .before .before .before .before .if2 in
-    let limits-sum-was = c .before .before .before .before .before .before .before .before .before .limits-sum in
-    let test3 = c .before .before .before .before .before .before .before .before .if3 in
-    let sessions-differ-was = c .before .before .before .before .before .before .before .sessions-differ in
-    let test4 = c .before .before .before .before .before .before .if4 in
-    let entries-exist-was = c .before .before .before .before .before .entries-exist in
-    let test5 = c .before .before .before .before .if5 in
-    let under-limits-was = c .before .before .before .under-limits in
-    let test6 = c .before .before .if6 in
-    let policies-marked-was = c .before .policies-marked in
-    let test7 = c .if7 in
-    contents-kept (given .r .now) (passes-on (line-exact-was .ensures) (test1 .left)) (labels-are (given .r .now) (long-was .result) (entries-room-was .result .now) (long-was .ensures .0 ∙ entry-count-was .ensures) (entries-room-was .ensures) ∙ passes-on (labels-differ-was .ensures) (test2 .left)) (limits-fit (given .r .now) (long-was .result) (entries-room-was .result .now) (long-was .ensures .0 ∙ entry-count-was .ensures) (entries-room-was .ensures) (omega (arith, limits-sum-was .ensures .0, test3 .left))) (passes-on (sessions-differ-was .ensures) (test4 .left)) (passes-on (entries-exist-was .ensures) (test5 .left)) (passes-on (under-limits-was .ensures) (test6 .left)) (passes-on (policies-marked-was .ensures) (test7 .left))
+    let given = c .before .before .before .before .before .before .before .before .before .before .before .before .before .before .before .before .before .before .before .before .args in
+    let line-exact-was = c .before .before .before .before .before .before .before .before .before .before .before .before .before .before .before .before .before .before .line-exact in
+    let test1 = c .before .before .before .before .before .before .before .before .before .before .before .before .before .before .before .before .before .if1 in
+    let long-was = c .before .before .before .before .before .before .before .before .before .before .before .before .before .before .before .long in
+    let entries-room-was = c .before .before .before .before .before .before .before .before .before .before .before .before .before .before .entries-room in
+    let entry-count-was = c .before .before .before .before .before .before .before .before .before .before .before .before .before .before .before .before .entry-count in
+    let labels-differ-was = c .before .before .before .before .before .before .before .before .before .before .before .before .before .labels-differ in
+    let test2 = c .before .before .before .before .before .before .before .before .before .before .before .before .if2 in
+    let limits-sum-was = c .before .before .before .before .before .before .before .before .before .before .before .limits-sum in
+    let test3 = c .before .before .before .before .before .before .before .before .before .before .if3 in
+    let sessions-differ-was = c .before .before .before .before .before .before .before .before .before .sessions-differ in
+    let test4 = c .before .before .before .before .before .before .before .before .if4 in
+    let entries-exist-was = c .before .before .before .before .before .before .before .entries-exist in
+    let test5 = c .before .before .before .before .before .before .if5 in
+    let under-limits-was = c .before .before .before .before .before .under-limits in
+    let test6 = c .before .before .before .before .if6 in
+    let policies-marked-was = c .before .before .before .policies-marked in
+    let test7 = c .before .before .if7 in
+    let policies-ordered-was = c .before .policies-ordered in
+    let test8 = c .if8 in
+    breaks-12 (given .r .now) (passes-on (line-exact-was .ensures) (test1 .left)) (labels-are (given .r .now) (long-was .result) (entries-room-was .result .now) (long-was .ensures .0 ∙ entry-count-was .ensures) (entries-room-was .ensures) ∙ passes-on (labels-differ-was .ensures) (test2 .left)) (limits-fit (given .r .now) (long-was .result) (entries-room-was .result .now) (long-was .ensures .0 ∙ entry-count-was .ensures) (entries-room-was .ensures) (omega (arith, limits-sum-was .ensures .0, test3 .left))) (passes-on (sessions-differ-was .ensures) (test4 .left)) (passes-on (entries-exist-was .ensures) (test5 .left)) (passes-on (under-limits-was .ensures) (test6 .left)) (passes-on (policies-marked-was .ensures) (test7 .left)) (fails (policies-ordered-was .ensures) (test8 .taken))
+
+returns-9 : tie.Need-returns-9
+unfolding clauseNumber
+returns-9 c =
+    let given = c .before .before .before .before .before .before .before .before .before .before .before .before .before .before .before .before .before .before .before .before .args in
+    let line-exact-was = c .before .before .before .before .before .before .before .before .before .before .before .before .before .before .before .before .before .before .line-exact in
+    let test1 = c .before .before .before .before .before .before .before .before .before .before .before .before .before .before .before .before .before .if1 in
+    let long-was = c .before .before .before .before .before .before .before .before .before .before .before .before .before .before .before .long in
+    let entries-room-was = c .before .before .before .before .before .before .before .before .before .before .before .before .before .before .entries-room in
+    let entry-count-was = c .before .before .before .before .before .before .before .before .before .before .before .before .before .before .before .before .entry-count in
+    let labels-differ-was = c .before .before .before .before .before .before .before .before .before .before .before .before .before .labels-differ in
+    let test2 = c .before .before .before .before .before .before .before .before .before .before .before .before .if2 in
+    let limits-sum-was = c .before .before .before .before .before .before .before .before .before .before .before .limits-sum in
+    let test3 = c .before .before .before .before .before .before .before .before .before .before .if3 in
+    let sessions-differ-was = c .before .before .before .before .before .before .before .before .before .sessions-differ in
+    let test4 = c .before .before .before .before .before .before .before .before .if4 in
+    let entries-exist-was = c .before .before .before .before .before .before .before .entries-exist in
+    let test5 = c .before .before .before .before .before .before .if5 in
+    let under-limits-was = c .before .before .before .before .before .under-limits in
+    let test6 = c .before .before .before .before .if6 in
+    let policies-marked-was = c .before .before .before .policies-marked in
+    let test7 = c .before .before .if7 in
+    let policies-ordered-was = c .before .policies-ordered in
+    let test8 = c .if8 in
+    contents-kept (given .r .now) (passes-on (line-exact-was .ensures) (test1 .left)) (labels-are (given .r .now) (long-was .result) (entries-room-was .result .now) (long-was .ensures .0 ∙ entry-count-was .ensures) (entries-room-was .ensures) ∙ passes-on (labels-differ-was .ensures) (test2 .left)) (limits-fit (given .r .now) (long-was .result) (entries-room-was .result .now) (long-was .ensures .0 ∙ entry-count-was .ensures) (entries-room-was .ensures) (omega (arith, limits-sum-was .ensures .0, test3 .left))) (passes-on (sessions-differ-was .ensures) (test4 .left)) (passes-on (entries-exist-was .ensures) (test5 .left)) (passes-on (under-limits-was .ensures) (test6 .left)) (passes-on (policies-marked-was .ensures) (test7 .left)) (passes-on (policies-ordered-was .ensures) (test8 .left))
 
 pub broken-contents-spec : {M : Type 1} → statement M
 broken-contents-spec =
@@ -236,4 +275,6 @@ broken-contents-spec =
     returns-6
     policies-marked-requires
     returns-7
-    returns-8)
+    policies-ordered-requires
+    returns-8
+    returns-9)

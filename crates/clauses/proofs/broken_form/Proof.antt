@@ -5,9 +5,8 @@ use native.Mathlib.Omega.{arith}
 use lib.ListN.{length}
 use Rattle.table.specs.Soundness.{entriesForm, headForm}
 use Rattle.table.specs.TheTable.{entriesRoom}
-use Rattle.table.proofs.Form.{length-block}
 use Rattle.table.proofs.Tests.{fails, passes-on}
-use Rattle.row.proofs.Entries.{length-room}
+use Rattle.row.proofs.Entries.{head-size, length-room, row-least}
 use Rattle.soundness.proofs.Tested.{head-count}
 use Rattle.clauses.specs.Clauses.{clauseNumber}
 use Rattle.clauses.proofs.Laws.{breaks-1, breaks-2, breaks-3, breaks-4, form-kept}
@@ -16,14 +15,17 @@ use Rattle.clauses.proofs.broken_form.Statement.{statement}
 use Rattle.clauses.proofs.broken_form.Tie as tie
 
 head-requires : tie.Need-head-requires
-head-requires c κs = search needs
+head-requires c κs =
+    let given = c .before .args in
+    let pre-was = c .before .pre in
+    row-least (given .r .now) pre-was
 
 head-form-requires : tie.Need-head-form-requires
 head-form-requires c κs =
     let head-was = c .head in
     let given = c .before .before .args in
     let pre-was = c .before .before .pre in
-    ap length (head-was .ensures) ∙ length-block (given .r .now) 0 pre-was (omega arith)
+    ap length (head-was .ensures) ∙ head-size (given .r .now) (row-least (given .r .now) pre-was)
 
 returns : tie.Need-returns
 unfolding clauseNumber
@@ -36,10 +38,16 @@ returns c =
     breaks-1 (given .r .now) pre-was (fails (head-form-was .ensures ∙ ap headForm (head-was .ensures)) (test1 .taken))
 
 entries-room-requires : tie.Need-entries-room-requires
-entries-room-requires c κs = search needs
+entries-room-requires c κs =
+    let given = c .before .before .before .before .args in
+    let pre-was = c .before .before .before .before .pre in
+    row-least (given .r .now) pre-was
 
 entry-count-requires : tie.Need-entry-count-requires
-entry-count-requires c κs = search needs
+entry-count-requires c κs =
+    let given = c .before .before .before .before .before .args in
+    let pre-was = c .before .before .before .before .before .pre in
+    row-least (given .r .now) pre-was
 
 long-requires : tie.Need-long-requires
 long-requires c κs = search needs
@@ -54,7 +62,7 @@ entries-form-requires c κs =
     let test1 = c .before .before .before .if1 in
     let long-was = c .long in
     let entry-count-was = c .before .entry-count in
-    (ap length (entries-room-was .ensures) ∙ length-room (given .r .now) pre-was, omega (arith, head-count (given .r .now) (passes-on (head-form-was .ensures ∙ ap headForm (head-was .ensures)) (test1 .left)), long-was .ensures .0 ∙ entry-count-was .ensures))
+    (ap length (entries-room-was .ensures) ∙ length-room (given .r .now) (row-least (given .r .now) pre-was), omega (arith, head-count (given .r .now) (passes-on (head-form-was .ensures ∙ ap headForm (head-was .ensures)) (test1 .left)), long-was .ensures .0 ∙ entry-count-was .ensures))
 
 returns-2 : tie.Need-returns-2
 unfolding clauseNumber

@@ -4,18 +4,19 @@ use mathlib.Core.Path.{_≡_, refl}
 use mathlib.Core.Bool.{true, false, _&&_}
 use Prim.Native.Nat.{_-_, _<_, _≤_}
 use native.Mathlib.Omega.{arith}
-use borrow.Author.Tests.{ltb-true, eq-eqb, ne-eqb}
-use lib.Dec.{eqb, ltb}
+use borrow.Author.Tests.{eq-eqb, leb-true, ltb-true, ne-eqb}
+use lib.Dec.{eqb, leb, ltb}
 use lib.ListN.{length}
 use Rattle.octets.specs.Choice.{pick, within}
 use Rattle.octets.specs.Lists.{isOn}
 use Rattle.octets.proofs.Lists.{and-left, and-right, within-low, within-high}
 use Rattle.message.specs.Codes.{numberOf}
+use Rattle.table.specs.Answers.{lent}
 use Rattle.table.specs.TheTable.{orderLine, readRow, rowAt}
 use Rattle.plans.specs.declared.Plan.the-variants.{Open, Route, Free}
 use Rattle.rules.specs.Deciding.{refuse, grant, openOn}
 use Rattle.rules.specs.Calls.{noticeRoom, tableAfter}
-use Rattle.plans.specs.Plans.{planned, planCode, fitPlan}
+use Rattle.plans.specs.Plans.{fitPlan, fitPolicies, planCode, planned}
 use borrow.Author.Needs.{needs}
 use Rattle.effects.proofs.carry.Statement.{statement}
 use Rattle.effects.proofs.carry.Tie as tie
@@ -27,32 +28,32 @@ enum-known-plan c = search needs
 cast-open : tie.Need-cast-open
 unfolding fitPlan
 cast-open c =
-    let start = c .before .before .before .before .before .before .before .before .before .before in
+    let start = c .before .before .before .before .before .before .before .before .before .before .before .before .before in
     let a = start .args in
     let t = a .table .now in
-    let r = rowAt t (a .i) in
+    let r = rowAt (lent (a .form) t) (a .i) in
     let n = c .before .before .before .plan .given .0 .0 in
     let k = c .before .before .before .plan .given .0 .1 .0 in
     let is : a .plan ≡ Open n k = c .before .before .before .plan .given .1 in
-    let fit : within 1 4 n && pick (eqb k 0) (ltb (length ((readRow r) .accesses)) 8) (isOn (orderLine r) k) ≡ true = rw is at (start .pre .3) in
+    let fit : within 1 4 n && pick (eqb k 0) (ltb (length ((readRow r) .accesses)) 8) (isOn (orderLine r) k) ≡ true = rw is at (start .pre .4) in
     let four : n ≤ 4 = within-high 1 4 n (and-left (within 1 4 n) _ fit) in
     omega (arith, four)
 
 open-requires : tie.Need-open-requires
 unfolding fitPlan pick
 open-requires c κs =
-    let start = c .before .before .before .before .before .before .before .before .before .before in
+    let start = c .before .before .before .before .before .before .before .before .before .before .before .before .before in
     let a = start .args in
     let t = a .table .now in
-    let r = rowAt t (a .i) in
+    let r = rowAt (lent (a .form) t) (a .i) in
     let n = c .before .before .before .plan .given .0 .0 in
     let k = c .before .before .before .plan .given .0 .1 .0 in
     let is : a .plan ≡ Open n k = c .before .before .before .plan .given .1 in
-    let fit : within 1 4 n && pick (eqb k 0) (ltb (length ((readRow r) .accesses)) 8) (isOn (orderLine r) k) ≡ true = rw is at (start .pre .3) in
+    let fit : within 1 4 n && pick (eqb k 0) (ltb (length ((readRow r) .accesses)) 8) (isOn (orderLine r) k) ≡ true = rw is at (start .pre .4) in
     let four : n ≤ 4 = within-high 1 4 n (and-left (within 1 4 n) _ fit) in
     let zero : eqb k 0 ≡ true = eq-eqb k 0 (c .before .if1 .taken) in
     let few : length ((readRow r) .accesses) < 8 = ltb-true (length ((readRow r) .accesses)) 8 (rw zero at (and-right (within 1 4 n) _ fit)) in
-    (start .pre .1, start .pre .2, few, start .pre .4, start .pre .5)
+    (start .pre .1, start .pre .2, start .pre .3, few, start .pre .5, start .pre .6, start .pre .7)
 
 same-length : tie.Need-same-length
 same-length c = search needs
@@ -68,18 +69,18 @@ returns c =
 open-with-cut-requires : tie.Need-open-with-cut-requires
 unfolding fitPlan pick
 open-with-cut-requires c κs =
-    let start = c .before .before .before .before .before .before .before .before .before .before .before in
+    let start = c .before .before .before .before .before .before .before .before .before .before .before .before .before .before in
     let a = start .args in
     let t = a .table .now in
-    let r = rowAt t (a .i) in
+    let r = rowAt (lent (a .form) t) (a .i) in
     let n = c .before .before .before .before .plan .given .0 .0 in
     let k = c .before .before .before .before .plan .given .0 .1 .0 in
     let is : a .plan ≡ Open n k = c .before .before .before .before .plan .given .1 in
-    let fit : within 1 4 n && pick (eqb k 0) (ltb (length ((readRow r) .accesses)) 8) (isOn (orderLine r) k) ≡ true = rw is at (start .pre .3) in
+    let fit : within 1 4 n && pick (eqb k 0) (ltb (length ((readRow r) .accesses)) 8) (isOn (orderLine r) k) ≡ true = rw is at (start .pre .4) in
     let four : n ≤ 4 = within-high 1 4 n (and-left (within 1 4 n) _ fit) in
     let some : eqb k 0 ≡ false = ne-eqb k 0 (c .before .before .if1 .left) in
     let on : isOn (orderLine r) k ≡ true = rw some at (and-right (within 1 4 n) _ fit) in
-    (start .pre .0, start .pre .1, start .pre .2, on, four, start .pre .4, start .pre .5)
+    (start .pre .0, start .pre .1, start .pre .2, start .pre .3, on, four, start .pre .5, start .pre .6, start .pre .7)
 
 same-length-2 : tie.Need-same-length-2
 same-length-2 c = search needs
@@ -99,15 +100,29 @@ enum-known-plan-2 : tie.Need-enum-known-plan-2
 enum-known-plan-2 c = search needs
 
 route-requires : tie.Need-route-requires
-unfolding fitPlan
+unfolding fitPlan fitPolicies
 route-requires c κs =
-    let start = c .before .before .before .before .before .before .before .before .before in
+    let start = c .before .before .before .before .before .before .before .before .before .before .before .before in
     let a = start .args in
     let k = c .before .before .plan2 .given .0 .0 in
+    let on = isOn (orderLine (rowAt (lent (a .form) (a .table .now)) (a .i))) k in
+    let one = within 1 128 (length (a .first .now)) in
+    let two = leb (length (a .second .now)) 128 in
+    let three = leb (length (a .third .now)) 128 in
     let is : a .plan ≡ Route k = c .before .before .plan2 .given .1 in
-    let fit : isOn (orderLine (rowAt (a .table .now) (a .i))) k && within 1 128 (length (a .route .now)) ≡ true = rw is at (start .pre .3) in
-    let long : within 1 128 (length (a .route .now)) ≡ true = and-right (isOn (orderLine (rowAt (a .table .now) (a .i))) k) _ fit in
-    (start .pre .1, start .pre .2, and-left (isOn (orderLine (rowAt (a .table .now) (a .i))) k) _ fit, within-low 1 128 _ long, within-high 1 128 _ long)
+    let fit : on && (one && (two && three)) ≡ true = rw is at (start .pre .4) in
+    let long : one && (two && three) ≡ true = and-right on _ fit in
+    let first-fits : one ≡ true = and-left one _ long in
+    let others : two && three ≡ true = and-right one _ long in (
+      start .pre .1,
+      start .pre .2,
+      start .pre .3,
+      and-left on _ fit,
+      within-low 1 128 _ first-fits,
+      within-high 1 128 _ first-fits,
+      leb-true _ 128 (and-left two three others),
+      leb-true _ 128 (and-right two three others),
+    )
 
 nothing-requires : tie.Need-nothing-requires
 nothing-requires c κs = search needs
@@ -118,7 +133,6 @@ same-length-4 c = search needs
 returns-3 : tie.Need-returns-3
 unfolding planned planCode refuse grant openOn tableAfter noticeRoom doneFor cutFor pick numberOf
 returns-3 c =
-    let start = c .before .before .before .before .before .before .before .before .before .before .before .before .before in
     let is = c .before .before .before .before .before .before .plan2 .given .1 in
     rw is (c .before .before .before .route .ensures, refl, c .nothing .ensures)
 
@@ -128,11 +142,11 @@ enum-known-plan-3 c = search needs
 free-requires : tie.Need-free-requires
 unfolding fitPlan
 free-requires c κs =
-    let start = c .before .before .before .before .before .before .before .before .before in
+    let start = c .before .before .before .before .before .before .before .before .before .before .before .before in
     let a = start .args in
     let k = c .before .before .plan3 .given .0 .0 in
     let is : a .plan ≡ Free k = c .before .before .plan3 .given .1 in
-    (start .pre .1, start .pre .2, rw is at (start .pre .3))
+    (start .pre .1, start .pre .2, start .pre .3, rw is at (start .pre .4))
 
 nothing-requires-2 : tie.Need-nothing-requires-2
 nothing-requires-2 c κs = search needs
@@ -143,7 +157,6 @@ same-length-5 c = search needs
 returns-4 : tie.Need-returns-4
 unfolding planned planCode refuse grant openOn tableAfter noticeRoom doneFor cutFor pick numberOf
 returns-4 c =
-    let start = c .before .before .before .before .before .before .before .before .before .before .before .before .before in
     let is = c .before .before .before .before .before .before .plan3 .given .1 in
     rw is (c .before .before .before .free .ensures, refl, c .nothing2 .ensures)
 

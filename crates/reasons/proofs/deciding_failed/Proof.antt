@@ -29,7 +29,7 @@ text-requires-2 c κs =
     let is = c .before .before .asked .given .1 in
     let given = c .before .before .asked .given .0 in
     let all : every (isInside m) (spansIn (start .args .asked)) ≡ true = start .pre .1 in
-    and-left (isInside m (given .1 .1 .0)) _ (and-right (isInside m (given .1 .0)) _ (and-right (isInside m (given .0)) _ (rw is at all)))
+    and-left (isInside m (given .1 .1 .1 .0)) _ (and-right (isInside m (given .1 .1 .0)) _ (and-right (isInside m (given .1 .0)) _ (and-right (isInside m (given .0)) _ (rw is at all))))
 
 tunnel-failed-requires : tie.Need-tunnel-failed-requires
 tunnel-failed-requires c κs = search needs
@@ -42,8 +42,8 @@ returns c =
     let given = c .before .before .before .before .asked .given .0 in
     let is = c .before .before .before .before .asked .given .1 in
     let session : c .before .before .text .result .now ≡ bytesOf m (given .0) = c .before .before .text .ensures in
-    let label : c .before .text2 .result .now ≡ bytesOf m (given .1 .1 .0) = c .before .text2 .ensures in
-    rw is (rw (session, label) at (c .tunnel-failed .ensures (bytesOf m (given .1 .0)) (a .wag)))
+    let label : c .before .text2 .result .now ≡ bytesOf m (given .1 .1 .1 .0) = c .before .text2 .ensures in
+    rw is (rw (session, label) at (c .tunnel-failed .ensures (bytesOf m (given .1 .0)) (bytesOf m (given .1 .1 .0)) (a .wag)))
 
 enum-known-asked-2 : tie.Need-enum-known-asked-2
 enum-known-asked-2 c = search needs
@@ -69,7 +69,7 @@ returns-2 c =
     let given = c .before .before .before .asked2 .given .0 in
     let is = c .before .before .before .asked2 .given .1 in
     let session : c .before .text3 .result .now ≡ bytesOf m (given .0) = c .before .text3 .ensures in
-    rw is (rw session at (c .policy-failed .ensures (bytesOf m (given .1 .0))))
+    rw is (rw session at (c .policy-failed .ensures (bytesOf m (given .1 .0)) (bytesOf m (given .1 .1 .0)) (bytesOf m (given .1 .1 .1 .0))))
 
 enum-known-asked-3 : tie.Need-enum-known-asked-3
 enum-known-asked-3 c = search needs

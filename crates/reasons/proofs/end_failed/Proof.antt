@@ -15,8 +15,8 @@ text-failed-requires c κs = search needs
 text-failed-requires-2 : tie.Need-text-failed-requires-2
 text-failed-requires-2 c κs = search needs
 
-text-failed-requires-3 : tie.Need-text-failed-requires-3
-text-failed-requires-3 c κs = search needs
+routes-failed-requires : tie.Need-routes-failed-requires
+routes-failed-requires c κs = search needs
 
 first-of-requires : tie.Need-first-of-requires
 first-of-requires c κs = search needs
@@ -30,7 +30,7 @@ returns c =
     let m = c .before .before .before .before .before .before .before .args .m .now in
     let join = fields-joined m in
     join (_ ∷ []) _ _ _ _ (c .first-of2 .ensures) (c .before .before .before .before .text-failed .ensures)
-    (join (_ ∷ []) (_ ∷ []) _ _ _ (c .before .first-of .ensures) (c .before .before .before .text-failed2 .ensures) (c .before .before .text-failed3 .ensures))
+    (join (_ ∷ []) (_ ∷ []) _ _ _ (c .before .first-of .ensures) (c .before .before .before .text-failed2 .ensures) (c .before .before .routes-failed .ensures))
 
 pub end-failed-spec : {M : Type 1} → statement M
 end-failed-spec =
@@ -38,7 +38,7 @@ end-failed-spec =
     (tie.spec
     text-failed-requires
     text-failed-requires-2
-    text-failed-requires-3
+    routes-failed-requires
     first-of-requires
     first-of-requires-2
     returns)

@@ -1,5 +1,6 @@
 -- A number, or the reason of the answer.
 use mathlib.Core.Path.{_≡_, sym, _∙_}
+use Rattle.table.specs.Answers.{lent}
 use Rattle.rules.specs.Calls.{callNumber}
 use Rattle.decision.specs.Outcomes.{callOf}
 use Rattle.decision.proofs.Numbers.{is-ready, table-right}
@@ -16,14 +17,14 @@ returns : tie.Need-returns
 unfolding groundNamed
 returns c =
     let a = c .before .before .before .before .before .before .before .before .args in
-    let t = a .table .now in
+    let t = lent (a .form) (a .table .now) in
     let call = callOf (a .op) (a .message .now) (a .host .now) (a .realm .now) (a .answer .now) (a .notice .now) (a .wag) in
     unanswered-ground t call (c .before .call-number .result) (c .before .call-number .ensures (a .wag)) (c .if1 .taken)
 
 answered-for-requires : tie.Need-answered-for-requires
 answered-for-requires c κs =
     let a = c .before .before .before .before .before .before .before .before .args in
-    let t = a .table .now in
+    let t = lent (a .form) (a .table .now) in
     let call = callOf (a .op) (a .message .now) (a .host .now) (a .realm .now) (a .answer .now) (a .notice .now) (a .wag) in
     let z : callNumber t call ≡ 0 = sym (c .before .call-number .ensures (a .wag)) ∙ c .if1 .left in (
       table-right t (a .op) (a .message .now) (a .host .now) (a .realm .now) (a .answer .now) (a .notice .now) (a .wag) z,
@@ -34,7 +35,7 @@ returns-2 : tie.Need-returns-2
 unfolding groundNamed
 returns-2 c =
     let a = c .before .before .before .before .before .before .before .before .before .args in
-    let t = a .table .now in
+    let t = lent (a .form) (a .table .now) in
     let call = callOf (a .op) (a .message .now) (a .host .now) (a .realm .now) (a .answer .now) (a .notice .now) (a .wag) in
     let z : callNumber t call ≡ 0 = sym (c .before .before .call-number .ensures (a .wag)) ∙ c .before .if1 .left in
     answered-ground t call (checkNamed (c .answered-for .result)) z (c .answered-for .ensures (a .host .now) (a .realm .now) (a .answer .now) (a .notice .now))

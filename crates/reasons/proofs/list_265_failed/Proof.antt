@@ -72,12 +72,13 @@ first-of-requires-3 c κs = search needs
 returns : tie.Need-returns
 unfolding for265 behindType textField numberField nameAt names fieldCode
 returns c =
-    let m = c .before .before .before .before .before .before .before .before .before .before .before .before .args .m .now in
+    let given = c .before .before .before .before .before .before .before .before .before .before .before .before .args in
+    let m = given .m .now in
     let field = numberField sessionRequestType 0 1 in
     let g = c .before .before .before .before .number-field in
     let st = stop m field [] (g .result) (c .before .before .refusal .result) (g .ensures) refl (c .before .before .before .match .keys2) (c .before .before .refusal .ensures) in
     let code : fieldCode (avps m) field ≡ c .before .before .refusal .result = (g .ensures) .code ∙ sym (c .before .before .refusal .ensures) in
-    let fails = field-stops m field (behindType (typeOf (avps m))) (λ z. omega (arith, st .1, code, z)) in
+    let fails = field-stops m field (behindType (given .most) (typeOf (avps m))) (λ z. omega (arith, st .1, code, z)) in
     let this = c .before .field-failed .ensures field (having sessionRequestType (avps m)) refl code ∙ field-one m field in
     fields-joined m before3 _ _ _ _ (c .first-of3 .ensures) (before (c .before .before .before .before .before)) (this ∙ fails)
 
@@ -114,12 +115,13 @@ first-of-requires-4 c κs = search needs
 returns-2 : tie.Need-returns-2
 unfolding for265 behindType numberField nameAt names codeOf
 returns-2 c =
-    let m = c .before .before .before .before .before .before .before .before .before .before .before .before .before .before .before .before .args .m .now in
+    let given = c .before .before .before .before .before .before .before .before .before .before .before .before .before .before .before .before .args in
+    let m = given .m .now in
     let field = numberField sessionRequestType 0 1 in
     let g = c .before .before .before .before .before .before .before .before .number-field in
     let code : fieldCode (avps m) field ≡ 0 = (g .ensures) .code ∙ ap (codeOf true) (c .before .before .before .before .before .before .g .given .1) in
-    let last = c .before .end-failed .ensures ∙ ap (λ (n : ℕ). firstOfFields m (behindType n)) (type (c .before .before)) in
-    fields-joined m before3 _ _ _ _ (c .first-of4 .ensures) (before (c .before .before .before .before .before .before .before .before .before)) (last ∙ field-passes m field (behindType (typeOf (avps m))) code)
+    let last = c .before .end-failed .ensures ∙ ap (λ (n : ℕ). firstOfFields m (behindType (given .most) n)) (type (c .before .before)) in
+    fields-joined m before3 _ _ _ _ (c .first-of4 .ensures) (before (c .before .before .before .before .before .before .before .before .before)) (last ∙ field-passes m field (behindType (given .most) (typeOf (avps m))) code)
 
 pub list-265-failed-spec : {M : Type 1} → statement M
 list-265-failed-spec =

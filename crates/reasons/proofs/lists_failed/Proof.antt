@@ -12,7 +12,7 @@ starts-requires c κs = search needs
 
 returns : tie.Need-returns
 unfolding checkNamed
-returns c = not-first (c .before .before .before .before .args .m .now) (sym (c .before .starts .ensures) ∙ not-true _ (c .if1 .taken))
+returns c = not-first (c .before .before .before .before .args .m .now) (c .before .before .before .before .args .most) (sym (c .before .starts .ensures) ∙ not-true _ (c .if1 .taken))
 
 both-failed-requires : tie.Need-both-failed-requires
 both-failed-requires c κs = search needs
@@ -28,9 +28,10 @@ first-of-requires c κs = search needs
 
 returns-2 : tie.Need-returns-2
 returns-2 c =
-    let m = c .before .before .before .before .before .before .before .before .before .args .m .now in
+    let given = c .before .before .before .before .before .before .before .before .before .args in
+    let m = given .m .now in
     fields-joined m _ _ _ _ _ (c .first-of .ensures) (c .before .before .before .before .both-failed .ensures) (c .before .list-265-failed .ensures)
-    ∙ list-265 m (sym (c .before .before .before .before .before .before .starts .ensures) ∙ not-false _ (c .before .before .before .before .before .if1 .left)) (sym (c .before .before .before .read24 .ensures .0) ∙ c .before .before .if2 .taken)
+    ∙ list-265 m (given .most) (sym (c .before .before .before .before .before .before .starts .ensures) ∙ not-false _ (c .before .before .before .before .before .if1 .left)) (sym (c .before .before .before .read24 .ensures .0) ∙ c .before .before .if2 .taken)
 
 list-275-failed-requires : tie.Need-list-275-failed-requires
 list-275-failed-requires c κs = search needs
@@ -40,9 +41,10 @@ first-of-requires-2 c κs = search needs
 
 returns-3 : tie.Need-returns-3
 returns-3 c =
-    let m = c .before .before .before .before .before .before .before .before .before .args .m .now in
+    let given = c .before .before .before .before .before .before .before .before .before .args in
+    let m = given .m .now in
     fields-joined m _ _ _ _ _ (c .first-of2 .ensures) (c .before .before .before .before .both-failed .ensures) (c .before .list-275-failed .ensures)
-    ∙ list-275 m (sym (c .before .before .before .before .before .before .starts .ensures) ∙ not-false _ (c .before .before .before .before .before .if1 .left)) (λ e. c .before .before .if2 .left (c .before .before .before .read24 .ensures .0 ∙ e))
+    ∙ list-275 m (given .most) (sym (c .before .before .before .before .before .before .starts .ensures) ∙ not-false _ (c .before .before .before .before .before .if1 .left)) (λ e. c .before .before .if2 .left (c .before .before .before .read24 .ensures .0 ∙ e))
 
 pub lists-failed-spec : {M : Type 1} → statement M
 lists-failed-spec =

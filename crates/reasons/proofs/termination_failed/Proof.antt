@@ -1,13 +1,12 @@
 -- `end-planned` of OnRow.
 use mathlib.Core.Path.{sym, ap, _∙_}
-use mathlib.Core.List.{[]}
 use Rattle.octets.specs.Choice.{pick}
 use Rattle.plans.specs.declared.Plan.{Plan}
 use Rattle.message.specs.Codes.{numberOf}
 use Rattle.plans.specs.Plans.{planCode}
 use Rattle.table.specs.TheTable.{readRow}
 use Rattle.reasons.specs.Reasons.{checkNamed}
-use Rattle.reasons.proofs.OnRow.{endEntry, end-planned, end-passes}
+use Rattle.reasons.proofs.OnRow.{opening, endEntry, end-planned, end-passes}
 use borrow.Author.Needs.{needs}
 use Rattle.reasons.proofs.termination_failed.Statement.{statement}
 use Rattle.reasons.proofs.termination_failed.Tie as tie
@@ -25,7 +24,7 @@ returns c =
     let p = c .before .before .plan-termination in
     λ wag.
     ap (λ (x : Plan). endEntry (numberOf (planCode x))) (sym (c .enum-told .given .1))
-    ∙ end-planned (a .session .now) (a .label .now) wag (readRow (a .row .now)) [] [] (p .result) (p .ensures .0 [] [])
+    ∙ end-planned (a .session .now) (a .label .now) wag (readRow (a .row .now)) (opening (a .session .now)) (p .result) (p .ensures .0 _ _)
 
 returns-2 : tie.Need-returns-2
 unfolding checkNamed
@@ -34,7 +33,7 @@ returns-2 c =
     let p = c .before .plan-termination in
     λ wag.
     end-passes (p .result) (c .match .keys2)
-    ∙ end-planned (a .session .now) (a .label .now) wag (readRow (a .row .now)) [] [] (p .result) (p .ensures .0 [] [])
+    ∙ end-planned (a .session .now) (a .label .now) wag (readRow (a .row .now)) (opening (a .session .now)) (p .result) (p .ensures .0 _ _)
 
 pub termination-failed-spec : {M : Type 1} → statement M
 termination-failed-spec =

@@ -8,6 +8,9 @@ use Rattle.replay_calls.proofs.ask.Tie as tie
 read32-requires : tie.Need-read32-requires
 read32-requires c κs = search needs
 
+read32-requires-2 : tie.Need-read32-requires-2
+read32-requires-2 c κs = search needs
+
 add-from-realm : tie.Need-add-from-realm
 add-from-realm c = search needs
 
@@ -52,7 +55,7 @@ outcome-requires c κs = search needs
 
 judged-requires : tie.Need-judged-requires
 judged-requires c κs =
-    let pre-was = c .before .before .before .before .before .before .before .before .before .before .before .before .before .before .before .before .before .before .before .before .before .before .pre in
+    let pre-was = c .before .before .before .before .before .before .before .before .before .before .before .before .before .before .before .before .before .before .before .before .before .before .before .pre in
     (omega arith, pre-was .4, omega arith, omega arith)
 
 same-length : tie.Need-same-length
@@ -72,6 +75,7 @@ ask-spec =
     tie.close
     (tie.spec
     read32-requires
+    read32-requires-2
     add-from-realm
     add-from-message
     sub-handle

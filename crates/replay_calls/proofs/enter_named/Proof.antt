@@ -26,6 +26,9 @@ slice-aggregate-all c =
 read32-requires : tie.Need-read32-requires
 read32-requires c κs = search needs
 
+read32-requires-2 : tie.Need-read32-requires-2
+read32-requires-2 c κs = search needs
+
 sub-enter : tie.Need-sub-enter
 sub-enter c = search needs
 
@@ -34,8 +37,8 @@ part-enter-start c = search needs
 
 part-enter-end : tie.Need-part-enter-end
 part-enter-end c =
-    let pre-was = c .before .before .before .before .before .before .before .before .before .pre in
-    let read-shares-was = c .before .before .before .read-shares in
+    let pre-was = c .before .before .before .before .before .before .before .before .before .before .pre in
+    let read-shares-was = c .before .before .before .before .read-shares in
     omega (arith, pre-was .0, read-shares-was .ensures)
 
 sub-enter-2 : tie.Need-sub-enter-2
@@ -90,6 +93,7 @@ enter-named-spec =
     add-name
     slice-aggregate-all
     read32-requires
+    read32-requires-2
     sub-enter
     part-enter-start
     part-enter-end

@@ -54,19 +54,19 @@ three p =
     two (p .before .before .before .before) ∙ go-on m (textField originHost true) (behind3 (avps m)) (p .before .before .before .text-field2 .result)
     (p .before .g3 .given .0 .0) (p .before .before .before .text-field2 .ensures true) (p .before .g3 .given .1)
 
-four : (p : tie.After-enum-told2) → bothCode (avps (p .before .before .before .before .before .before .before .before .before .before .before .before .before .before .before .before .before .before .args .m .now)) ≡ firstOf (behind4 (avps (p .before .before .before .before .before .before .before .before .before .before .before .before .before .before .before .before .before .before .args .m .now)))
+four : (p : tie.After-known-told3) → bothCode (avps (p .before .before .before .before .before .before .before .before .before .before .before .before .before .before .before .before .before .before .before .args .m .now)) ≡ firstOf (behind4 (avps (p .before .before .before .before .before .before .before .before .before .before .before .before .before .before .before .before .before .before .before .args .m .now)))
 unfolding textField bytesField nameAt names
 four p =
-    let m = p .before .before .before .before .before .before .before .before .before .before .before .before .before .before .before .before .before .before .args .m .now in
-    three (p .before .before .before) ∙ go-on m (textField originRealm true) (behind4 (avps m)) (p .before .before .text-field3 .result)
-    (p .enum-told2 .given .0 .0) (p .before .before .text-field3 .ensures true) (p .enum-told2 .given .1)
+    let m = p .before .before .before .before .before .before .before .before .before .before .before .before .before .before .before .before .before .before .before .args .m .now in
+    three (p .before .before .before .before) ∙ go-on m (textField originRealm true) (behind4 (avps m)) (p .before .before .before .text-field3 .result)
+    (p .before .g4 .given .0 .0) (p .before .before .before .text-field3 .ensures true) (p .before .g4 .given .1)
 
-five : (p : tie.After-enum-told3) → bothCode (avps (p .before .before .before .before .before .before .before .before .before .before .before .before .before .before .before .before .before .before .before .before .before .args .m .now)) ≡ 0
+five : (p : tie.After-enum-told2) → bothCode (avps (p .before .before .before .before .before .before .before .before .before .before .before .before .before .before .before .before .before .before .before .before .before .before .args .m .now)) ≡ 0
 unfolding textField bytesField nameAt names firstOf
 five p =
-    let m = p .before .before .before .before .before .before .before .before .before .before .before .before .before .before .before .before .before .before .before .before .before .args .m .now in
+    let m = p .before .before .before .before .before .before .before .before .before .before .before .before .before .before .before .before .before .before .before .before .before .before .args .m .now in
     four (p .before .before .before) ∙ go-on m (textField destinationRealm true) [] (p .before .before .text-field4 .result)
-    (p .enum-told3 .given .0 .0) (p .before .before .text-field4 .ensures true) (p .enum-told3 .given .1)
+    (p .enum-told2 .given .0 .0) (p .before .before .text-field4 .ensures true) (p .enum-told2 .given .1)
 
 starts-requires : tie.Need-starts-requires
 starts-requires c κs = search needs
@@ -133,8 +133,8 @@ returns-4 c =
 text-field-requires-3 : tie.Need-text-field-requires-3
 text-field-requires-3 c κs = search needs
 
-enum-told-2 : tie.Need-enum-told-2
-enum-told-2 c = search needs
+enum-known-g4 : tie.Need-enum-known-g4
+enum-known-g4 c = search needs
 
 refusal-requires-4 : tie.Need-refusal-requires-4
 refusal-requires-4 c κs = search needs
@@ -149,10 +149,10 @@ returns-5 c =
 
 text-field-requires-4 : tie.Need-text-field-requires-4
 text-field-requires-4 c κs =
-    (omega arith, omega arith, c .before .before .before .before .before .before .before .before .before .before .before .before .before .before .before .before .before .before .pre .2)
+    (omega arith, omega arith, c .before .before .before .before .before .before .before .before .before .before .before .before .before .before .before .before .before .before .before .pre .2)
 
-enum-told-3 : tie.Need-enum-told-3
-enum-told-3 c = search needs
+enum-told-2 : tie.Need-enum-told-2
+enum-told-2 c = search needs
 
 refusal-requires-5 : tie.Need-refusal-requires-5
 refusal-requires-5 c κs = search needs
@@ -160,7 +160,7 @@ refusal-requires-5 c κs = search needs
 returns-6 : tie.Need-returns-6
 unfolding textField bytesField nameAt names
 returns-6 c =
-    let m = c .before .before .before .before .before .before .before .before .before .before .before .before .before .before .before .before .before .before .before .before .before .args .m .now in
+    let m = c .before .before .before .before .before .before .before .before .before .before .before .before .before .before .before .before .before .before .before .before .before .before .args .m .now in
     let st = stop m (textField destinationRealm true) [] (c .before .before .text-field4 .result) (c .refusal5 .result)
     (c .before .before .text-field4 .ensures true) refl (c .before .match5 .keys2) (c .refusal5 .ensures) in
     both-failed m (c .refusal5 .result) (four (c .before .before .before) ∙ st .0) (st .1)
@@ -168,13 +168,14 @@ returns-6 c =
 returns-7 : tie.Need-returns-7
 unfolding bytesField nameAt names
 returns-7 c =
-    let m = c .before .before .before .before .before .before .before .before .before .before .before .before .before .before .before .before .before .before .before .before .before .args .m .now in
-    let session = c .before .before .before .before .before .before .before .before .before .before .before .before .before .before .g1 .given .0 .0 in
-    let host = c .before .before .before .before .before .before .before .g3 .given .0 .0 in
-    both-held m session host (five c)
-    (c .before .before .before .before .before .before .before .before .before .before .before .before .before .before .before .before .text-field .ensures true .found session (c .before .before .before .before .before .before .before .before .before .before .before .before .before .before .g1 .given .1))
-    (c .before .before .before .before .before .before .before .before .before .text-field2 .ensures true .found host
-    (c .before .before .before .before .before .before .before .g3 .given .1))
+    let m = c .before .before .before .before .before .before .before .before .before .before .before .before .before .before .before .before .before .before .before .before .before .before .args .m .now in
+    let session = c .before .before .before .before .before .before .before .before .before .before .before .before .before .before .before .g1 .given .0 .0 in
+    let host = c .before .before .before .before .before .before .before .before .g3 .given .0 .0 in
+    let realm = c .before .before .before .before .g4 .given .0 .0 in
+    both-held m session host realm (five c)
+    (c .before .before .before .before .before .before .before .before .before .before .before .before .before .before .before .before .before .text-field .ensures true .found session (c .before .before .before .before .before .before .before .before .before .before .before .before .before .before .before .g1 .given .1))
+    (c .before .before .before .before .before .before .before .before .before .before .text-field2 .ensures true .found host (c .before .before .before .before .before .before .before .before .g3 .given .1))
+    (c .before .before .before .before .before .before .text-field3 .ensures true .found realm (c .before .before .before .before .g4 .given .1))
 
 pub first-five-spec : {M : Type 1} → statement M
 first-five-spec =
@@ -195,11 +196,11 @@ first-five-spec =
     refusal-requires-3
     returns-4
     text-field-requires-3
-    enum-told-2
+    enum-known-g4
     refusal-requires-4
     returns-5
     text-field-requires-4
-    enum-told-3
+    enum-told-2
     refusal-requires-5
     returns-6
     returns-7)

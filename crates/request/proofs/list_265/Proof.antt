@@ -16,60 +16,65 @@ use Rattle.message.proofs.Listing.{go-on, stop, may-stop, may-go, found-there, 
 use Rattle.request.proofs.list_265.Statement.{statement}
 use Rattle.request.proofs.list_265.Tie as tie
 
-abbrev behind4 : List Avp → List ℕ
-behind4 xs = fieldCode xs (textField visitedNetwork false) ∷ lastTwo xs
+abbrev behind4 : ℕ → List Avp → List ℕ
+behind4 most xs = fieldCode xs (textField visitedNetwork false) ∷ lastTwo most xs
 
-abbrev behind3 : List Avp → List ℕ
-behind3 xs = fieldCode xs (numberField sessionRequestType 0 1) ∷ behind4 xs
+abbrev behind3 : ℕ → List Avp → List ℕ
+behind3 most xs = fieldCode xs (numberField sessionRequestType 0 1) ∷ behind4 most xs
 
-abbrev behind2 : List Avp → List ℕ
-behind2 xs = fieldCode xs (textField userName true) ∷ behind3 xs
+abbrev behind2 : ℕ → List Avp → List ℕ
+behind2 most xs = fieldCode xs (textField userName true) ∷ behind3 most xs
 
-abbrev behind1 : List Avp → List ℕ
-behind1 xs = fieldCode xs (textField destinationHost true) ∷ behind2 xs
+abbrev behind1 : ℕ → List Avp → List ℕ
+behind1 most xs = fieldCode xs (textField destinationHost true) ∷ behind2 most xs
 
 is-one : (n : ℕ) → (n ≡ 0 → ⊥) → n ≤ 1 → n ≡ 1
 is-one zero z h = absurd (z refl)
 is-one (suc n) z h = omega arith
 
-all : (m : List ℕ) → restCode 265 (avps m) ≡ firstOf (fieldCode (avps m) (numberField authRequestType 2 2) ∷ behind1 (avps m))
+all : (most : ℕ) (m : List ℕ) → restCode most 265 (avps m) ≡ firstOf (fieldCode (avps m) (numberField authRequestType 2 2) ∷ behind1 most (avps m))
 unfolding restCode pick for265 lastTwo
-all m = refl
+all most m = refl
 
-one : (p : tie.After-enum-told) → restCode 265 (avps (p .before .before .before .before .before .args .m .now)) ≡ firstOf (behind1 (avps (p .before .before .before .before .before .args .m .now)))
+one : (p : tie.After-enum-told) → restCode (p .before .before .before .before .before .args .most) 265 (avps (p .before .before .before .before .before .args .m .now)) ≡ firstOf (behind1 (p .before .before .before .before .before .args .most) (avps (p .before .before .before .before .before .args .m .now)))
 unfolding numberField nameAt names
 one p =
+    let most = p .before .before .before .before .before .args .most in
     let m = p .before .before .before .before .before .args .m .now in
-    all m ∙ go-on m (numberField authRequestType 2 2) (behind1 (avps m)) (p .before .before .number-field .result) (p .enum-told .given .0 .0)
+    all most m ∙ go-on m (numberField authRequestType 2 2) (behind1 most (avps m)) (p .before .before .number-field .result) (p .enum-told .given .0 .0)
     (p .before .before .number-field .ensures) (p .enum-told .given .1)
 
-two : (p : tie.After-enum-told2) → restCode 265 (avps (p .before .before .before .before .before .before .before .before .args .m .now)) ≡ firstOf (behind2 (avps (p .before .before .before .before .before .before .before .before .args .m .now)))
+two : (p : tie.After-enum-told2) → restCode (p .before .before .before .before .before .before .before .before .args .most) 265 (avps (p .before .before .before .before .before .before .before .before .args .m .now)) ≡ firstOf (behind2 (p .before .before .before .before .before .before .before .before .args .most) (avps (p .before .before .before .before .before .before .before .before .args .m .now)))
 unfolding textField bytesField nameAt names
 two p =
+    let most = p .before .before .before .before .before .before .before .before .args .most in
     let m = p .before .before .before .before .before .before .before .before .args .m .now in
-    one (p .before .before .before) ∙ go-on m (textField destinationHost true) (behind2 (avps m)) (p .before .before .text-field .result)
+    one (p .before .before .before) ∙ go-on m (textField destinationHost true) (behind2 most (avps m)) (p .before .before .text-field .result)
     (p .enum-told2 .given .0 .0) (p .before .before .text-field .ensures true) (p .enum-told2 .given .1)
 
-three : (p : tie.After-known-told) → restCode 265 (avps (p .before .before .before .before .before .before .before .before .before .before .before .before .args .m .now)) ≡ firstOf (behind3 (avps (p .before .before .before .before .before .before .before .before .before .before .before .before .args .m .now)))
+three : (p : tie.After-known-told) → restCode (p .before .before .before .before .before .before .before .before .before .before .before .before .args .most) 265 (avps (p .before .before .before .before .before .before .before .before .before .before .before .before .args .m .now)) ≡ firstOf (behind3 (p .before .before .before .before .before .before .before .before .before .before .before .before .args .most) (avps (p .before .before .before .before .before .before .before .before .before .before .before .before .args .m .now)))
 unfolding textField bytesField nameAt names
 three p =
+    let most = p .before .before .before .before .before .before .before .before .before .before .before .before .args .most in
     let m = p .before .before .before .before .before .before .before .before .before .before .before .before .args .m .now in
-    two (p .before .before .before .before) ∙ go-on m (textField userName true) (behind3 (avps m)) (p .before .before .before .text-field2 .result)
+    two (p .before .before .before .before) ∙ go-on m (textField userName true) (behind3 most (avps m)) (p .before .before .before .text-field2 .result)
     (p .before .g3 .given .0 .0) (p .before .before .before .text-field2 .ensures true) (p .before .g3 .given .1)
 
-four : (p : tie.After-known-told2) → restCode 265 (avps (p .before .before .before .before .before .before .before .before .before .before .before .before .before .before .before .before .args .m .now)) ≡ firstOf (behind4 (avps (p .before .before .before .before .before .before .before .before .before .before .before .before .before .before .before .before .args .m .now)))
+four : (p : tie.After-known-told2) → restCode (p .before .before .before .before .before .before .before .before .before .before .before .before .before .before .before .before .args .most) 265 (avps (p .before .before .before .before .before .before .before .before .before .before .before .before .before .before .before .before .args .m .now)) ≡ firstOf (behind4 (p .before .before .before .before .before .before .before .before .before .before .before .before .before .before .before .before .args .most) (avps (p .before .before .before .before .before .before .before .before .before .before .before .before .before .before .before .before .args .m .now)))
 unfolding numberField nameAt names
 four p =
+    let most = p .before .before .before .before .before .before .before .before .before .before .before .before .before .before .before .before .args .most in
     let m = p .before .before .before .before .before .before .before .before .before .before .before .before .before .before .before .before .args .m .now in
-    three (p .before .before .before .before) ∙ go-on m (numberField sessionRequestType 0 1) (behind4 (avps m))
+    three (p .before .before .before .before) ∙ go-on m (numberField sessionRequestType 0 1) (behind4 most (avps m))
     (p .before .before .before .number-field2 .result) (p .before .g4 .given .0 .0) (p .before .before .before .number-field2 .ensures)
     (p .before .g4 .given .1)
 
-five : (p : tie.At-match5-keys2) → restCode 265 (avps (p .before .before .before .before .before .before .before .before .before .before .before .before .before .before .before .before .before .before .args .m .now)) ≡ firstOf (lastTwo (avps (p .before .before .before .before .before .before .before .before .before .before .before .before .before .before .before .before .before .before .args .m .now)))
+five : (p : tie.At-match5-keys2) → restCode (p .before .before .before .before .before .before .before .before .before .before .before .before .before .before .before .before .before .before .args .most) 265 (avps (p .before .before .before .before .before .before .before .before .before .before .before .before .before .before .before .before .before .before .args .m .now)) ≡ firstOf (lastTwo (p .before .before .before .before .before .before .before .before .before .before .before .before .before .before .before .before .before .before .args .most) (avps (p .before .before .before .before .before .before .before .before .before .before .before .before .before .before .before .before .before .before .args .m .now)))
 unfolding textField bytesField nameAt names
 five p =
+    let most = p .before .before .before .before .before .before .before .before .before .before .before .before .before .before .before .before .before .before .args .most in
     let m = p .before .before .before .before .before .before .before .before .before .before .before .before .before .before .before .before .before .before .args .m .now in
-    four (p .before .before) ∙ may-go m (textField visitedNetwork false) (lastTwo (avps m)) (p .before .text-field3 .result)
+    four (p .before .before) ∙ may-go m (textField visitedNetwork false) (lastTwo most (avps m)) (p .before .text-field3 .result)
     (p .before .text-field3 .ensures false) refl (p .match5 .keys2)
 
 -- the spans of User-Name and of the type
@@ -99,10 +104,11 @@ refusal-requires c κs = search needs
 returns : tie.Need-returns
 unfolding numberField nameAt names
 returns c =
+    let most = c .before .before .before .before .before .args .most in
     let m = c .before .before .before .before .before .args .m .now in
-    let st = stop m (numberField authRequestType 2 2) (behind1 (avps m)) (c .before .before .number-field .result) (c .refusal .result)
+    let st = stop m (numberField authRequestType 2 2) (behind1 most (avps m)) (c .before .before .number-field .result) (c .refusal .result)
     (c .before .before .number-field .ensures) refl (c .before .match .keys2) (c .refusal .ensures) in
-    listed-refused m (restCode 265 (avps m)) (requestOf 265 (avps m)) (c .refusal .result) (all m ∙ st .0) (st .1)
+    listed-refused m (restCode most 265 (avps m)) (requestOf 265 (avps m)) (c .refusal .result) (all most m ∙ st .0) (st .1)
 
 text-field-requires : tie.Need-text-field-requires
 text-field-requires c κs = search needs
@@ -116,10 +122,11 @@ refusal-requires-2 c κs = search needs
 returns-2 : tie.Need-returns-2
 unfolding textField bytesField nameAt names
 returns-2 c =
+    let most = c .before .before .before .before .before .before .before .before .args .most in
     let m = c .before .before .before .before .before .before .before .before .args .m .now in
-    let st = stop m (textField destinationHost true) (behind2 (avps m)) (c .before .before .text-field .result) (c .refusal2 .result)
+    let st = stop m (textField destinationHost true) (behind2 most (avps m)) (c .before .before .text-field .result) (c .refusal2 .result)
     (c .before .before .text-field .ensures true) refl (c .before .match2 .keys2) (c .refusal2 .ensures) in
-    listed-refused m (restCode 265 (avps m)) (requestOf 265 (avps m)) (c .refusal2 .result) (one (c .before .before .before) ∙ st .0) (st .1)
+    listed-refused m (restCode most 265 (avps m)) (requestOf 265 (avps m)) (c .refusal2 .result) (one (c .before .before .before) ∙ st .0) (st .1)
 
 text-field-requires-2 : tie.Need-text-field-requires-2
 text-field-requires-2 c κs = search needs
@@ -133,10 +140,11 @@ refusal-requires-3 c κs = search needs
 returns-3 : tie.Need-returns-3
 unfolding textField bytesField nameAt names
 returns-3 c =
+    let most = c .before .before .before .before .before .before .before .before .before .before .before .args .most in
     let m = c .before .before .before .before .before .before .before .before .before .before .before .args .m .now in
-    let st = stop m (textField userName true) (behind3 (avps m)) (c .before .before .text-field2 .result) (c .refusal3 .result)
+    let st = stop m (textField userName true) (behind3 most (avps m)) (c .before .before .text-field2 .result) (c .refusal3 .result)
     (c .before .before .text-field2 .ensures true) refl (c .before .match3 .keys2) (c .refusal3 .ensures) in
-    listed-refused m (restCode 265 (avps m)) (requestOf 265 (avps m)) (c .refusal3 .result) (two (c .before .before .before) ∙ st .0) (st .1)
+    listed-refused m (restCode most 265 (avps m)) (requestOf 265 (avps m)) (c .refusal3 .result) (two (c .before .before .before) ∙ st .0) (st .1)
 
 number-field-requires-2 : tie.Need-number-field-requires-2
 number-field-requires-2 c κs = search needs
@@ -150,10 +158,11 @@ refusal-requires-4 c κs = search needs
 returns-4 : tie.Need-returns-4
 unfolding numberField nameAt names
 returns-4 c =
+    let most = c .before .before .before .before .before .before .before .before .before .before .before .before .before .before .before .args .most in
     let m = c .before .before .before .before .before .before .before .before .before .before .before .before .before .before .before .args .m .now in
-    let st = stop m (numberField sessionRequestType 0 1) (behind4 (avps m)) (c .before .before .number-field2 .result) (c .refusal4 .result)
+    let st = stop m (numberField sessionRequestType 0 1) (behind4 most (avps m)) (c .before .before .number-field2 .result) (c .refusal4 .result)
     (c .before .before .number-field2 .ensures) refl (c .before .match4 .keys2) (c .refusal4 .ensures) in
-    listed-refused m (restCode 265 (avps m)) (requestOf 265 (avps m)) (c .refusal4 .result) (three (c .before .before .before) ∙ st .0) (st .1)
+    listed-refused m (restCode most 265 (avps m)) (requestOf 265 (avps m)) (c .refusal4 .result) (three (c .before .before .before) ∙ st .0) (st .1)
 
 text-field-requires-3 : tie.Need-text-field-requires-3
 text-field-requires-3 c κs = search needs
@@ -164,11 +173,12 @@ enum-known-g5 c = search needs
 returns-5 : tie.Need-returns-5
 unfolding textField bytesField nameAt names
 returns-5 c =
+    let most = c .before .before .before .before .before .before .before .before .before .before .before .before .before .before .before .before .before .before .before .before .args .most in
     let m = c .before .before .before .before .before .before .before .before .before .before .before .before .before .before .before .before .before .before .before .before .args .m .now in
     let n = c .before .g5 .given .0 .0 in
-    let st = may-stop m (textField visitedNetwork false) (lastTwo (avps m)) (c .before .before .before .text-field3 .result) n
+    let st = may-stop m (textField visitedNetwork false) (lastTwo most (avps m)) (c .before .before .before .text-field3 .result) n
     (c .before .before .before .text-field3 .ensures false) (c .before .g5 .given .1) in
-    listed-refused m (restCode 265 (avps m)) (requestOf 265 (avps m)) n (four (c .before .before .before .before) ∙ st .0) (st .1)
+    listed-refused m (restCode most 265 (avps m)) (requestOf 265 (avps m)) n (four (c .before .before .before .before) ∙ st .0) (st .1)
 
 add-e : tie.Need-add-e
 add-e c =
@@ -208,7 +218,8 @@ is-found-requires c κs = search needs
 tunnel-end-requires : tie.Need-tunnel-end-requires
 tunnel-end-requires c κs =
     let s = c .before .before .before .before .before .before .before .before .before .before .before .before .before .before .before .before .before .before .before .before .before .before .before in
-    (s .pre .0, user (c .before .before .before .before .before .before .before .before .before .before .before), s .pre .1, s .pre .2)
+    let p = s .pre in
+    (p .0, user (c .before .before .before .before .before .before .before .before .before .before .before), p .1, p .2, p .3, p .4, p .5, p .6, p .7)
 
 returns-6 : tie.Need-returns-6
 unfolding textField bytesField nameAt names
@@ -218,25 +229,26 @@ returns-6 c =
     (c .before .before .before .before .before .before .before .text-field3 .result)
     (c .before .before .before .before .before .before .before .text-field3 .ensures false)
     (c .before .before .before .before .before .before .match5 .keys2) in
-    of-type-0 m (c .tunnel-end .result) (c .before .is-found .result) (five (c .before .before .before .before .before .before))
+    of-type-0 (c .before .before .before .before .before .before .before .before .before .before .before .before .before .before .before .before .before .before .before .before .before .before .before .before .args .most) m (c .tunnel-end .result) (c .before .is-found .result) (five (c .before .before .before .before .before .before))
     (sym (type (c .before .before .before)) ∙ c .before .before .if1 .taken) visited (c .tunnel-end .ensures)
 
 policy-end-requires : tie.Need-policy-end-requires
 policy-end-requires c κs =
     let s = c .before .before .before .before .before .before .before .before .before .before .before .before .before .before .before .before .before .before .before .before .before .before in
-    (s .pre .0, user (c .before .before .before .before .before .before .before .before .before .before), s .pre .1)
+    let p = s .pre in
+    (p .0, user (c .before .before .before .before .before .before .before .before .before .before), p .1, p .4, p .5, p .6, p .7)
 
 returns-7 : tie.Need-returns-7
 unfolding numberField nameAt names
 returns-7 c =
     let m = c .before .before .before .before .before .before .before .before .before .before .before .before .before .before .before .before .before .before .before .before .before .before .before .args .m .now in
     let g = c .before .before .before .before .before .before .before .before .g4 .given in
-    let most : typeOf (avps m) ≤ 1 = within-high 0 1 (typeOf (avps m))
+    let few : typeOf (avps m) ≤ 1 = within-high 0 1 (typeOf (avps m))
     (number-in m sessionRequestType 0 1 (c .before .before .before .before .before .before .before .before .before .before .number-field2 .result)
     (g .0 .0) (c .before .before .before .before .before .before .before .before .before .before .number-field2 .ensures) (g .1)) in
     let t = type (c .before .before) in
-    of-type-1 m (c .policy-end .result) (five (c .before .before .before .before .before))
-    (is-one (typeOf (avps m)) (λ z. c .before .if1 .left (t ∙ z)) most) (c .policy-end .ensures)
+    of-type-1 (c .before .before .before .before .before .before .before .before .before .before .before .before .before .before .before .before .before .before .before .before .before .before .before .args .most) m (c .policy-end .result) (five (c .before .before .before .before .before))
+    (is-one (typeOf (avps m)) (λ z. c .before .if1 .left (t ∙ z)) few) (c .policy-end .ensures)
 
 pub list-265-spec : {M : Type 1} → statement M
 list-265-spec =

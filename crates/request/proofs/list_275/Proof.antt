@@ -21,29 +21,29 @@ behind2 xs = fieldCode xs (textField userName true) ∷ behind3 xs
 abbrev behind1 : List Avp → List ℕ
 behind1 xs = fieldCode xs (textField destinationHost true) ∷ behind2 xs
 
-all : (m : List ℕ) → restCode 275 (avps m) ≡ firstOf (fieldCode (avps m) (numberField terminationCause 1 8) ∷ behind1 (avps m))
+all : (most : ℕ) (m : List ℕ) → restCode most 275 (avps m) ≡ firstOf (fieldCode (avps m) (numberField terminationCause 1 8) ∷ behind1 (avps m))
 unfolding restCode pick for275
-all m = refl
+all most m = refl
 
-one : (p : tie.After-enum-told) → restCode 275 (avps (p .before .before .before .before .before .args .m .now)) ≡ firstOf (behind1 (avps (p .before .before .before .before .before .args .m .now)))
+one : (most : ℕ) (p : tie.After-enum-told) → restCode most 275 (avps (p .before .before .before .before .before .args .m .now)) ≡ firstOf (behind1 (avps (p .before .before .before .before .before .args .m .now)))
 unfolding numberField nameAt names
-one p =
+one most p =
     let m = p .before .before .before .before .before .args .m .now in
-    all m ∙ go-on m (numberField terminationCause 1 8) (behind1 (avps m)) (p .before .before .number-field .result) (p .enum-told .given .0 .0)
+    all most m ∙ go-on m (numberField terminationCause 1 8) (behind1 (avps m)) (p .before .before .number-field .result) (p .enum-told .given .0 .0)
     (p .before .before .number-field .ensures) (p .enum-told .given .1)
 
-two : (p : tie.After-enum-told2) → restCode 275 (avps (p .before .before .before .before .before .before .before .before .args .m .now)) ≡ firstOf (behind2 (avps (p .before .before .before .before .before .before .before .before .args .m .now)))
+two : (most : ℕ) (p : tie.After-enum-told2) → restCode most 275 (avps (p .before .before .before .before .before .before .before .before .args .m .now)) ≡ firstOf (behind2 (avps (p .before .before .before .before .before .before .before .before .args .m .now)))
 unfolding textField bytesField nameAt names
-two p =
+two most p =
     let m = p .before .before .before .before .before .before .before .before .args .m .now in
-    one (p .before .before .before) ∙ go-on m (textField destinationHost true) (behind2 (avps m)) (p .before .before .text-field .result)
+    one most (p .before .before .before) ∙ go-on m (textField destinationHost true) (behind2 (avps m)) (p .before .before .text-field .result)
     (p .enum-told2 .given .0 .0) (p .before .before .text-field .ensures true) (p .enum-told2 .given .1)
 
-three : (p : tie.After-known-told) → restCode 275 (avps (p .before .before .before .before .before .before .before .before .before .before .before .before .args .m .now)) ≡ firstOf (behind3 (avps (p .before .before .before .before .before .before .before .before .before .before .before .before .args .m .now)))
+three : (most : ℕ) (p : tie.After-known-told) → restCode most 275 (avps (p .before .before .before .before .before .before .before .before .before .before .before .before .args .m .now)) ≡ firstOf (behind3 (avps (p .before .before .before .before .before .before .before .before .before .before .before .before .args .m .now)))
 unfolding textField bytesField nameAt names
-three p =
+three most p =
     let m = p .before .before .before .before .before .before .before .before .before .before .before .before .args .m .now in
-    two (p .before .before .before .before) ∙ go-on m (textField userName true) (behind3 (avps m)) (p .before .before .before .text-field2 .result)
+    two most (p .before .before .before .before) ∙ go-on m (textField userName true) (behind3 (avps m)) (p .before .before .before .text-field2 .result)
     (p .before .name .given .0 .0) (p .before .before .before .text-field2 .ensures true) (p .before .name .given .1)
 
 number-field-requires : tie.Need-number-field-requires
@@ -61,7 +61,7 @@ returns c =
     let m = c .before .before .before .before .before .args .m .now in
     let st = stop m (numberField terminationCause 1 8) (behind1 (avps m)) (c .before .before .number-field .result) (c .refusal .result)
     (c .before .before .number-field .ensures) refl (c .before .match .keys2) (c .refusal .ensures) in
-    listed-refused m (restCode 275 (avps m)) (requestOf 275 (avps m)) (c .refusal .result) (all m ∙ st .0) (st .1)
+    λ most. listed-refused m (restCode most 275 (avps m)) (requestOf 275 (avps m)) (c .refusal .result) (all most m ∙ st .0) (st .1)
 
 text-field-requires : tie.Need-text-field-requires
 text-field-requires c κs = search needs
@@ -78,7 +78,7 @@ returns-2 c =
     let m = c .before .before .before .before .before .before .before .before .args .m .now in
     let st = stop m (textField destinationHost true) (behind2 (avps m)) (c .before .before .text-field .result) (c .refusal2 .result)
     (c .before .before .text-field .ensures true) refl (c .before .match2 .keys2) (c .refusal2 .ensures) in
-    listed-refused m (restCode 275 (avps m)) (requestOf 275 (avps m)) (c .refusal2 .result) (one (c .before .before .before) ∙ st .0) (st .1)
+    λ most. listed-refused m (restCode most 275 (avps m)) (requestOf 275 (avps m)) (c .refusal2 .result) (one most (c .before .before .before) ∙ st .0) (st .1)
 
 text-field-requires-2 : tie.Need-text-field-requires-2
 text-field-requires-2 c κs = search needs
@@ -95,7 +95,7 @@ returns-3 c =
     let m = c .before .before .before .before .before .before .before .before .before .before .before .args .m .now in
     let st = stop m (textField userName true) (behind3 (avps m)) (c .before .before .text-field2 .result) (c .refusal3 .result)
     (c .before .before .text-field2 .ensures true) refl (c .before .match3 .keys2) (c .refusal3 .ensures) in
-    listed-refused m (restCode 275 (avps m)) (requestOf 275 (avps m)) (c .refusal3 .result) (two (c .before .before .before) ∙ st .0) (st .1)
+    λ most. listed-refused m (restCode most 275 (avps m)) (requestOf 275 (avps m)) (c .refusal3 .result) (two most (c .before .before .before) ∙ st .0) (st .1)
 
 text-field-requires-3 : tie.Need-text-field-requires-3
 text-field-requires-3 c κs = search needs
@@ -112,7 +112,7 @@ returns-4 c =
     let m = c .before .before .before .before .before .before .before .before .before .before .before .before .before .before .before .args .m .now in
     let st = stop m (labelField wlanApnId true) [] (c .before .before .text-field3 .result) (c .refusal4 .result)
     (c .before .before .text-field3 .ensures true) refl (c .before .match4 .keys2) (c .refusal4 .ensures) in
-    listed-refused m (restCode 275 (avps m)) (requestOf 275 (avps m)) (c .refusal4 .result) (three (c .before .before .before) ∙ st .0) (st .1)
+    λ most. listed-refused m (restCode most 275 (avps m)) (requestOf 275 (avps m)) (c .refusal4 .result) (three most (c .before .before .before) ∙ st .0) (st .1)
 
 returns-5 : tie.Need-returns-5
 unfolding labelField bytesField nameAt names firstOf
@@ -121,12 +121,12 @@ returns-5 c =
     let m = a .m .now in
     let label = c .before .apn .given .0 .0 in
     let user = c .before .before .before .before .before .name .given .0 .0 in
-    told-termination m user (a .session) label
+    λ most. told-termination most m user (a .session) label
     (c .before .before .before .before .before .before .before .text-field2 .ensures true .found user
     (c .before .before .before .before .before .name .given .1))
     (c .before .before .before .before .before .before .before .before .before .before .before .before .before .before .before .before .pre .1)
     (c .before .before .before .text-field3 .ensures true .found label (c .before .apn .given .1))
-    (three (c .before .before .before .before) ∙ go-on m (labelField wlanApnId true) [] (c .before .before .before .text-field3 .result) label
+    (three most (c .before .before .before .before) ∙ go-on m (labelField wlanApnId true) [] (c .before .before .before .text-field3 .result) label
     (c .before .before .before .text-field3 .ensures true) (c .before .apn .given .1))
 
 pub list-275-spec : {M : Type 1} → statement M

@@ -31,7 +31,11 @@ list-265-requires : tie.Need-list-265-requires
 list-265-requires c κs =
     let b = c .before .before .before .b2 .given in
     let r = c .before .before .before .before .before .first-five .ensures in
-    (c .before .before .before .before .before .before .before .before .before .pre .3, r .session (b .0 .0) (b .0 .1 .0) (b .1), r .host (b .0 .0) (b .0 .1 .0) (b .1))
+    let p = c .before .before .before .before .before .before .before .before .before .pre in
+    let s = b .0 .0 in
+    let h = b .0 .1 .0 in
+    let l = b .0 .1 .1 .0 in
+    (p .3, r .session s h l (b .1), r .host s h l (b .1), r .realm s h l (b .1), p .0, p .2, p .4, p .5)
 
 returns : tie.Need-returns
 unfolding failedWith
@@ -40,14 +44,14 @@ returns c =
     let m = s .args .m .now in
     let k : command m ≡ 265 = sym (c .before .before .read24 .ensures .0) ∙ c .before .if1 .taken in
     let p = c .before .before .before .before .before .before .before .proxies-seen in
-    let z = lists-rest m (s .pre .1) (s .pre .2) (c .before .before .before .before .before .before .first-five .ensures .code ∙ ap failedWith (c .before .before .before .before .b2 .given .1)) in
-    heard-lists m (c .list-265 .result) (p .result) (p .ensures) (rw (z, k) (c .list-265 .ensures))
+    let z = lists-rest (s .args .most) m (s .pre .1) (s .pre .2) (c .before .before .before .before .before .before .first-five .ensures .code ∙ ap failedWith (c .before .before .before .before .b2 .given .1)) in
+    heard-lists (s .args .most) m (c .list-265 .result) (p .result) (p .ensures) (rw (z, k) (c .list-265 .ensures))
 
 list-275-requires : tie.Need-list-275-requires
 list-275-requires c κs =
     let b = c .before .before .before .b2 .given in
     let r = c .before .before .before .before .before .first-five .ensures in
-    (c .before .before .before .before .before .before .before .before .before .pre .3, r .session (b .0 .0) (b .0 .1 .0) (b .1))
+    (c .before .before .before .before .before .before .before .before .before .pre .3, r .session (b .0 .0) (b .0 .1 .0) (b .0 .1 .1 .0) (b .1))
 
 returns-2 : tie.Need-returns-2
 unfolding failedWith
@@ -58,9 +62,9 @@ returns-2 c =
     let r = c .before .before .before .first-five .ensures in
     let p = c .before .before .before .before .proxies-seen in
     let n = b .0 .0 in
-    heard-lists m (Refused n) (p .result) (p .ensures)
-    (listed-refused m (readingCode m) (requestOf (command m) (avps m)) n
-    (lists-failed m n (s .pre .1) (s .pre .2) (r .code ∙ ap failedWith (b .1)) (r .real n (b .1))) (r .real n (b .1)))
+    heard-lists (s .args .most) m (Refused n) (p .result) (p .ensures)
+    (listed-refused m (readingCode (s .args .most) m) (requestOf (command m) (avps m)) n
+    (lists-failed (s .args .most) m n (s .pre .1) (s .pre .2) (r .code ∙ ap failedWith (b .1)) (r .real n (b .1))) (r .real n (b .1)))
 
 returns-3 : tie.Need-returns-3
 unfolding failedWith
@@ -69,8 +73,8 @@ returns-3 c =
     let m = s .args .m .now in
     let k : command m ≡ 275 = other-command m (s .pre .1) (λ q. c .before .if1 .left (c .before .before .read24 .ensures .0 ∙ q)) in
     let p = c .before .before .before .before .before .before .before .proxies-seen in
-    let z = lists-rest m (s .pre .1) (s .pre .2) (c .before .before .before .before .before .before .first-five .ensures .code ∙ ap failedWith (c .before .before .before .before .b2 .given .1)) in
-    heard-lists m (c .list-275 .result) (p .result) (p .ensures) (rw (z, k) (c .list-275 .ensures))
+    let z = lists-rest (s .args .most) m (s .pre .1) (s .pre .2) (c .before .before .before .before .before .before .first-five .ensures .code ∙ ap failedWith (c .before .before .before .before .b2 .given .1)) in
+    heard-lists (s .args .most) m (c .list-275 .result) (p .result) (p .ensures) (rw (z, k) (c .list-275 .ensures (s .args .most)))
 
 pub lists-spec : {M : Type 1} → statement M
 lists-spec =

@@ -1,25 +1,26 @@
--- The W-APN is required and a policy is not: each way out gives the code of the first that fails, or what is asked.
-use mathlib.Core.Path.{_≡_, refl, _∙_}
+-- The W-APN is required and policies are not: each way out gives the code of the first that fails, or what is asked.
+use mathlib.Core.Path.{_≡_, refl, sym, _∙_}
 use mathlib.Core.List.{List, [], _∷_}
 use Prim.Native.Nat.{ℕ}
 use borrow.Author.Needs.{needs}
 use mathlib.Core.Bool.{true, false}
 use Rattle.octets.specs.Choice.{firstOf}
-use Rattle.message.specs.ReadingAMessage.{Avp, avps, fieldCode, textField, labelField, wlanApnId, routingPolicy}
+use Rattle.message.specs.ReadingAMessage.{Avp, avps, fieldCode, labelField, textsField, wlanApnId, routingPolicy}
 use Rattle.message.specs.Positions.{names, nameAt}
 use Rattle.message.specs.Spans.{bytesField, tunnelCode, tunnelOf}
-use Rattle.message.proofs.Listing.{go-on, stop, may-stop, may-go, listed-refused, told-tunnel}
+use Rattle.message.proofs.Listing.{above-zero, first-go, first-stop, go-on, stop, listed-refused, told-tunnel}
 use Rattle.request.proofs.tunnel_end.Statement.{statement}
 use Rattle.request.proofs.tunnel_end.Tie as tie
 
-abbrev behindLabel : List Avp → List ℕ
-behindLabel xs = fieldCode xs (textField routingPolicy false) ∷ []
+abbrev behindLabel : ℕ → List Avp → List ℕ
+behindLabel most xs = fieldCode xs (textsField most routingPolicy false) ∷ []
 
-labelled : (p : tie.After-known-told) → tunnelCode (avps (p .before .before .before .before .before .before .args .m .now)) ≡ firstOf (behindLabel (avps (p .before .before .before .before .before .before .args .m .now)))
+labelled : (p : tie.After-known-told) → tunnelCode (p .before .before .before .before .before .before .args .most) (avps (p .before .before .before .before .before .before .args .m .now)) ≡ firstOf (behindLabel (p .before .before .before .before .before .before .args .most) (avps (p .before .before .before .before .before .before .args .m .now)))
 unfolding tunnelCode labelField bytesField nameAt names
 labelled p =
-    let m = p .before .before .before .before .before .before .args .m .now in
-    go-on m (labelField wlanApnId true) (behindLabel (avps m)) (p .before .before .before .text-field .result) (p .before .g1 .given .0 .0)
+    let a = p .before .before .before .before .before .before .args in
+    let m = a .m .now in
+    go-on m (labelField wlanApnId true) (behindLabel (a .most) (avps m)) (p .before .before .before .text-field .result) (p .before .g1 .given .0 .0)
     (p .before .before .before .text-field .ensures true) (p .before .g1 .given .1)
 
 text-field-requires : tie.Need-text-field-requires
@@ -34,39 +35,37 @@ refusal-requires c κs = search needs
 returns : tie.Need-returns
 unfolding tunnelCode labelField bytesField nameAt names
 returns c =
-    let m = c .before .before .before .before .before .args .m .now in
-    let st = stop m (labelField wlanApnId true) (behindLabel (avps m)) (c .before .before .text-field .result) (c .refusal .result)
+    let a = c .before .before .before .before .before .args in
+    let m = a .m .now in
+    let st = stop m (labelField wlanApnId true) (behindLabel (a .most) (avps m)) (c .before .before .text-field .result) (c .refusal .result)
     (c .before .before .text-field .ensures true) refl (c .before .match .keys2) (c .refusal .ensures) in
-    listed-refused m (tunnelCode (avps m)) (tunnelOf (c .before .before .before .before .before .args .visited) (avps m)) (c .refusal .result)
-    (st .0) (st .1)
+    listed-refused m (tunnelCode (a .most) (avps m)) (tunnelOf (a .visited) (avps m)) (c .refusal .result) (st .0) (st .1)
 
-text-field-requires-2 : tie.Need-text-field-requires-2
-text-field-requires-2 c κs = search needs
-
-enum-known-g2 : tie.Need-enum-known-g2
-enum-known-g2 c = search needs
+routes-code-requires : tie.Need-routes-code-requires
+routes-code-requires c κs =
+    let p = c .before .before .before .before .before .before .pre in
+    (p .5, p .6, p .7, p .8, p .0)
 
 returns-2 : tie.Need-returns-2
-unfolding textField bytesField nameAt names
 returns-2 c =
-    let m = c .before .before .before .before .before .before .before .before .before .before .args .m .now in
-    let st = may-stop m (textField routingPolicy false) [] (c .before .before .before .text-field2 .result) (c .before .g2 .given .0 .0)
-    (c .before .before .before .text-field2 .ensures false) (c .before .g2 .given .1) in
-    listed-refused m (tunnelCode (avps m)) (tunnelOf
-    (c .before .before .before .before .before .before .before .before .before .before .args .visited) (avps m)) (c .before .g2 .given .0 .0)
-    (labelled (c .before .before .before .before) ∙ st .0) (st .1)
+    let a = c .before .before .before .before .before .before .before .before .args in
+    let m = a .m .now in
+    let n = c .before .routes-code .result in
+    let h = above-zero n (c .if1 .taken) in
+    listed-refused m (tunnelCode (a .most) (avps m)) (tunnelOf (a .visited) (avps m)) n
+    (labelled (c .before .before) ∙ first-stop (fieldCode (avps m) (textsField (a .most) routingPolicy false)) n [] (sym (c .before .routes-code .ensures)) h) h
 
 returns-3 : tie.Need-returns-3
-unfolding textField labelField bytesField nameAt names firstOf
+unfolding labelField bytesField nameAt names firstOf
 returns-3 c =
     let s = c .before .before .before .before .before .before .before .before in
     let a = s .args in
     let m = a .m .now in
     let label = c .before .before .before .g1 .given .0 .0 in
-    told-tunnel m (a .user) (a .session) (a .host) label (a .visited) (s .pre .1) (s .pre .2) (s .pre .3)
+    let z : fieldCode (avps m) (textsField (a .most) routingPolicy false) ≡ 0 = sym (c .before .routes-code .ensures) ∙ c .if1 .left in
+    told-tunnel (a .most) m (a .user) (a .session) (a .host) (a .realm) label (a .visited) (s .pre .1) (s .pre .2) (s .pre .3) (s .pre .4)
     (c .before .before .before .before .before .text-field .ensures true .found label (c .before .before .before .g1 .given .1))
-    (labelled (c .before .before) ∙ may-go m (textField routingPolicy false) [] (c .before .text-field2 .result)
-    (c .before .text-field2 .ensures false) refl (c .match2 .keys2))
+    (labelled (c .before .before) ∙ first-go (fieldCode (avps m) (textsField (a .most) routingPolicy false)) [] z)
 
 pub tunnel-end-spec : {M : Type 1} → statement M
 tunnel-end-spec =
@@ -76,7 +75,6 @@ tunnel-end-spec =
     enum-known-g1
     refusal-requires
     returns
-    text-field-requires-2
-    enum-known-g2
+    routes-code-requires
     returns-2
     returns-3)

@@ -1,7 +1,7 @@
 -- The part lent is the entry.
+use Rattle.table.proofs.Rows.{lent-part}
 use Prim.Native.Nat.{_*_}
 use mathlib.Core.Path.{refl}
-use Rattle.table.proofs.Tests.{lent-part}
 use borrow.Author.Needs.{needs}
 use Rattle.row.proofs.entry.Statement.{statement}
 use Rattle.row.proofs.entry.Tie as tie

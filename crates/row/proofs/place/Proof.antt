@@ -1,11 +1,14 @@
--- The part lent is the block.
-use Rattle.table.proofs.Tests.{block-lent}
+-- The part lent is the place.
+use Rattle.row.proofs.Places.{place-lent, stride-is}
 use borrow.Author.Needs.{needs}
 use Rattle.row.proofs.place.Statement.{statement}
 use Rattle.row.proofs.place.Tie as tie
 
-mul-at : tie.Need-mul-at
-mul-at c = search needs
+start-requires : tie.Need-start-requires
+start-requires c κs = search needs
+
+sub-end : tie.Need-sub-end
+sub-end c = search needs
 
 add-end : tie.Need-add-end
 add-end c = search needs
@@ -21,8 +24,12 @@ part-result-end c = search needs
 
 returns : tie.Need-returns
 returns c =
-    let given = c .before .args in
-    block-lent (given .r .now) (given .k)
+    let given = c .before .before .before .args in
+    let start-was = c .before .start in
+    let pre-was = c .before .before .before .pre in
+    place-lent (given .r .now) (given .k) (start-was .result) (pre-was .0) (start-was .ensures .0) _ (stride-is (given .r .now) (pre-was .0))
 
 pub place-spec : {M : Type 1} → statement M
-place-spec = tie.close (tie.spec mul-at add-end sub-result part-result-start part-result-end returns)
+place-spec =
+    tie.close
+    (tie.spec start-requires sub-end add-end sub-result part-result-start part-result-end returns)

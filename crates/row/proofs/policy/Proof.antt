@@ -1,14 +1,14 @@
 -- The part lent is the text from byte 264 on, of the length in byte 5.
-use mathlib.Core.Path.{_∙_}
+use mathlib.Core.Path.{sym, _∙_}
 use native.Mathlib.Omega.{arith}
-use Rattle.row.proofs.Places.{block-byte, text-lent}
-use Rattle.table.specs.TheTable.{readAccess}
+use Rattle.row.proofs.Places.{byte-at, text-lent}
+use Rattle.table.specs.TheTable.{accessAt, readAccess}
 use borrow.Author.Needs.{needs}
 use Rattle.row.proofs.policy.Statement.{statement}
 use Rattle.row.proofs.policy.Tie as tie
 
-mul-at : tie.Need-mul-at
-mul-at c = search needs
+start-requires : tie.Need-start-requires
+start-requires c κs = search needs
 
 add-at : tie.Need-add-at
 add-at c = search needs
@@ -26,24 +26,22 @@ part-result-start : tie.Need-part-result-start
 part-result-start c = search needs
 
 part-result-end : tie.Need-part-result-end
-part-result-end c =
-    let policy-length-was = c .policy-length in
-    let pre-was = c .before .before .pre in
-    omega (arith, policy-length-was .ensures .0, pre-was .2)
+part-result-end c = search needs
 
 returns : tie.Need-returns
-unfolding readAccess
+unfolding accessAt readAccess
 returns c =
-    let given = c .before .before .before .args in
+    let given = c .before .before .before .before .args in
+    let start-was = c .before .before .start in
     let policy-length-was = c .before .policy-length in
-    let pre-was = c .before .before .before .pre in
-    text-lent (given .r .now) (given .k) 264 5 (policy-length-was .result) (policy-length-was .ensures .0 ∙ block-byte (given .r .now) (given .k) 5 (omega arith)) (omega arith) (omega (arith, policy-length-was .ensures .0, pre-was .2))
+    let pre-was = c .before .before .before .before .pre in
+    text-lent (given .r .now) (given .k) (start-was .result) 264 5 (policy-length-was .result) (pre-was .0) (start-was .ensures .0) (policy-length-was .ensures .0 ∙ sym (byte-at (given .r .now) (given .k) (start-was .result) 5 (pre-was .0) (start-was .ensures .0) (omega arith))) (omega arith) (omega (arith, policy-length-was .ensures .0, pre-was .3))
 
 pub policy-spec : {M : Type 1} → statement M
 policy-spec =
     tie.close
     (tie.spec
-    mul-at
+    start-requires
     add-at
     policy-length-requires
     add-end

@@ -1,6 +1,7 @@
 -- Refused by number 1, or every byte zero: `clear-refused` and `clear-done` of SetUps.
 use Prim.Native.Nat.{_-_}
 use borrow.Author.Needs.{needs}
+use Rattle.table.specs.Answers.{lent}
 use Rattle.setup.proofs.SetUps.{clear-done, clear-refused}
 use Rattle.setup.proofs.clear.Statement.{statement}
 use Rattle.setup.proofs.clear.Tie as tie
@@ -13,7 +14,7 @@ same-length c = search needs
 
 returns : tie.Need-returns
 returns c = let number = c .before .table-number in
-    clear-refused (c .before .before .before .before .args .table .now) (number .result) (number .ensures) (c .if1 .taken)
+    clear-refused (lent (c .before .before .before .before .args .form) (c .before .before .before .before .args .table .now)) (number .result) (number .ensures) (c .if1 .taken)
 
 clear-requires : tie.Need-clear-requires
 clear-requires c κs = search needs
@@ -23,7 +24,7 @@ same-length-2 c = search needs
 
 returns-2 : tie.Need-returns-2
 returns-2 c = let number = c .before .before .before .before .before .table-number in
-    clear-done (c .before .before .before .before .before .before .before .before .args .table .now) (number .result) (c .before .before .clear .last .0) (number .ensures) (c .before .before .before .before .if1 .left) (c .before .before .clear .ensures)
+    clear-done (lent (c .before .before .before .before .before .before .before .before .args .form) (c .before .before .before .before .before .before .before .before .args .table .now)) (number .result) (c .before .before .clear .last .0) (number .ensures) (c .before .before .before .before .if1 .left) (c .before .before .clear .ensures)
 
 pub clear-spec : {M : Type 1} → statement M
 clear-spec =

@@ -4,7 +4,7 @@ use native.Mathlib.Omega.{arith}
 use lib.ListN.{length}
 use Rattle.table.specs.TheTable.{Entry}
 use Rattle.table.proofs.Tests.{fails, passes-on}
-use Rattle.row.proofs.Entries.{count-is, length-room, most-four, size-of}
+use Rattle.row.proofs.Entries.{count-is, least-of, length-room, most-four}
 use Rattle.setup.proofs.SetUps.{entry-0, entry-14, entry-15, entry-16, entry-17, form-said, label-said, sum-said}
 use borrow.Author.Needs.{needs}
 use Rattle.setup.proofs.next_number.Statement.{statement}
@@ -26,7 +26,7 @@ entry-count-requires : tie.Need-entry-count-requires
 entry-count-requires c κs =
     let given = c .before .before .before .before .args in
     let pre-was = c .before .before .before .before .pre in
-    size-of (given .row .now) pre-was
+    least-of (given .row .now) pre-was
 
 long-requires : tie.Need-long-requires
 long-requires c κs = search needs
@@ -35,7 +35,7 @@ entries-room-requires : tie.Need-entries-room-requires
 entries-room-requires c κs =
     let given = c .before .before .before .before .before .before .args in
     let pre-was = c .before .before .before .before .before .before .pre in
-    size-of (given .row .now) pre-was
+    least-of (given .row .now) pre-was
 
 label-new-requires : tie.Need-label-new-requires
 label-new-requires c κs =
@@ -44,7 +44,7 @@ label-new-requires c κs =
     let pre-was = c .before .before .before .before .before .before .before .pre in
     let long-was = c .before .long in
     let entry-count-was = c .before .before .entry-count in
-    (ap length (entries-room-was .ensures) ∙ length-room (given .row .now) (size-of (given .row .now) pre-was), omega (arith, most-four (given .row .now) pre-was, count-is (given .row .now), long-was .ensures .0 ∙ entry-count-was .ensures), form-said (given .row .now) (long-was .result) (entries-room-was .result .now) (long-was .ensures .0 ∙ entry-count-was .ensures) (entries-room-was .ensures) pre-was)
+    (ap length (entries-room-was .ensures) ∙ length-room (given .row .now) (least-of (given .row .now) pre-was), omega (arith, most-four (given .row .now) pre-was, count-is (given .row .now), long-was .ensures .0 ∙ entry-count-was .ensures), form-said (given .row .now) (long-was .result) (entries-room-was .result .now) (long-was .ensures .0 ∙ entry-count-was .ensures) (entries-room-was .ensures) pre-was)
 
 returns-2 : tie.Need-returns-2
 returns-2 c =
@@ -82,7 +82,7 @@ limits-sum-requires c κs =
     let pre-was = c .before .before .before .before .before .before .before .before .before .before .pre in
     let long-was = c .before .before .before .before .long in
     let entry-count-was = c .before .before .before .before .before .entry-count in
-    (ap length (entries-room-was .ensures) ∙ length-room (given .row .now) (size-of (given .row .now) pre-was), omega (arith, most-four (given .row .now) pre-was, count-is (given .row .now), long-was .ensures .0 ∙ entry-count-was .ensures))
+    (ap length (entries-room-was .ensures) ∙ length-room (given .row .now) (least-of (given .row .now) pre-was), omega (arith, most-four (given .row .now) pre-was, count-is (given .row .now), long-was .ensures .0 ∙ entry-count-was .ensures))
 
 wide-requires : tie.Need-wide-requires
 wide-requires c κs = search needs

@@ -1,8 +1,8 @@
 -- The invariant: the sum so far is that of the first i shares, each of which 32 bits hold.
-use mathlib.Core.Path.{_≡_, sym, ap, _∙_}
-use Prim.Native.Nat.{ℕ, _+_, _*_, _-_, _/_, _<_, _≤_}
+use mathlib.Core.Path.{_≡_, ap, _∙_}
+use Prim.Native.Nat.{_*_, _-_, _≤_}
 use native.Mathlib.Omega.{arith}
-use lib.ListN.{length, getD, take}
+use lib.ListN.{take}
 use borrow.Author.Needs.{needs}
 use lib.Seq.{take-all}
 use Rattle.octets.specs.Lists.{sumOf}

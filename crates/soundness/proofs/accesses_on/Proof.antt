@@ -8,8 +8,9 @@ use lib.Dec.{eqb}
 use borrow.Author.Tests.{eq-eqb, ne-eqb}
 use Rattle.octets.specs.Lists.{keep}
 use Rattle.table.specs.TheTable.{orderLine}
-use Rattle.soundness.proofs.Line.{line-most, place-high}
+use Rattle.soundness.proofs.Line.{line-low, line-most, place-high}
 use Rattle.soundness.proofs.Accesses.{at-entry, isAt, keep-hit, keep-miss, keep-over, on-line}
+use Rattle.row.proofs.Entries.{row-least}
 use borrow.Author.Needs.{needs}
 use Rattle.soundness.proofs.accesses_on.Statement.{statement}
 use Rattle.soundness.proofs.accesses_on.Tie as tie
@@ -21,7 +22,10 @@ abbrev μ-loop : tie.MeasureT-loop
 μ-loop r e n count₀ i₀ count i = n - i
 
 accesses-in-use-requires : tie.Need-accesses-in-use-requires Inv-loop μ-loop
-accesses-in-use-requires c κs = search needs
+accesses-in-use-requires c κs =
+    let given = c .before .args in
+    let pre-was = c .before .pre in
+    (row-least (given .r .now) (pre-was .0), pre-was .1)
 
 loop-holds : tie.Need-loop-holds Inv-loop μ-loop
 loop-holds c = search needs
@@ -31,7 +35,7 @@ line-place-requires c κs =
     let pre-was = c .before .before .before .before .pre in
     let given = c .before .before .before .before .args in
     let accesses-in-use-was = c .before .before .accesses-in-use in
-    (pre-was .0, omega (arith, line-most (given .r .now), accesses-in-use-was .ensures .0))
+    (row-least (given .r .now) (pre-was .0), omega (arith, line-most (given .r .now), accesses-in-use-was .ensures .0))
 
 entry-of-requires : tie.Need-entry-of-requires Inv-loop μ-loop
 entry-of-requires c κs =
@@ -40,7 +44,7 @@ entry-of-requires c κs =
     let loop-was = c .before .before .loop in
     let accesses-in-use-was = c .before .before .before .accesses-in-use in
     let line-place-was = c .line-place in
-    (pre-was .0, omega (arith, place-high (given .r .now) (loop-was .i) (pre-was .1) (omega (arith, accesses-in-use-was .ensures .0)), line-place-was .ensures .0))
+    (pre-was .0, omega (arith, line-low (given .r .now) (loop-was .i) (omega (arith, accesses-in-use-was .ensures .0)), line-place-was .ensures .0), omega (arith, place-high (given .r .now) (loop-was .i) (pre-was .1) (omega (arith, accesses-in-use-was .ensures .0)), line-place-was .ensures .0))
 
 long-requires : tie.Need-long-requires Inv-loop μ-loop
 long-requires c κs = search needs

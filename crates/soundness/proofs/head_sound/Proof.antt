@@ -6,10 +6,9 @@ use native.Mathlib.Omega.{arith}
 use lib.Dec.{leb}
 use lib.ListN.{getD, length}
 use Rattle.octets.specs.Lists.{distinct, sumOf}
-use Rattle.row.proofs.Entries.{length-room}
+use Rattle.row.proofs.Entries.{head-size, length-room}
 use Rattle.table.specs.Soundness.{entriesForm, headForm, labels, limits, sameLabel}
-use Rattle.table.specs.TheTable.{block, readEntries}
-use Rattle.table.proofs.Form.{length-block}
+use Rattle.table.specs.TheTable.{head, readEntries}
 use Rattle.table.proofs.Tests.{fails, passes-on}
 use Rattle.soundness.proofs.Tested.{head-count, head-sound-is}
 use borrow.Author.Needs.{needs}
@@ -24,7 +23,7 @@ head-form-requires c κs =
     let head-was = c .head in
     let given = c .before .before .args in
     let pre-was = c .before .before .pre in
-    ap length (head-was .ensures) ∙ length-block (given .r .now) 0 pre-was (omega arith)
+    ap length (head-was .ensures) ∙ head-size (given .r .now) pre-was
 
 returns : tie.Need-returns
 returns c =
@@ -32,7 +31,7 @@ returns c =
     let head-form-was = c .before .head-form in
     let head-was = c .before .before .head in
     let test1 = c .if1 in
-    rw (head-sound-is (given .r .now) (getD (block (given .r .now) 0) 18 0) refl, fails (head-form-was .ensures ∙ ap headForm (head-was .ensures)) (test1 .taken))
+    rw (head-sound-is (given .r .now) (getD (head (given .r .now)) 18 0) refl, fails (head-form-was .ensures ∙ ap headForm (head-was .ensures)) (test1 .taken))
 
 entry-count-requires : tie.Need-entry-count-requires
 entry-count-requires c κs = search needs

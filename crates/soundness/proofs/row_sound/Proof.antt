@@ -1,15 +1,13 @@
 -- The tests in the code's order are the paper's clauses: `sound-by` of Tested. Each way out is the first that fails.
 use mathlib.Core.Path.{_∙_, ap}
-use mathlib.Core.List.{List}
 use Prim.Native.Nat.{ℕ}
 use native.Mathlib.Omega.{arith}
-use lib.ListN.{length, take}
+use lib.ListN.{length}
 use Rattle.octets.specs.Lists.{every}
-use Rattle.octets.specs.Texts.{part, same}
 use Rattle.blocks.specs.RowTests.{placeSound}
 use Rattle.table.specs.Soundness.{sumsAgree}
-use Rattle.table.specs.TheTable.{places, sums}
-use Rattle.table.proofs.Form.{length-block}
+use Rattle.table.specs.TheTable.{places}
+use Rattle.row.proofs.Entries.{head-size, row-least}
 use Rattle.table.proofs.Tests.{fails, passes-on}
 use Rattle.soundness.proofs.Tested.{few-entries, sound-by, tested}
 use borrow.Author.Needs.{needs}
@@ -17,7 +15,10 @@ use Rattle.soundness.proofs.row_sound.Statement.{statement}
 use Rattle.soundness.proofs.row_sound.Tie as tie
 
 head-sound-requires : tie.Need-head-sound-requires
-head-sound-requires c κs = search needs
+head-sound-requires c κs =
+    let given = c .before .args in
+    let pre-was = c .before .pre in
+    row-least (given .r .now) pre-was
 
 returns : tie.Need-returns
 unfolding tested
@@ -29,7 +30,10 @@ returns c =
     rw (sound-by (given .r .now) pre-was, fails (head-sound-was .ensures) (test1 .taken))
 
 line-exact-requires : tie.Need-line-exact-requires
-line-exact-requires c κs = search needs
+line-exact-requires c κs =
+    let given = c .before .before .before .args in
+    let pre-was = c .before .before .before .pre in
+    row-least (given .r .now) pre-was
 
 returns-2 : tie.Need-returns-2
 unfolding tested
@@ -43,7 +47,10 @@ returns-2 c =
     rw (sound-by (given .r .now) pre-was, passes-on (head-sound-was .ensures) (test1 .left), fails (line-exact-was .ensures) (test2 .taken))
 
 entry-count-requires : tie.Need-entry-count-requires
-entry-count-requires c κs = search needs
+entry-count-requires c κs =
+    let given = c .before .before .before .before .before .args in
+    let pre-was = c .before .before .before .before .before .pre in
+    row-least (given .r .now) pre-was
 
 places-sound-requires : tie.Need-places-sound-requires
 places-sound-requires c κs = search needs
@@ -119,17 +126,20 @@ returns-5 c =
     rw (sound-by (given .r .now) pre-was, passes-on (head-sound-was .ensures) (test1 .left), passes-on (line-exact-was .ensures) (test2 .left), passes-on (places-sound-was .ensures ∙ ap (λ (n : ℕ). every (placeSound n (given .r .now)) places) (entry-count-was .ensures)) (test3 .left), passes-on (sessions-differ-was .ensures) (test4 .left), fails (under-limits-was .ensures) (test5 .taken))
 
 head-requires : tie.Need-head-requires
-head-requires c κs = search needs
+head-requires c κs =
+    let given = c .before .before .before .before .before .before .before .before .before .before .before .before .before .args in
+    let pre-was = c .before .before .before .before .before .before .before .before .before .before .before .before .before .pre in
+    row-least (given .r .now) pre-was
 
 block-sums-agree-requires : tie.Need-block-sums-agree-requires
 block-sums-agree-requires c κs =
     let head-was = c .head in
     let given = c .before .before .before .before .before .before .before .before .before .before .before .before .before .before .args in
     let pre-was = c .before .before .before .before .before .before .before .before .before .before .before .before .before .before .pre in
-    ap length (head-was .ensures) ∙ length-block (given .r .now) 0 pre-was (omega arith)
+    ap length (head-was .ensures) ∙ head-size (given .r .now) (row-least (given .r .now) pre-was)
 
 returns-6 : tie.Need-returns-6
-unfolding tested sumsAgree
+unfolding tested
 returns-6 c =
     let given = c .before .before .before .before .before .before .before .before .before .before .before .before .before .before .before .args in
     let pre-was = c .before .before .before .before .before .before .before .before .before .before .before .before .before .before .before .pre in
@@ -147,7 +157,7 @@ returns-6 c =
     let block-sums-agree-was = c .block-sums-agree in
     let head-was = c .before .head in
     rw (sound-by (given .r .now) pre-was, passes-on (head-sound-was .ensures) (test1 .left), passes-on (line-exact-was .ensures) (test2 .left), passes-on (places-sound-was .ensures ∙ ap (λ (n : ℕ). every (placeSound n (given .r .now)) places) (entry-count-was .ensures)) (test3 .left), passes-on (sessions-differ-was .ensures) (test4 .left), passes-on (under-limits-was .ensures) (test5 .left))
-    (block-sums-agree-was .ensures ∙ ap (λ (b : List ℕ). same (part b 510 2) (sums (take 510 b))) (head-was .ensures))
+    (block-sums-agree-was .ensures ∙ ap sumsAgree (head-was .ensures))
 
 pub row-sound-spec : {M : Type 1} → statement M
 row-sound-spec =

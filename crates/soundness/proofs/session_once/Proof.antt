@@ -10,8 +10,9 @@ use Rattle.octets.specs.Texts.{same}
 use Rattle.table.specs.Soundness.{sessions}
 use Rattle.table.specs.TheTable.{readRow}
 use Rattle.table.proofs.Tests.{every-end, every-on-true, every-out}
-use Rattle.soundness.proofs.Line.{line-most, place-high}
+use Rattle.soundness.proofs.Line.{line-low, line-most, place-high}
 use Rattle.soundness.proofs.Accesses.{length-sessions, session-at}
+use Rattle.row.proofs.Entries.{row-least}
 use borrow.Author.Needs.{needs}
 use Rattle.soundness.proofs.session_once.Statement.{statement}
 use Rattle.soundness.proofs.session_once.Tie as tie
@@ -26,14 +27,14 @@ line-place-requires : tie.Need-line-place-requires Inv-loop μ-loop
 line-place-requires c κs =
     let pre-was = c .before .pre in
     let given = c .before .args in
-    (pre-was .0, omega (arith, line-most (given .r .now)))
+    (row-least (given .r .now) (pre-was .0), omega (arith, line-most (given .r .now)))
 
 session-requires : tie.Need-session-requires Inv-loop μ-loop
 session-requires c κs =
     let pre-was = c .before .before .pre in
     let given = c .before .before .args in
     let line-place-was = c .line-place in
-    (pre-was .0, omega (arith, place-high (given .r .now) (given .i) (pre-was .1) (omega arith), line-place-was .ensures .0))
+    (pre-was .0, omega (arith, line-low (given .r .now) (given .i) (omega arith), line-place-was .ensures .0), omega (arith, place-high (given .r .now) (given .i) (pre-was .1) (omega arith), line-place-was .ensures .0))
 
 add-j : tie.Need-add-j Inv-loop μ-loop
 add-j c =
@@ -47,7 +48,7 @@ line-place-requires-2 : tie.Need-line-place-requires-2 Inv-loop μ-loop
 line-place-requires-2 c κs =
     let pre-was = c .before .before .before .before .before .pre in
     let given = c .before .before .before .before .before .args in
-    (pre-was .0, omega (arith, line-most (given .r .now)))
+    (row-least (given .r .now) (pre-was .0), omega (arith, line-most (given .r .now)))
 
 session-requires-2 : tie.Need-session-requires-2 Inv-loop μ-loop
 session-requires-2 c κs =
@@ -55,7 +56,7 @@ session-requires-2 c κs =
     let given = c .before .before .before .before .before .before .args in
     let loop-was = c .before .before .loop in
     let line-place2-was = c .line-place2 in
-    (pre-was .0, omega (arith, place-high (given .r .now) (loop-was .j) (pre-was .1) (omega arith), line-place2-was .ensures .0))
+    (pre-was .0, omega (arith, line-low (given .r .now) (loop-was .j) (omega arith), line-place2-was .ensures .0), omega (arith, place-high (given .r .now) (loop-was .j) (pre-was .1) (omega arith), line-place2-was .ensures .0))
 
 same-bytes-requires : tie.Need-same-bytes-requires Inv-loop μ-loop
 same-bytes-requires c κs = search needs

@@ -5,6 +5,7 @@ use mathlib.Core.List.{List, []}
 use Prim.Native.Nat.{_+_, _-_, _≤_, ℕ}
 use native.Mathlib.Omega.{arith}
 use lib.ListN.{drop, getD}
+use Rattle.row.proofs.Entries.{row-least}
 use borrow.Author.Needs.{needs}
 use Rattle.octets.specs.Lists.{distinct, every}
 use Rattle.octets.specs.Texts.{same}
@@ -22,7 +23,10 @@ abbrev μ-loop : tie.MeasureT-loop
 μ-loop r n i₀ i = n - i
 
 accesses-in-use-requires : tie.Need-accesses-in-use-requires Inv-loop μ-loop
-accesses-in-use-requires c κs = search needs
+accesses-in-use-requires c κs =
+    let given = c .before .args in
+    let pre-was = c .before .pre in
+    (row-least (given .r .now) (pre-was .0), pre-was .1)
 
 loop-holds : tie.Need-loop-holds Inv-loop μ-loop
 loop-holds c = search needs

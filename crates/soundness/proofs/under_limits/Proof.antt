@@ -8,7 +8,7 @@ use lib.ListN.{drop, getD, length}
 use lib.Dec.{leb}
 use borrow.Author.Tests.{le-leb, lt-leb}
 use Rattle.octets.specs.Texts.{part}
-use Rattle.row.proofs.Entries.{length-room}
+use Rattle.row.proofs.Entries.{length-room, row-least}
 use Rattle.table.specs.Soundness.{limits, onEntry, underLimits}
 use Rattle.table.specs.TheTable.{readEntry, readRow}
 use Rattle.soundness.proofs.Accesses.{limit-at, limit-count, under-end, under-turn}
@@ -23,7 +23,10 @@ abbrev μ-loop : tie.MeasureT-loop
 μ-loop r n entries i₀ i = n - i
 
 entries-room-requires : tie.Need-entries-room-requires Inv-loop μ-loop
-entries-room-requires c κs = search needs
+entries-room-requires c κs =
+    let given = c .before .args in
+    let pre-was = c .before .pre in
+    row-least (given .r .now) (pre-was .0)
 
 loop-holds : tie.Need-loop-holds Inv-loop μ-loop
 loop-holds c = search needs
@@ -33,7 +36,7 @@ limit-requires c κs =
     let entries-room-was = c .before .before .entries-room in
     let given = c .before .before .before .before .args in
     let pre-was = c .before .before .before .before .pre in
-    (ap length (entries-room-was .ensures) ∙ length-room (given .r .now) (pre-was .0), omega arith)
+    (ap length (entries-room-was .ensures) ∙ length-room (given .r .now) (row-least (given .r .now) (pre-was .0)), omega arith)
 
 long-requires : tie.Need-long-requires Inv-loop μ-loop
 long-requires c κs = search needs

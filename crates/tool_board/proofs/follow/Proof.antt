@@ -7,10 +7,10 @@ use Rattle.tool_board.proofs.follow.Statement.{statement}
 use Rattle.tool_board.proofs.follow.Tie as tie
 
 abbrev Inv-loop : tie.InvT-loop
-Inv-loop fd requests table₀ screens₀ w₀ turns₀ table screens w turns = (turns ≤ 4294967296) × (length table ≡ length table₀) × (length screens ≡ length screens₀)
+Inv-loop fd requests form table₀ screens₀ w₀ turns₀ table screens w turns = (turns ≤ 4294967296) × (length table ≡ length table₀) × (length screens ≡ length screens₀)
 
 abbrev μ-loop : tie.MeasureT-loop
-μ-loop fd requests table₀ screens₀ w₀ turns₀ table screens w turns = turns
+μ-loop fd requests form table₀ screens₀ w₀ turns₀ table screens w turns = turns
 
 start-requires : tie.Need-start-requires Inv-loop μ-loop
 start-requires c κs = search needs

@@ -7,24 +7,18 @@ use borrow.Author.Needs.{needs}
 use Rattle.tool_faults.proofs.is_over_limit.Statement.{statement}
 use Rattle.tool_faults.proofs.is_over_limit.Tie as tie
 
-returns : tie.Need-returns
-returns c = search needs
-
-returns-2 : tie.Need-returns-2
-returns-2 c = search needs
-
-returns-3 : tie.Need-returns-3
-returns-3 c = search needs
-
 entries-room-requires : tie.Need-entries-room-requires
 entries-room-requires c κs = search needs
+
+sub-limit : tie.Need-sub-limit
+sub-limit c = search needs
 
 limit-requires : tie.Need-limit-requires
 limit-requires c κs =
     let entries-room-was = c .entries-room in
-    let given = c .before .before .before .before .before .args in
-    let test1 = c .before .before .before .if1 in
-    (ap length (entries-room-was .ensures) ∙ length-room (given .row .now) (test1 .left), omega arith)
+    let given = c .before .before .args in
+    let pre-was = c .before .before .pre in
+    (ap length (entries-room-was .ensures) ∙ length-room (given .row .now) (pre-was .1), omega arith)
 
 long-requires : tie.Need-long-requires
 long-requires c κs = search needs
@@ -32,18 +26,16 @@ long-requires c κs = search needs
 standing-requires : tie.Need-standing-requires
 standing-requires c κs = search needs
 
-returns-4 : tie.Need-returns-4
-returns-4 c = search needs
+returns : tie.Need-returns
+returns c = search needs
 
 pub is-over-limit-spec : {M : Type 1} → statement M
 is-over-limit-spec =
     tie.close
     (tie.spec
-    returns
-    returns-2
-    returns-3
     entries-room-requires
+    sub-limit
     limit-requires
     long-requires
     standing-requires
-    returns-4)
+    returns)

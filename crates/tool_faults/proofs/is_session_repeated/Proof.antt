@@ -1,11 +1,11 @@
--- The places before this one become fewer.
+-- The place before stays one of eight.
 use Prim.Native.Nat.{_-_, _≤_}
 use borrow.Author.Needs.{needs}
 use Rattle.tool_faults.proofs.is_session_repeated.Statement.{statement}
 use Rattle.tool_faults.proofs.is_session_repeated.Tie as tie
 
 abbrev Inv-loop : tie.InvT-loop
-Inv-loop row k j₀ j = 1 ≤ j
+Inv-loop row k j₀ j = (1 ≤ j) × (j ≤ k)
 
 abbrev μ-loop : tie.MeasureT-loop
 μ-loop row k j₀ j = k - j

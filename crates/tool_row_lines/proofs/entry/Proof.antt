@@ -13,17 +13,14 @@ returns c = search needs
 returns-2 : tie.Need-returns-2
 returns-2 c = search needs
 
-returns-3 : tie.Need-returns-3
-returns-3 c = search needs
-
 entry-count-requires : tie.Need-entry-count-requires
 entry-count-requires c κs = search needs
 
 long-requires : tie.Need-long-requires
 long-requires c κs = search needs
 
-returns-4 : tie.Need-returns-4
-returns-4 c = search needs
+returns-3 : tie.Need-returns-3
+returns-3 c = search needs
 
 entries-room-requires : tie.Need-entries-room-requires
 entries-room-requires c κs = search needs
@@ -46,9 +43,9 @@ say-requires-2 c κs = search needs
 limit-requires : tie.Need-limit-requires
 limit-requires c κs =
     let entries-room-was = c .before .before .before .before .before .before .before .before .before .entries-room in
-    let given = c .before .before .before .before .before .before .before .before .before .before .before .before .before .before .before .before .before .args in
-    let test1 = c .before .before .before .before .before .before .before .before .before .before .before .before .before .before .before .if1 in
-    (ap length (entries-room-was .ensures) ∙ length-room (given .row .now) (test1 .left), omega arith)
+    let given = c .before .before .before .before .before .before .before .before .before .before .before .before .before .before .before .before .args in
+    let pre-was = c .before .before .before .before .before .before .before .before .before .before .before .before .before .before .before .before .pre in
+    (ap length (entries-room-was .ensures) ∙ length-room (given .row .now) (pre-was .1), omega arith)
 
 wide-requires : tie.Need-wide-requires
 wide-requires c κs = search needs
@@ -62,9 +59,9 @@ number-requires c κs = search needs
 flags-requires : tie.Need-flags-requires
 flags-requires c κs =
     let entries-room-was = c .before .before .before .before .before .before .before .before .before .before .before .before .before .entries-room in
-    let given = c .before .before .before .before .before .before .before .before .before .before .before .before .before .before .before .before .before .before .before .before .before .args in
-    let test1 = c .before .before .before .before .before .before .before .before .before .before .before .before .before .before .before .before .before .before .before .if1 in
-    (ap length (entries-room-was .ensures) ∙ length-room (given .row .now) (test1 .left), omega arith)
+    let given = c .before .before .before .before .before .before .before .before .before .before .before .before .before .before .before .before .before .before .before .before .args in
+    let pre-was = c .before .before .before .before .before .before .before .before .before .before .before .before .before .before .before .before .before .before .before .before .pre in
+    (ap length (entries-room-was .ensures) ∙ length-room (given .row .now) (pre-was .1), omega arith)
 
 flags-requires-2 : tie.Need-flags-requires-2
 flags-requires-2 c κs = search needs
@@ -76,7 +73,9 @@ say-requires-3 : tie.Need-say-requires-3
 say-requires-3 c κs = search needs
 
 standing-requires : tie.Need-standing-requires
-standing-requires c κs = search needs
+standing-requires c κs =
+    let pre-was = c .before .before .before .before .before .before .before .before .before .before .before .before .before .before .before .before .before .before .before .before .before .before .before .before .before .before .pre in
+    pre-was .0
 
 number-requires-2 : tie.Need-number-requires-2
 number-requires-2 c κs = search needs
@@ -87,8 +86,8 @@ slice-aggregate-say-4 c = search needs
 say-requires-4 : tie.Need-say-requires-4
 say-requires-4 c κs = search needs
 
-returns-5 : tie.Need-returns-5
-returns-5 c = search needs
+returns-4 : tie.Need-returns-4
+returns-4 c = search needs
 
 pub entry-spec : {M : Type 1} → statement M
 entry-spec =
@@ -96,10 +95,9 @@ entry-spec =
     (tie.spec
     returns
     returns-2
-    returns-3
     entry-count-requires
     long-requires
-    returns-4
+    returns-3
     entries-room-requires
     slice-aggregate-say
     say-requires
@@ -118,4 +116,4 @@ entry-spec =
     number-requires-2
     slice-aggregate-say-4
     say-requires-4
-    returns-5)
+    returns-4)

@@ -14,36 +14,33 @@ returns c = search needs
 returns-2 : tie.Need-returns-2
 returns-2 c = search needs
 
-returns-3 : tie.Need-returns-3
-returns-3 c = search needs
-
 entries-room-requires : tie.Need-entries-room-requires
 entries-room-requires c κs = search needs
 
 has-label-requires : tie.Need-has-label-requires
 has-label-requires c κs =
     let entries-room-was = c .entries-room in
-    let given = c .before .before .before .before .before .args in
-    let test1 = c .before .before .before .if1 in
-    (ap length (entries-room-was .ensures) ∙ length-room (given .row .now) (test1 .left), omega arith)
+    let given = c .before .before .before .before .args in
+    let pre-was = c .before .before .before .before .pre in
+    (ap length (entries-room-was .ensures) ∙ length-room (given .row .now) pre-was, omega arith)
 
 label-requires : tie.Need-label-requires
 label-requires c κs =
     let entries-room-was = c .before .before .before .entries-room in
-    let given = c .before .before .before .before .before .before .before .before .args in
-    let test1 = c .before .before .before .before .before .before .if1 in
+    let given = c .before .before .before .before .before .before .before .args in
+    let pre-was = c .before .before .before .before .before .before .before .pre in
     let has-label-was = c .before .before .has-label in
-    let test4 = c .before .if4 in
-    (ap length (entries-room-was .ensures) ∙ length-room (given .row .now) (test1 .left), omega arith, within-high 1 100 _ (sym (has-label-was .ensures) ∙ test4 .taken))
+    let test3 = c .before .if3 in
+    (ap length (entries-room-was .ensures) ∙ length-room (given .row .now) pre-was, omega arith, within-high 1 100 _ (sym (has-label-was .ensures) ∙ test3 .taken))
 
 text-requires : tie.Need-text-requires
 text-requires c κs = search needs
 
+returns-3 : tie.Need-returns-3
+returns-3 c = search needs
+
 returns-4 : tie.Need-returns-4
 returns-4 c = search needs
-
-returns-5 : tie.Need-returns-5
-returns-5 c = search needs
 
 pub label-spec : {M : Type 1} → statement M
 label-spec =
@@ -51,10 +48,9 @@ label-spec =
     (tie.spec
     returns
     returns-2
-    returns-3
     entries-room-requires
     has-label-requires
     label-requires
     text-requires
-    returns-4
-    returns-5)
+    returns-3
+    returns-4)

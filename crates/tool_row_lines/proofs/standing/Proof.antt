@@ -1,17 +1,15 @@
 -- The place stays within the row.
 use Prim.Native.Nat.{_-_, _≤_}
 use borrow.Author.Needs.{needs}
+use Prim.Native.Nat.{ℕ, suc, _+_, _-_, _*_, _/_, _%_, _^_, _<_, _≤_}
 use Rattle.tool_row_lines.proofs.standing.Statement.{statement}
 use Rattle.tool_row_lines.proofs.standing.Tie as tie
 
 abbrev Inv-loop : tie.InvT-loop
-Inv-loop row e n₀ k₀ n k = k ≤ 9
+Inv-loop row e n₀ k₀ n k = (1 ≤ k) × (k ≤ 9)
 
 abbrev μ-loop : tie.MeasureT-loop
 μ-loop row e n₀ k₀ n k = 9 - k
-
-returns : tie.Need-returns Inv-loop μ-loop
-returns c = search needs
 
 loop-holds : tie.Need-loop-holds Inv-loop μ-loop
 loop-holds c = search needs
@@ -34,8 +32,8 @@ loop-less c = search needs
 loop-again : tie.Need-loop-again Inv-loop μ-loop
 loop-again c = search needs
 
-returns-2 : tie.Need-returns-2 Inv-loop μ-loop
-returns-2 c = search needs
+returns : tie.Need-returns Inv-loop μ-loop
+returns c = search needs
 
 pub standing-spec : {M : Type 1} → statement M
 standing-spec =
@@ -43,7 +41,6 @@ standing-spec =
     (tie.spec
     Inv-loop
     μ-loop
-    returns
     loop-holds
     entry-of-requires
     long-requires
@@ -51,4 +48,4 @@ standing-spec =
     add-k
     loop-less
     loop-again
-    returns-2)
+    returns)

@@ -1,4 +1,4 @@
--- The number of the line stays within its bound.
+-- The number stays within the line.
 use Prim.Native.Nat.{_-_, _≤_}
 use borrow.Author.Needs.{needs}
 use Rattle.tool_show.proofs.accesses.Statement.{statement}

@@ -1,4 +1,4 @@
--- The number of the line stays within its bound.
+-- The entry stays one of four.
 use Prim.Native.Nat.{_-_, _≤_}
 use borrow.Author.Needs.{needs}
 use Rattle.tool_show.proofs.entries.Statement.{statement}

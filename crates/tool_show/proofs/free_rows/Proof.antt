@@ -5,10 +5,10 @@ use Rattle.tool_show.proofs.free_rows.Statement.{statement}
 use Rattle.tool_show.proofs.free_rows.Tie as tie
 
 abbrev Inv-loop : tie.InvT-loop
-Inv-loop table out₀ free₀ i₀ out free i = i ≤ 1024
+Inv-loop table form out₀ free₀ i₀ out free i = i ≤ 1024
 
 abbrev μ-loop : tie.MeasureT-loop
-μ-loop table out₀ free₀ i₀ out free i = 1024 - i
+μ-loop table form out₀ free₀ i₀ out free i = 1024 - i
 
 loop-holds : tie.Need-loop-holds Inv-loop μ-loop
 loop-holds c = search needs

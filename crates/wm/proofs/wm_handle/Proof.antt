@@ -1,4 +1,5 @@
 -- What the request leaves; its numbers fit 32 bits, by `small` of Small.
+use Rattle.table.specs.Answers.{lent}
 use mathlib.Core.Path.{ap, subst, sym}
 use Rattle.decision.specs.Outcomes.{leaves}
 use Rattle.wm.specs.InC.{leavesInC, In32}
@@ -16,7 +17,7 @@ unfolding leaves
 outcome-in-c-requires c κs =
     let asked = c .before .before .before .before .before .before in
     let given = asked .before .before .before .before .before .before .before .before .before .before .args in
-    subst In32 (sym (ap (λ (l : Left). l .reply .result) (asked .handle .ensures))) (small (given .table .now) (given .op) (given .message .now) (given .host .now) (given .realm .now) (given .answer .now) (given .notice .now) (given .wag))
+    subst In32 (sym (ap (λ (l : Left). l .reply .result) (asked .handle .ensures))) (small (lent (given .form) (given .table .now)) (given .op) (given .message .now) (given .host .now) (given .realm .now) (given .answer .now) (given .notice .now) (given .wag))
 
 same-length : tie.Need-same-length
 same-length c = search needs

@@ -1,4 +1,5 @@
 -- Each way out is the law of the first test that fails.
+use Rattle.table.specs.Answers.{lent}
 use borrow.Author.Tests.{not-true, not-false}
 use mathlib.Core.Path.{_≡_, sym, _∙_}
 use mathlib.Core.Bool.{true}
@@ -20,7 +21,7 @@ unfolding callOf
 returns c =
     let a = c .before .before .before .before .before .before .before .before .args in
     λ wag.
-    let t = a .table .now in
+    let t = lent (a .form) (a .table .now) in
     let call = callOf (a .op) (a .message .now) (a .host .now) (a .realm .now) (a .answer .now) (a .notice .now) wag in
     c .before .number-for .ensures ∙ sym (number-first t call (λ e. c .if1 .taken (c .before .number-for .ensures ∙ e)))
 
@@ -32,7 +33,7 @@ unfolding callOf
 returns-2 c =
     let a = c .before .before .before .before .before .before .before .before .before .before .args in
     λ wag.
-    let t = a .table .now in
+    let t = lent (a .form) (a .table .now) in
     let call = callOf (a .op) (a .message .now) (a .host .now) (a .realm .now) (a .answer .now) (a .notice .now) wag in
     let z : firstNumber t (a .op) ≡ 0 = sym (c .before .before .before .number-for .ensures) ∙ c .before .before .if1 .left in
     sym (number-host t call z (sym (c .before .name-fits .ensures) ∙ not-true _ (c .if2 .taken)))
@@ -45,7 +46,7 @@ unfolding callOf
 returns-3 c =
     let a = c .before .before .before .before .before .before .before .before .before .before .before .before .args in
     λ wag.
-    let t = a .table .now in
+    let t = lent (a .form) (a .table .now) in
     let call = callOf (a .op) (a .message .now) (a .host .now) (a .realm .now) (a .answer .now) (a .notice .now) wag in
     let z : firstNumber t (a .op) ≡ 0 = sym (c .before .before .before .before .before .number-for .ensures) ∙ c .before .before .before .before .if1 .left in
     let host-fits : within 1 128 (length (a .host .now)) ≡ true = sym (c .before .before .before .name-fits .ensures) ∙ not-false _ (c .before .before .if2 .left) in
@@ -56,7 +57,7 @@ unfolding callOf
 returns-4 c =
     let a = c .before .before .before .before .before .before .before .before .before .before .before .before .before .args in
     λ wag.
-    let t = a .table .now in
+    let t = lent (a .form) (a .table .now) in
     let call = callOf (a .op) (a .message .now) (a .host .now) (a .realm .now) (a .answer .now) (a .notice .now) wag in
     let z : firstNumber t (a .op) ≡ 0 = sym (c .before .before .before .before .before .before .number-for .ensures) ∙ c .before .before .before .before .before .if1 .left in
     let host-fits : within 1 128 (length (a .host .now)) ≡ true = sym (c .before .before .before .before .name-fits .ensures) ∙ not-false _ (c .before .before .before .if2 .left) in
@@ -68,7 +69,7 @@ unfolding callOf
 returns-5 c =
     let a = c .before .before .before .before .before .before .before .before .before .before .before .before .before .before .args in
     λ wag.
-    let t = a .table .now in
+    let t = lent (a .form) (a .table .now) in
     let call = callOf (a .op) (a .message .now) (a .host .now) (a .realm .now) (a .answer .now) (a .notice .now) wag in
     let z : firstNumber t (a .op) ≡ 0 = sym (c .before .before .before .before .before .before .before .number-for .ensures) ∙ c .before .before .before .before .before .before .if1 .left in
     let host-fits : within 1 128 (length (a .host .now)) ≡ true = sym (c .before .before .before .before .before .name-fits .ensures) ∙ not-false _ (c .before .before .before .before .if2 .left) in
@@ -83,7 +84,7 @@ unfolding callOf
 returns-6 c =
     let a = c .before .before .before .before .before .before .before .before .before .before .before .before .before .before .before .args in
     λ wag.
-    let t = a .table .now in
+    let t = lent (a .form) (a .table .now) in
     let call = callOf (a .op) (a .message .now) (a .host .now) (a .realm .now) (a .answer .now) (a .notice .now) wag in
     let z : firstNumber t (a .op) ≡ 0 = sym (c .before .before .before .before .before .before .before .before .number-for .ensures) ∙ c .before .before .before .before .before .before .before .if1 .left in
     let host-fits : within 1 128 (length (a .host .now)) ≡ true = sym (c .before .before .before .before .before .before .name-fits .ensures) ∙ not-false _ (c .before .before .before .before .before .if2 .left) in

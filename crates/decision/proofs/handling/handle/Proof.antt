@@ -1,5 +1,8 @@
--- A number, or what is decided and its answer.
-use mathlib.Core.Path.{_≡_, sym, _∙_}
+-- A number, or what is decided and answered.
+use mathlib.Core.Path.{_≡_, sym, ap, _∙_}
+use Prim.Native.Nat.{ℕ, _-_}
+use Rattle.message.specs.ReadingAMessage.{read}
+use Rattle.table.specs.Answers.{lent}
 use Rattle.rules.specs.Calls.{callNumber}
 use Rattle.decision.specs.Outcomes.{callOf}
 use Rattle.decision.proofs.Answered.{written-is}
@@ -22,44 +25,57 @@ same-length-3 c = search needs
 
 returns : tie.Need-returns
 returns c =
-    let a = c .before .before .before .before .before .before .before .before .before .before .before .args in
-    let t = a .table .now in
-    silent-is t (a .op) (a .message .now) (a .host .now) (a .realm .now) (a .answer .now) (a .notice .now) (a .wag) (c .before .call-number .result)
-    ∙ unanswered t (callOf (a .op) (a .message .now) (a .host .now) (a .realm .now) (a .answer .now) (a .notice .now) (a .wag)) (c .before .call-number .result) (c .before .call-number .ensures (a .wag)) (c .if1 .taken)
+    let given = c .before .before .before .before .before .before .before .before .before .before .before .args in
+    let call-number-was = c .before .call-number in
+    let test1 = c .if1 in
+    let t = lent (given .form) (given .table .now) in
+    silent-is t (given .op) (given .message .now) (given .host .now) (given .realm .now) (given .answer .now) (given .notice .now) (given .wag) (call-number-was .result)
+    ∙ unanswered t (callOf (given .op) (given .message .now) (given .host .now) (given .realm .now) (given .answer .now) (given .notice .now) (given .wag)) (call-number-was .result) (call-number-was .ensures (given .wag)) (test1 .taken)
+
+most-policies-requires : tie.Need-most-policies-requires
+most-policies-requires c κs = search needs
 
 read-requires : tie.Need-read-requires
 read-requires c κs =
-    let start = c .before .before .before .before .before .before .before .before .before .before .before in
-    let a = start .args in
-    let t = a .table .now in
-    let m = a .message .now in
-    let z : callNumber t (callOf (a .op) m (a .host .now) (a .realm .now) (a .answer .now) (a .notice .now) (a .wag)) ≡ 0 = sym (c .before .call-number .ensures (a .wag)) ∙ c .if1 .left in
-    let ready = is-ready t (a .op) m (a .host .now) (a .realm .now) (a .answer .now) (a .notice .now) (a .wag) z in
-    ready .least
+    let given = c .before .before .before .before .before .before .before .before .before .before .before .before .args in
+    let call-number-was = c .before .before .call-number in
+    let test1 = c .before .if1 in
+    let most-policies-was = c .most-policies in
+    let t = lent (given .form) (given .table .now) in
+    let m = given .message .now in
+    let z : callNumber t (callOf (given .op) m (given .host .now) (given .realm .now) (given .answer .now) (given .notice .now) (given .wag)) ≡ 0 = sym (call-number-was .ensures (given .wag)) ∙ test1 .left in
+    let ready = is-ready t (given .op) m (given .host .now) (given .realm .now) (given .answer .now) (given .notice .now) (given .wag) z in
+    (ready .least, most-policies-was .ensures .1, most-policies-was .ensures .2)
 
 on-reading-requires : tie.Need-on-reading-requires
 on-reading-requires c κs =
-    let start = c .before .before .before .before .before .before .before .before .before .before .before .before .before .before in
-    let a = start .args in
-    let t = a .table .now in
-    let m = a .message .now in
-    let z : callNumber t (callOf (a .op) m (a .host .now) (a .realm .now) (a .answer .now) (a .notice .now) (a .wag)) ≡ 0 = sym (c .before .before .before .before .call-number .ensures (a .wag)) ∙ c .before .before .before .if1 .left in
-    let heard = c .before .before .read .ensures in (
-      notice-fits t (a .op) m (a .host .now) (a .realm .now) (a .answer .now) (a .notice .now) (a .wag) z,
-      table-right t (a .op) m (a .host .now) (a .realm .now) (a .answer .now) (a .notice .now) (a .wag) z,
-      heard .reading,
+    let given = c .before .before .before .before .before .before .before .before .before .before .before .before .before .before .before .args in
+    let call-number-was = c .before .before .before .before .before .call-number in
+    let test1 = c .before .before .before .before .if1 in
+    let read-was = c .before .before .read in
+    let most-policies-was = c .before .before .before .most-policies in
+    let t = lent (given .form) (given .table .now) in
+    let m = given .message .now in
+    let z : callNumber t (callOf (given .op) m (given .host .now) (given .realm .now) (given .answer .now) (given .notice .now) (given .wag)) ≡ 0 = sym (call-number-was .ensures (given .wag)) ∙ test1 .left in
+    let heard = read-was .ensures in (
+      notice-fits t (given .op) m (given .host .now) (given .realm .now) (given .answer .now) (given .notice .now) (given .wag) z,
+      table-right t (given .op) m (given .host .now) (given .realm .now) (given .answer .now) (given .notice .now) (given .wag) z,
+      heard .reading ∙ ap (λ (n : ℕ). read n m) (most-policies-was .ensures .0),
       heard .inside,
     )
 
 answer-requires : tie.Need-answer-requires
 answer-requires c κs =
-    let start = c .before .before .before .before .before .before .before .before .before .before .before .before .before .before .before .before .before .before .before .before .before in
-    let a = start .args in
-    let t = a .table .now in
-    let m = a .message .now in
-    let z : callNumber t (callOf (a .op) m (a .host .now) (a .realm .now) (a .answer .now) (a .notice .now) (a .wag)) ≡ 0 = sym (c .before .before .before .before .before .before .before .before .before .before .before .call-number .ensures (a .wag)) ∙ c .before .before .before .before .before .before .before .before .before .before .if1 .left in
-    let ready = is-ready t (a .op) m (a .host .now) (a .realm .now) (a .answer .now) (a .notice .now) (a .wag) z in
-    let named = c .before .before .before .before .before .before .on-reading .ensures .0 in
+    let given = c .before .before .before .before .before .before .before .before .before .before .before .before .before .before .before .before .before .before .before .before .before .before .args in
+    let call-number-was = c .before .before .before .before .before .before .before .before .before .before .before .before .call-number in
+    let test1 = c .before .before .before .before .before .before .before .before .before .before .before .if1 in
+    let on-reading-was = c .before .before .before .before .before .before .on-reading in
+    let read-was = c .before .before .before .before .before .before .before .before .before .read in
+    let t = lent (given .form) (given .table .now) in
+    let m = given .message .now in
+    let z : callNumber t (callOf (given .op) m (given .host .now) (given .realm .now) (given .answer .now) (given .notice .now) (given .wag)) ≡ 0 = sym (call-number-was .ensures (given .wag)) ∙ test1 .left in
+    let ready = is-ready t (given .op) m (given .host .now) (given .realm .now) (given .answer .now) (given .notice .now) (given .wag) z in
+    let named = on-reading-was .ensures .0 in
     record {
       least = ready .least;
       most = ready .most;
@@ -69,7 +85,7 @@ answer-requires c κs =
       named = λ x y. named .holds y;
       short = λ x y. named .short y;
       small = named .small;
-      to-copy = c .before .before .before .before .before .before .before .before .before .read .ensures .proxies;
+      to-copy = read-was .ensures .proxies;
     }
 
 same-length-4 : tie.Need-same-length-4
@@ -84,16 +100,19 @@ same-length-6 c = search needs
 returns-2 : tie.Need-returns-2
 unfolding callOf
 returns-2 c =
-    let start = c .before .before .before .before .before .before .before .before .before .before .before .before .before .before .before .before .before .before .before .before .before .before .before .before in
-    let a = start .args in
-    let t = a .table .now in
-    let m = a .message .now in
-    let z : callNumber t (callOf (a .op) m (a .host .now) (a .realm .now) (a .answer .now) (a .notice .now) (a .wag)) ≡ 0 = sym (c .before .before .before .before .before .before .before .before .before .before .before .before .before .before .call-number .ensures (a .wag)) ∙ c .before .before .before .before .before .before .before .before .before .before .before .before .before .if1 .left in
-    let d = c .before .before .before .before .before .before .before .before .before .on-reading .result in
-    let done = c .before .before .answer .ensures in
-    written-is d _ m (a .host .now) (a .realm .now) (a .answer .now) _ _ _ (done .length-is) (done .room-is)
-    ∙ c .before .before .before .before .before .before .before .before .before .on-reading .ensures .1 (a .host .now) (a .realm .now) (a .answer .now)
-    ∙ sym (handled t (callOf (a .op) m (a .host .now) (a .realm .now) (a .answer .now) (a .notice .now) (a .wag)) z)
+    let given = c .before .before .before .before .before .before .before .before .before .before .before .before .before .before .before .before .before .before .before .before .before .before .before .before .before .args in
+    let call-number-was = c .before .before .before .before .before .before .before .before .before .before .before .before .before .before .before .call-number in
+    let test1 = c .before .before .before .before .before .before .before .before .before .before .before .before .before .before .if1 in
+    let on-reading-was = c .before .before .before .before .before .before .before .before .before .on-reading in
+    let answer-was = c .before .before .answer in
+    let t = lent (given .form) (given .table .now) in
+    let m = given .message .now in
+    let z : callNumber t (callOf (given .op) m (given .host .now) (given .realm .now) (given .answer .now) (given .notice .now) (given .wag)) ≡ 0 = sym (call-number-was .ensures (given .wag)) ∙ test1 .left in
+    let d = on-reading-was .result in
+    let done = answer-was .ensures in
+    written-is d _ m (given .host .now) (given .realm .now) (given .answer .now) _ _ _ (done .length-is) (done .room-is)
+    ∙ on-reading-was .ensures .1 (given .host .now) (given .realm .now) (given .answer .now)
+    ∙ sym (handled t (callOf (given .op) m (given .host .now) (given .realm .now) (given .answer .now) (given .notice .now) (given .wag)) z)
 
 pub handle-spec : {M : Type 1} → statement M
 handle-spec =
@@ -104,6 +123,7 @@ handle-spec =
     same-length-2
     same-length-3
     returns
+    most-policies-requires
     read-requires
     on-reading-requires
     answer-requires

@@ -3,7 +3,7 @@ use mathlib.Core.Path.{_≡_, sym, _∙_}
 use native.Mathlib.Omega.{arith}
 use lib.ListN.{length}
 use Rattle.table.specs.TheTable.{readRow}
-use Rattle.row.proofs.Entries.{count-is, most-four, size-of}
+use Rattle.row.proofs.Entries.{count-is, most-four, least-of}
 use borrow.Author.Needs.{needs}
 use Rattle.plans.proofs.finding.entry_count.Statement.{statement}
 use Rattle.plans.proofs.finding.entry_count.Tie as tie
@@ -12,7 +12,7 @@ entry-count-requires : tie.Need-entry-count-requires
 entry-count-requires c κs =
     let given = c .before .args in
     let pre-was = c .before .pre in
-    size-of (given .row .now) pre-was
+    least-of (given .row .now) pre-was
 
 long-requires : tie.Need-long-requires
 long-requires c κs = search needs

@@ -6,7 +6,7 @@ use native.Mathlib.Omega.{arith}
 use lib.ListN.{length}
 use Rattle.octets.specs.Texts.{part}
 use Rattle.table.specs.TheTable.{Entry, readEntry}
-use Rattle.row.proofs.Entries.{length-room, most-four, size-of}
+use Rattle.row.proofs.Entries.{length-room, most-four, least-of}
 use Rattle.plans.proofs.Entries.{entry-is}
 use borrow.Author.Needs.{needs}
 use Rattle.plans.proofs.finding.flags_of.Statement.{statement}
@@ -16,7 +16,7 @@ entries-room-requires : tie.Need-entries-room-requires
 entries-room-requires c κs =
     let given = c .before .args in
     let pre-was = c .before .pre in
-    size-of (given .row .now) (pre-was .0)
+    least-of (given .row .now) (pre-was .0)
 
 sub-flags : tie.Need-sub-flags
 sub-flags c = search needs
@@ -26,7 +26,7 @@ flags-requires c κs =
     let entries-room-was = c .entries-room in
     let given = c .before .before .args in
     let pre-was = c .before .before .pre in
-    (ap length (entries-room-was .ensures) ∙ length-room (given .row .now) (size-of (given .row .now) (pre-was .0)), omega (arith, most-four (given .row .now) (pre-was .0)))
+    (ap length (entries-room-was .ensures) ∙ length-room (given .row .now) (least-of (given .row .now) (pre-was .0)), omega (arith, most-four (given .row .now) (pre-was .0)))
 
 returns : tie.Need-returns
 returns c =

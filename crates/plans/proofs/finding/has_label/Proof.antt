@@ -7,7 +7,7 @@ use lib.ListN.{getD, length}
 use Rattle.octets.specs.Texts.{part}
 use Rattle.table.specs.Soundness.{sameLabel}
 use Rattle.table.specs.TheTable.{Entry, readEntry}
-use Rattle.row.proofs.Entries.{length-room, most-four, size-of}
+use Rattle.row.proofs.Entries.{length-room, most-four, least-of}
 use Rattle.plans.proofs.Entries.{entry-is, label-short}
 use borrow.Author.Needs.{needs}
 use Rattle.plans.proofs.finding.has_label.Statement.{statement}
@@ -17,7 +17,7 @@ entries-room-requires : tie.Need-entries-room-requires
 entries-room-requires c κs =
     let given = c .before .before .args in
     let pre-was = c .before .before .pre in
-    size-of (given .row .now) (pre-was .0)
+    least-of (given .row .now) (pre-was .0)
 
 sub-label : tie.Need-sub-label
 sub-label c = search needs
@@ -27,7 +27,7 @@ label-requires c κs =
     let entries-room-was = c .entries-room in
     let given = c .before .before .before .args in
     let pre-was = c .before .before .before .pre in
-    (ap length (entries-room-was .ensures) ∙ length-room (given .row .now) (size-of (given .row .now) (pre-was .0)), omega (arith, most-four (given .row .now) (pre-was .0)), rw (entries-room-was .ensures) (label-short (given .row .now) (pre-was .0) (given .n) (pre-was .1) (pre-was .2)))
+    (ap length (entries-room-was .ensures) ∙ length-room (given .row .now) (least-of (given .row .now) (pre-was .0)), omega (arith, most-four (given .row .now) (pre-was .0)), rw (entries-room-was .ensures) (label-short (given .row .now) (pre-was .0) (given .n) (pre-was .1) (pre-was .2)))
 
 same-label-requires : tie.Need-same-label-requires
 same-label-requires c κs = search needs

@@ -3,7 +3,7 @@ use mathlib.Core.Path.{sym, _∙_}
 use native.Mathlib.Omega.{arith}
 use lib.ListN.{List·getD-eq-default}
 use Rattle.table.specs.TheTable.{orderLine}
-use Rattle.row.proofs.Entries.{size-of}
+use Rattle.row.proofs.Entries.{least-of}
 use Rattle.plans.proofs.Search.{line-byte, short}
 use Rattle.plans.proofs.finding.line_at.Statement.{statement}
 use Rattle.plans.proofs.finding.line_at.Tie as tie
@@ -17,7 +17,7 @@ line-place-requires : tie.Need-line-place-requires
 line-place-requires c κs =
     let given = c .before .before .args in
     let pre-was = c .before .before .pre in
-    (size-of (given .row .now) pre-was, omega arith)
+    (least-of (given .row .now) pre-was, omega arith)
 
 returns-2 : tie.Need-returns-2
 returns-2 c =

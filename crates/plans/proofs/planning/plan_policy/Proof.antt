@@ -27,8 +27,8 @@ returns c =
     let session = a .session .now in
     let at : c .before .place-of .result ≡ placeOf (withSession session (s .accesses)) = c .before .place-of .ensures .0 in
     let there : none (withSession session (s .accesses)) ≡ eqb (c .before .place-of .result) 0 = none-with (a .row .now) session (start .pre) ∙ ap (λ (k : ℕ). eqb k 0) (sym at) in (
-      λ host route. sym (no-access session route s (a .wag) (there ∙ eq-eqb _ 0 (c .if1 .taken))),
-      λ route w. refl,
+      λ o p. sym (no-access session s p (a .wag) (there ∙ eq-eqb _ 0 (c .if1 .taken))),
+      λ p w. refl,
     )
 
 returns-2 : tie.Need-returns-2
@@ -41,8 +41,8 @@ returns-2 c =
     let at : c .before .before .place-of .result ≡ placeOf (withSession session (s .accesses)) = c .before .before .place-of .ensures .0 in
     let there : none (withSession session (s .accesses)) ≡ eqb (c .before .before .place-of .result) 0 = none-with (a .row .now) session (start .pre) ∙ ap (λ (k : ℕ). eqb k 0) (sym at) in
     let yes : a .wag ≡ true = c .if2 .taken in (
-      λ host route. rw (yes, at) (sym (gateway-yes session route s (there ∙ ne-eqb _ 0 (c .before .if1 .left)))),
-      λ route w. rw (at, fit-place (a .row .now) (start .pre) session (λ z. c .before .if1 .left (at ∙ z)), w),
+      λ o p. rw (yes, at) (sym (gateway-yes session s (record { opening = o; policies = p }) (there ∙ ne-eqb _ 0 (c .before .if1 .left)))),
+      λ p w. rw (at, fit-place (a .row .now) (start .pre) session (λ z. c .before .if1 .left (at ∙ z)), w),
     )
 
 returns-3 : tie.Need-returns-3
@@ -55,8 +55,8 @@ returns-3 c =
     let at : c .before .before .place-of .result ≡ placeOf (withSession session (s .accesses)) = c .before .before .place-of .ensures .0 in
     let there : none (withSession session (s .accesses)) ≡ eqb (c .before .before .place-of .result) 0 = none-with (a .row .now) session (start .pre) ∙ ap (λ (k : ℕ). eqb k 0) (sym at) in
     let no : a .wag ≡ false = c .if2 .left in (
-      λ host route. rw no (sym (gateway-no session route s (there ∙ ne-eqb _ 0 (c .before .if1 .left)))),
-      λ route w. refl,
+      λ o p. rw no (sym (gateway-no session s p (there ∙ ne-eqb _ 0 (c .before .if1 .left)))),
+      λ p w. refl,
     )
 
 pub plan-policy-spec : {M : Type 1} → statement M

@@ -9,7 +9,6 @@ use Rattle.plans.specs.Plans.{planned, planCode}
 use Rattle.plans.proofs.Found.{none-ended}
 use Rattle.plans.proofs.Verdicts.{not-used, is-ended, fit-ended}
 use mathlib.Core.Path.{_≡_, refl, sym, ap, _∙_}
-use mathlib.Core.List.{[]}
 use Prim.Native.Nat.{ℕ, _-_}
 use borrow.Author.Needs.{needs}
 use Rattle.plans.proofs.planning.plan_termination.Statement.{statement}
@@ -33,8 +32,8 @@ returns c =
     c .before .place-on .ensures .0 ∙ ap (λ (n : ℕ). placeOf (withSession session (onEntry n (s .accesses)))) (c .before .before .entry-named .ensures .0) in
     let there : none (withSession session (onEntry (entryNamed label s) (s .accesses))) ≡ eqb (c .before .place-on .result) 0 =
     none-ended (a .row .now) (entryNamed label s) session (start .pre) ∙ ap (λ (k : ℕ). eqb k 0) (sym at) in (
-      λ host route. sym (not-used session [] s label (there ∙ eq-eqb _ 0 (c .if1 .taken))),
-      λ route. refl,
+      λ o p. sym (not-used session s label (there ∙ eq-eqb _ 0 (c .if1 .taken))),
+      λ p. refl,
     )
 
 returns-2 : tie.Need-returns-2
@@ -49,8 +48,8 @@ returns-2 c =
     c .before .place-on .ensures .0 ∙ ap (λ (n : ℕ). placeOf (withSession session (onEntry n (s .accesses)))) (c .before .before .entry-named .ensures .0) in
     let there : none (withSession session (onEntry (entryNamed label s) (s .accesses))) ≡ eqb (c .before .place-on .result) 0 =
     none-ended (a .row .now) (entryNamed label s) session (start .pre) ∙ ap (λ (k : ℕ). eqb k 0) (sym at) in (
-      λ host route. rw at (sym (is-ended session [] s label (there ∙ ne-eqb _ 0 (c .if1 .left)))),
-      λ route. rw at (fit-ended (a .row .now) (start .pre) (entryNamed label s) session (λ z. c .if1 .left (at ∙ z))),
+      λ o p. rw at (sym (is-ended session s label (there ∙ ne-eqb _ 0 (c .if1 .left)))),
+      λ p. rw at (fit-ended (a .row .now) (start .pre) (entryNamed label s) session (λ z. c .if1 .left (at ∙ z))),
     )
 
 pub plan-termination-spec : {M : Type 1} → statement M

@@ -4,10 +4,11 @@ use mathlib.Core.Bool.{false, not, _&&_}
 use lib.Dec.{eqb}
 use borrow.Author.Tests.{eq-eqb, ne-eqb}
 use Rattle.table.specs.TheTable.{readRow, mayRoam}
-use Rattle.rules.specs.Deciding.{none, withSession, entryNamed, entryAt}
+use Rattle.rules.specs.Deciding.{admit, none, withSession, entryNamed, entryAt}
 use Rattle.plans.specs.Plans.{planned, planCode}
 use Rattle.plans.proofs.Found.{none-with}
 use Rattle.plans.proofs.Verdicts.{not-subscribed, is-barred, no-roaming, is-held, is-admitted}
+use mathlib.Core.List.{List}
 use mathlib.Core.Path.{_≡_, refl, sym, ap, _∙_}
 use Prim.Native.Nat.{ℕ, _-_, _/_, _%_}
 use borrow.Author.Needs.{needs}
@@ -26,8 +27,8 @@ returns c =
     let session = a .session .now in
     let label = a .label .now in
     let named : c .before .entry-named .result ≡ entryNamed label s = c .before .entry-named .ensures .0 in (
-      λ host route. sym (not-subscribed session host label (a .visited) s (sym named ∙ c .if1 .taken)),
-      λ route. refl,
+      λ o p same. sym (not-subscribed o label (a .visited) s (sym named ∙ c .if1 .taken)),
+      λ p. refl,
     )
 
 flags-of-requires : tie.Need-flags-of-requires
@@ -47,8 +48,8 @@ returns-2 c =
     let named : c .before .before .before .before .entry-named .result ≡ entryNamed label s = c .before .before .before .before .entry-named .ensures .0 in
     let entered : entryNamed label s ≡ 0 → ⊥ = λ z. c .before .before .before .if1 .left (named ∙ z) in
     let flags : c .before .before .flags-of .result ≡ (entryAt (entryNamed label s) s) .flags = c .before .before .flags-of .ensures ∙ ap (λ (n : ℕ). (entryAt n s) .flags) named in (
-      λ host route. sym (is-barred session host label (a .visited) s entered (ap (λ (n : ℕ). n % 2) (sym flags) ∙ c .if2 .taken)),
-      λ route. refl,
+      λ o p same. sym (is-barred o label (a .visited) s entered (ap (λ (n : ℕ). n % 2) (sym flags) ∙ c .if2 .taken)),
+      λ p. refl,
     )
 
 returns-3 : tie.Need-returns-3
@@ -65,8 +66,8 @@ returns-3 c =
     let unbarred : (entryAt (entryNamed label s) s) .flags % 2 ≡ 1 → ⊥ = λ z. c .before .if2 .left (ap (λ (n : ℕ). n % 2) flags ∙ z) in
     let roams : c .before .before .roams-unasked .result ≡ a .visited && not (mayRoam (entryAt (entryNamed label s) s)) =
     c .before .before .roams-unasked .ensures ∙ ap (λ (n : ℕ). a .visited && not (eqb (n / 2 % 2) 1)) flags in (
-      λ host route. sym (no-roaming session host label (a .visited) s entered unbarred (sym roams ∙ c .if3 .taken)),
-      λ route. refl,
+      λ o p same. sym (no-roaming o label (a .visited) s entered unbarred (sym roams ∙ c .if3 .taken)),
+      λ p. refl,
     )
 
 place-of-requires : tie.Need-place-of-requires
@@ -89,8 +90,8 @@ returns-4 c =
     let home : a .visited && not (mayRoam (entryAt (entryNamed label s) s)) ≡ false = sym roams ∙ c .before .before .if3 .left in
     let there : none (withSession session (s .accesses)) ≡ eqb (c .before .place-of .result) 0 =
     none-with (a .row .now) session (start .pre) ∙ ap (λ (k : ℕ). eqb k 0) (sym (c .before .place-of .ensures .0)) in (
-      λ host route. sym (is-held session host label (a .visited) s entered unbarred home (there ∙ ne-eqb _ 0 (c .if4 .taken))),
-      λ route. refl,
+      λ o p same. sym (is-held o label (a .visited) s entered unbarred home (ap (λ (t : List ℕ). none (withSession t (s .accesses))) same ∙ there ∙ ne-eqb _ 0 (c .if4 .taken))),
+      λ p. refl,
     )
 
 plan-opening-requires : tie.Need-plan-opening-requires
@@ -113,9 +114,9 @@ returns-5 c =
     let home : a .visited && not (mayRoam (entryAt (entryNamed label s) s)) ≡ false = sym roams ∙ c .before .before .before .if3 .left in
     let there : none (withSession session (s .accesses)) ≡ eqb (c .before .before .place-of .result) 0 =
     none-with (a .row .now) session (start .pre) ∙ ap (λ (k : ℕ). eqb k 0) (sym (c .before .before .place-of .ensures .0)) in (
-      λ host route. c .plan-opening .ensures .0 session host route
-          ∙ ap (λ (n : ℕ). Rattle.rules.specs.Deciding.admit n session host s) named
-          ∙ sym (is-admitted session host label (a .visited) s entered unbarred home (there ∙ eq-eqb _ 0 (c .before .if4 .left))),
+      λ o p same. c .plan-opening .ensures .0 o p
+          ∙ ap (λ (n : ℕ). admit n o s) named
+          ∙ sym (is-admitted o label (a .visited) s entered unbarred home (ap (λ (t : List ℕ). none (withSession t (s .accesses))) same ∙ there ∙ eq-eqb _ 0 (c .before .if4 .left))),
       c .plan-opening .ensures .1,
     )
 

@@ -1,0 +1,3 @@
+pub mod Moving
+pub mod Copying
+pub mod ThereAndBack
