@@ -104,6 +104,9 @@ pub fn head_form(b: &[u8]) -> bool
     if b[0] != 1 {
         return false;
     }
+    if !octets::all_zero(&b[448..510]) {
+        return false;
+    }
     if !name_form(b) {
         return false;
     }
@@ -116,10 +119,7 @@ pub fn head_form(b: &[u8]) -> bool
     if !line_form(&b[20..28]) {
         return false;
     }
-    if !octets::all_zero(&b[28..32]) {
-        return false;
-    }
-    octets::all_zero(&b[448..510])
+    octets::read32(b, 28) == 0
 }
 
 // THE ENTRIES, in their room of 416 bytes

@@ -332,7 +332,7 @@ fn on_reading(
 }
 
 // How many policies a request may bring.
-fn most_policies(form: usize) -> usize
+pub fn most_policies(form: usize) -> usize
     ensures { λ r. ⌜ (r ≡ mostPolicies form) × (1 ≤ r) × (r ≤ 3) ⌝ }
 {
     if form == 2 {

@@ -4,6 +4,7 @@ mod handling;
 use effects::Cut;
 pub use handling::call_number;
 pub use handling::handle;
+pub use handling::most_policies;
 pub use handling::text;
 use message::Kind;
 use message::Span;

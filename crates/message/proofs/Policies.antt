@@ -377,8 +377,7 @@ module _ (m index : List ℕ) (k : Gathered m index) (most : ℕ) (h : 1 ≤ mos
     one-wrong n e = wrong-routes most m n (r true .real n e) (λ b. as-one b ∙ r b .code ∙ ap (codeOf b) e)
 
 -- a slot that says "not at all"
-pub slot-empty : (m index : List ℕ) (most : ℕ) → Gathered m index → 1 ≤ most → getD index 13 0 ≡ 0
-    → fieldCode (avps m) (textsField most routingPolicy false) ≡ 0
-unfolding routesCode require nameAt names
+pub slot-empty : (m index : List ℕ) (most : ℕ) → Gathered m index → 1 ≤ most → getD index 13 0 ≡ 0 → RoutesRead most m Missing
+unfolding nameAt names
 slot-empty m index most k h z =
-    (one-absent m index k most h (λ o. absurd (omega arith)) Absent (λ b. reads-absent m index 13 (omega arith) k b 1 128 z) refl) .code false
+    one-absent m index k most h (λ o. absurd (omega arith)) Absent (λ b. reads-absent m index 13 (omega arith) k b 1 128 z) refl

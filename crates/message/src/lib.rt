@@ -2,9 +2,10 @@
 ghost use mathlib.Core.Path.{_≡_};
 ghost use mathlib.Core.Bool.{Bool, true, false, _&&_};
 ghost use Prim.Native.Nat.{ℕ, _+_, _*_, _≤_, _<_};
+ghost use lib.Dec.{eqb};
 ghost use lib.ListN.{length, getD, drop};
 ghost use Rattle.octets.specs.Texts.{zeros};
-ghost use Rattle.octets.specs.Numbers.{net32};
+ghost use Rattle.octets.specs.Numbers.{net24, net32};
 ghost use Rattle.message.specs.CallsThatGetNoAnswer.{messageNumber};
 ghost use Rattle.message.specs.ReadingAMessage.{base, vendor, sameName, routingPolicy, avpCode, avpOf, supported, command, headerCode, requestWalk, avps, walkCode, numberField, textsField, fieldCode};
 ghost use Rattle.message.specs.Positions.{slotOf, nameAt, headOf, headAt, Gathered};
@@ -18,6 +19,17 @@ pub enum Kind {
 }
 
 // CALLS THAT GET NO ANSWER
+
+// Whether the length in the header is n, which two of its three bytes can hold: they are read at once.
+fn has_length(m: &[u8], n: usize) -> bool
+    requires { ⌜ (20 ≤ length (now m)) × (n ≤ 4096) ⌝ }
+    ensures { λ r. ⌜ r ≡ eqb (net24 (now (m .entry)) 1) n ⌝ }
+{
+    if m[1] != 0 {
+        return false;
+    }
+    octets::long(m[2]) * 256 + octets::long(m[3]) == n
+}
 
 // The number, 5 to 8, of the first test of the message that fails, 0 where none does.
 pub fn number(m: &[u8]) -> u32
@@ -33,7 +45,7 @@ pub fn number(m: &[u8]) -> u32
     if m[0] != 1 {
         return 6;
     }
-    if octets::read24(m, 1) != n {
+    if !has_length(m, n) {
         return 7;
     }
     if n % 4 != 0 {
@@ -131,7 +143,8 @@ fn vendor_slot(id: u32, code: u32) -> usize
     }
 }
 
-// The AVP at a place, with so many bytes left from there on, by the four tests.
+// The AVP at a place, with so many bytes left from there on, by the four tests. Its code is read with the flags, before the tests: the message's place is
+// then looked up once.
 pub fn head_at(m: &[u8], at: usize, left: usize) -> Head
     requires { ⌜ at + left ≡ length (now m) ⌝ }
     ensures { λ r. ⌜ r ≡ headAt (now (m .entry)) at ⌝ }
@@ -140,6 +153,7 @@ pub fn head_at(m: &[u8], at: usize, left: usize) -> Head
         return Head::Bad(5014);
     }
     let flags = m[at + 4];
+    let code = octets::read32(m, at);
     if flags % 32 != 0 {
         return Head::Bad(3009);
     }
@@ -152,7 +166,7 @@ pub fn head_at(m: &[u8], at: usize, left: usize) -> Head
         if left < whole {
             return Head::Bad(5014);
         }
-        let slot = vendor_slot(octets::read32(m, at + 8), octets::read32(m, at));
+        let slot = vendor_slot(octets::read32(m, at + 8), code);
         return Head::One(Spot {
             slot,
             next: at + whole,
@@ -164,7 +178,7 @@ pub fn head_at(m: &[u8], at: usize, left: usize) -> Head
     if left < whole {
         return Head::Bad(5014);
     }
-    let slot = base_slot(octets::read32(m, at));
+    let slot = base_slot(code);
     Head::One(Spot {
         slot,
         next: at + whole,
@@ -456,11 +470,14 @@ fn one_route(m: &[u8], index: &[usize]) -> Routes
 }
 
 // The field of Routing-Policy, of which a request may bring up to `most`. The walk that gathers has seen whether there is more than one;
-// only then, and only where more are allowed, the message is walked again.
+// only then, and only where more are allowed, the message is walked again. Most requests bring none.
 pub fn routes_field(m: &[u8], index: &[usize], most: usize) -> Routes
     requires { ⌜ (20 ≤ length (now m)) × (walkCode (now m) ≡ 0) × (1 ≤ most) × (most ≤ 3) × Gathered (now m) (now index) ⌝ }
     ensures { λ r. ⌜ RoutesRead most (now (m .entry)) r ⌝ }
 {
+    if index[13] == 0 {
+        return Routes::Missing;
+    }
     if index[13] == 1 {
         if 1 < most {
             return all_routes(m, most);
@@ -469,19 +486,22 @@ pub fn routes_field(m: &[u8], index: &[usize], most: usize) -> Routes
     one_route(m, index)
 }
 
-// The code of policies that need not be there, 0 where they pass: most requests that ask for a tunnel bring none.
-pub fn routes_code(m: &[u8], index: &[usize], most: usize) -> u32
-    requires { ⌜ (20 ≤ length (now m)) × (walkCode (now m) ≡ 0) × (1 ≤ most) × (most ≤ 3) × Gathered (now m) (now index) ⌝ }
-    ensures { λ r. ⌜ r ≡ fieldCode (avps (now (m .entry))) (textsField most routingPolicy false) ⌝ }
+// The code of policies that need not be there, 0 where they pass.
+pub fn routes_wrong(g: Routes) -> u32
+    ensures { λ r. ⌜ r ≡ routesCode false g ⌝ }
 {
-    if index[13] == 0 {
-        return 0;
-    }
-    let g = routes_field(m, index, most);
     match g {
         Routes::Wrong(n) => n,
         _ => 0,
     }
+}
+
+pub fn routes_code(m: &[u8], index: &[usize], most: usize) -> u32
+    requires { ⌜ (20 ≤ length (now m)) × (walkCode (now m) ≡ 0) × (1 ≤ most) × (most ≤ 3) × Gathered (now m) (now index) ⌝ }
+    ensures { λ r. ⌜ r ≡ fieldCode (avps (now (m .entry))) (textsField most routingPolicy false) ⌝ }
+{
+    let g = routes_field(m, index, most);
+    routes_wrong(g)
 }
 
 // What policies that are required and were not found are refused with.

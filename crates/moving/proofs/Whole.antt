@@ -227,7 +227,7 @@ module _ (to : ℕ) (bytes room : List ℕ) (p : Passes to bytes room) where
       let hi : length here ≤ 1024 = within-high 1 1024 _ here-count in
       let rest : length out % rowLength to ≡ 0 = rest-is (rowLength to) (length out) (length here) 0 (omega (arith, out-length)) (omega (arith, width-least to)) in
       number-right (lent to out) (both-forms .to-form) rest
-      (omega (arith, out-length, rows-order (rowLength to) 1 (length here) lo))
+      (omega (arith, out-length, rows-order (rowLength to) 1 (length here) lo, width-least to))
       (omega (arith, out-length, rows-order (rowLength to) (length here) 1024 hi))
 
   -- row i of it

@@ -21,7 +21,6 @@ ghost use Rattle.reader.specs.Steps.{faultOf};
 ghost use Rattle.table.specs.Answers.{lent};
 ghost use Rattle.table.specs.TheTable.{lookup, readRow, tableNumber};
 ghost use Rattle.table.specs.Soundness.{sound};
-ghost use Rattle.rules.specs.Calls.{mostPolicies};
 ghost use Rattle.decision.specs.Outcomes.{callOf};
 ghost use Rattle.order.specs.ChecksInOrder.{avpChecks, decidingChecks, fieldChecks, firstFailed, headerChecks, listChecks, readingChecks, walkChecks};
 ghost use Rattle.order.specs.Demand2.{checks};
@@ -397,22 +396,12 @@ fn request_failed(
     deciding_failed(&table[a..e], m, asked, wag)
 }
 
-// How many policies a request may bring.
-fn most_policies(form: usize) -> usize
-    ensures { λ r. ⌜ (r ≡ mostPolicies form) × (1 ≤ r) × (r ≤ 3) ⌝ }
-{
-    if form == 2 {
-        return 3;
-    }
-    1
-}
-
 // A message that gets an answer.
 fn answered_for(table: &[u8], form: usize, op: u32, m: &[u8], wag: bool) -> Reason
     requires { ⌜ (tableNumber (lent form (now table)) ≡ 0) × (20 ≤ length (now m)) ⌝ }
     ensures { λ r. ⌜ ((host realm answer notice : List ℕ) → checkNamed r ≡ firstFailed (checks (lent form (now (table .entry))) (callOf op (now (m .entry)) host realm answer notice wag))) ⌝ }
 {
-    let most = most_policies(form);
+    let most = decision::most_policies(form);
     let heard = request::read(m, most);
     let told = heard.told;
     match told {

@@ -7,11 +7,12 @@ use message::Routes;
 use message::Span;
 use message::Told;
 ghost use mathlib.Core.Path.{_≡_};
+ghost use mathlib.Core.Bool.{false};
 ghost use Prim.Native.Nat.{ℕ, _≤_};
 ghost use lib.ListN.{length};
-ghost use Rattle.message.specs.ReadingAMessage.{avps, headerCode, originHost, originRealm, requestOf, sessionId, startsWith, userName, walkCode};
+ghost use Rattle.message.specs.ReadingAMessage.{avps, fieldCode, headerCode, originHost, originRealm, requestOf, routingPolicy, sessionId, startsWith, textsField, userName, walkCode};
 ghost use Rattle.message.specs.Positions.{Gathered};
-ghost use Rattle.message.specs.Spans.{BothRead, HeardOf, Holds, Listed, hasProxies, isFound, policyCode, policyOf, restCode, tunnelCode, tunnelOf};
+ghost use Rattle.message.specs.Spans.{BothRead, HeardOf, Holds, Listed, RoutesRead, hasProxies, isFound, policyCode, policyOf, restCode, tunnelCode, tunnelOf};
 
 // Whether the first AVP is Session-Id, in a message whose walk passed.
 pub fn starts(m: &[u8]) -> bool
@@ -58,7 +59,7 @@ fn first_five(m: &[u8], index: &[usize]) -> Both
     Both::Held(session, host, realm)
 }
 
-// The end of a 265 of type 0: the W-APN, and policies that are tested and not used.
+// The end of a 265 of type 0: the W-APN, and policies that are tested and not used, by the code that they are refused with, 0 for none.
 fn tunnel_end(
     m: &[u8],
     index: &[usize],
@@ -67,18 +68,18 @@ fn tunnel_end(
     host: Span,
     realm: Span,
     visited: bool,
-    most: usize,
+    wrong: u32,
 ) -> Told
-    requires { ⌜ (Gathered (now m) (now index)) × (Holds (now m) userName user) × (Holds (now m) sessionId session) × (Holds (now m) originHost host) × (Holds (now m) originRealm realm) × (20 ≤ length (now m)) × (walkCode (now m) ≡ 0) × (1 ≤ most) × (most ≤ 3) ⌝ }
-    ensures { λ r. ⌜ Listed (now (m .entry)) (tunnelCode most (avps (now (m .entry)))) (tunnelOf visited (avps (now (m .entry)))) r ⌝ }
+    requires { ⌜ (Gathered (now m) (now index)) × (Holds (now m) userName user) × (Holds (now m) sessionId session) × (Holds (now m) originHost host) × (Holds (now m) originRealm realm) ⌝ }
+    ensures { λ r. ⌜ ((most : ℕ) → wrong ≡ fieldCode (avps (now (m .entry))) (textsField most routingPolicy false)
+        → Listed (now (m .entry)) (tunnelCode most (avps (now (m .entry)))) (tunnelOf visited (avps (now (m .entry)))) r) ⌝ }
 {
     let g1 = message::text_field(m, index, 12, 1, 100);
     let Got::Found(label) = g1 else {
         return Told::Refused(message::refusal(g1));
     };
-    let n = message::routes_code(m, index, most);
-    if n != 0 {
-        return Told::Refused(n);
+    if wrong != 0 {
+        return Told::Refused(wrong);
     }
     Told::Request(
         user,
@@ -93,17 +94,17 @@ fn tunnel_end(
 }
 
 // The end of a 265 of type 1: a W-APN that is tested and not used, and the policies.
-fn policy_end(m: &[u8], index: &[usize], user: Span, session: Span, most: usize) -> Told
-    requires { ⌜ (Gathered (now m) (now index)) × (Holds (now m) userName user) × (Holds (now m) sessionId session) × (20 ≤ length (now m)) × (walkCode (now m) ≡ 0) × (1 ≤ most) × (most ≤ 3) ⌝ }
-    ensures { λ r. ⌜ Listed (now (m .entry)) (policyCode most (avps (now (m .entry)))) (policyOf (avps (now (m .entry)))) r ⌝ }
+fn policy_end(m: &[u8], index: &[usize], user: Span, session: Span, routes: Routes) -> Told
+    requires { ⌜ (Gathered (now m) (now index)) × (Holds (now m) userName user) × (Holds (now m) sessionId session) ⌝ }
+    ensures { λ r. ⌜ ((most : ℕ) → RoutesRead most (now (m .entry)) routes
+        → Listed (now (m .entry)) (policyCode most (avps (now (m .entry)))) (policyOf (avps (now (m .entry)))) r) ⌝ }
 {
     let g1 = message::text_field(m, index, 12, 1, 100);
     if let Got::Code(n) = g1 {
         return Told::Refused(n);
     }
-    let g2 = message::routes_field(m, index, most);
-    let Routes::Brought(first, second, third) = g2 else {
-        return Told::Refused(message::routes_refusal(g2));
+    let Routes::Brought(first, second, third) = routes else {
+        return Told::Refused(message::routes_refusal(routes));
     };
     Told::Request(
         user,
@@ -126,11 +127,12 @@ fn is_found(g: Got) -> bool
     }
 }
 
-// The fields of a 265.
+// The fields of a 265. The policies are read first, once for both of its types, and come last in the order of the tests.
 fn list_265(m: &[u8], index: &[usize], session: Span, host: Span, realm: Span, most: usize) -> Told
     requires { ⌜ (Gathered (now m) (now index)) × (Holds (now m) sessionId session) × (Holds (now m) originHost host) × (Holds (now m) originRealm realm) × (20 ≤ length (now m)) × (walkCode (now m) ≡ 0) × (1 ≤ most) × (most ≤ 3) ⌝ }
     ensures { λ r. ⌜ Listed (now (m .entry)) (restCode most 265 (avps (now (m .entry)))) (requestOf 265 (avps (now (m .entry)))) r ⌝ }
 {
+    let routes = message::routes_field(m, index, most);
     let g1 = message::number_field(m, index, 5, 2, 2);
     let Got::Found(_) = g1 else {
         return Told::Refused(message::refusal(g1));
@@ -155,9 +157,10 @@ fn list_265(m: &[u8], index: &[usize], session: Span, host: Span, realm: Span, m
     let e = a + kind.len;
     if message::value32(&m[a..e]) == 0 {
         let visited = is_found(g5);
-        return tunnel_end(m, index, user, session, host, realm, visited, most);
+        let wrong = message::routes_wrong(routes);
+        return tunnel_end(m, index, user, session, host, realm, visited, wrong);
     }
-    policy_end(m, index, user, session, most)
+    policy_end(m, index, user, session, routes)
 }
 
 // The fields of a 275.

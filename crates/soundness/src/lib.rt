@@ -6,10 +6,11 @@ ghost use Prim.Native.Nat.{_+_, _-_, _/_, _%_, _^_, _<_, _≤_};
 ghost use lib.ListN.{length, getD, drop};
 ghost use lib.Dec.{eqb};
 ghost use Rattle.octets.specs.Texts.{same};
-ghost use Rattle.table.specs.TheTable.{head, orderLine, places, readRow};
+ghost use Rattle.table.specs.TheTable.{formOf, head, orderLine, places, readRow};
 ghost use Rattle.octets.specs.Lists.{every, distinct};
 ghost use Rattle.table.specs.Soundness.{isRow, limits, lineExact, sessions, onEntry, underLimits, sound};
 ghost use Rattle.blocks.specs.RowTests.{placeSound, headSound};
+ghost use Rattle.soundness.specs.Blocks.{firstSound, otherSound};
 
 // THE ORDER LINE, AND BYTE 17
 
@@ -61,38 +62,71 @@ pub fn accesses_in_use(r: &[u8]) -> usize
 
 // THE PLACES
 
-// A free place is zero, all of it. Of one in use the first block is looked at, and the second where the form has one.
-fn place_sound(r: &[u8], k: usize, n: u8) -> bool
+// The first block of a place: that of an access, or zero where the place is free.
+fn first_sound(r: &[u8], k: usize, n: u8) -> bool
     requires { ⌜ (isRow (now r) ≡ true) × (1 ≤ k) × (k ≤ 8) ⌝ }
-    ensures { λ x. ⌜ x ≡ placeSound n (now (r .entry)) k ⌝ }
+    ensures { λ x. ⌜ x ≡ firstSound n (now (r .entry)) k ⌝ }
 {
-    let place = row::place(r, k);
     let block = row::first(r, k);
-    if !in_use(row::used_bits(r), k) {
-        return octets::all_zero(place);
+    if in_use(row::used_bits(r), k) {
+        return blocks::access_sound(block, n);
     }
-    if !blocks::access_sound(block, n) {
-        return false;
-    }
-    let more = row::second(r, k);
-    if more.len() == 0 {
-        return true;
-    }
-    blocks::second_sound(more, block[5])
+    octets::all_zero(block)
 }
 
-fn places_sound(r: &[u8], n: u8) -> bool
+// Its second block, which form 1 has not.
+fn second_sound(r: &[u8], k: usize) -> bool
+    requires { ⌜ (isRow (now r) ≡ true) × (formOf (now r) ≡ 2) × (1 ≤ k) × (k ≤ 8) ⌝ }
+    ensures { λ x. ⌜ x ≡ otherSound (now (r .entry)) k ⌝ }
+{
+    let block = row::first(r, k);
+    let more = row::second(r, k);
+    if in_use(row::used_bits(r), k) {
+        return blocks::second_sound(more, block[5]);
+    }
+    octets::all_zero(more)
+}
+
+fn firsts_sound(r: &[u8], n: u8) -> bool
     requires { ⌜ isRow (now r) ≡ true ⌝ }
-    ensures { λ x. ⌜ x ≡ every (placeSound n (now (r .entry))) places ⌝ }
+    ensures { λ x. ⌜ x ≡ every (firstSound n (now (r .entry))) places ⌝ }
 {
     let mut k: usize = 1;
     while k < 9 {
-        if !place_sound(r, k, n) {
+        if !first_sound(r, k, n) {
             return false;
         }
         k += 1;
     }
     true
+}
+
+fn seconds_sound(r: &[u8]) -> bool
+    requires { ⌜ (isRow (now r) ≡ true) × (formOf (now r) ≡ 2) ⌝ }
+    ensures { λ x. ⌜ x ≡ every (otherSound (now (r .entry))) places ⌝ }
+{
+    let mut k: usize = 1;
+    while k < 9 {
+        if !second_sound(r, k) {
+            return false;
+        }
+        k += 1;
+    }
+    true
+}
+
+// The first blocks of all places, then the second ones: form 1 is tested as if there were no other.
+fn places_sound(r: &[u8], n: u8) -> bool
+    requires { ⌜ isRow (now r) ≡ true ⌝ }
+    ensures { λ x. ⌜ x ≡ every (placeSound n (now (r .entry))) places ⌝ }
+{
+    if !firsts_sound(r, n) {
+        return false;
+    }
+    if r.len() == 4608 {
+        return true;
+    }
+    seconds_sound(r)
 }
 
 // WHAT THE ACCESSES SAY, along an exact order line

@@ -98,7 +98,7 @@ module _ (t : Table) (right : tableNumber t ≡ 0) where
   rows-fit i h = omega (arith, rows-order (width t) i _ h, whole-rows t right, (bytes-most t right) .1)
 
 -- the number by the form and the length
-pub number-right : (t : Table) → isForm (t .form) ≡ true → length (t .bytes) % width t ≡ 0 → width t ≤ length (t .bytes) → length (t .bytes) ≤ 1024 * width t → tableNumber t ≡ 0
+pub number-right : (t : Table) → isForm (t .form) ≡ true → length (t .bytes) % width t ≡ 0 → 0 < length (t .bytes) → length (t .bytes) ≤ 1024 * width t → tableNumber t ≡ 0
 unfolding tableNumber require
 number-right t f m lo hi =
     let n : ℕ = length (t .bytes) / width t in
@@ -132,9 +132,11 @@ pub number-short : (t : Table) → length (t .bytes) < width t → tableNumber t
 number-short t h =
     number-few t (λ lo hi. omega (arith, split (width t) (length (t .bytes)), rows-order (width t) 1 _ lo))
 
-pub number-long : (t : Table) → 1024 * width t < length (t .bytes) → length (t .bytes) % width t ≡ 0 → tableNumber t ≡ 1
-number-long t h m =
-    number-few t (λ lo hi. omega (arith, split (width t) (length (t .bytes)), m, rows-order (width t) _ 1024 hi))
+pub number-long : (t : Table) → 1024 * width t < length (t .bytes) → tableNumber t ≡ 1
+number-long t h =
+    by-test (eqb (length (t .bytes) % width t) 0)
+    (λ e. number-few t (λ lo hi. omega (arith, split (width t) (length (t .bytes)), eqb-true (length (t .bytes) % width t) 0 e, rows-order (width t) _ 1024 hi)))
+    (λ e. number-rest t (eqb-false (length (t .bytes) % width t) 0 e))
 
 -- the first number of a call that brings an operator
 pub first-table : (t : Table) (o : ℕ) → firstNumber t o ≡ 0 → tableNumber t ≡ 0

@@ -96,12 +96,6 @@ pub line-over : (l : List ℕ) (i : ℕ) → length l ≤ i → length (upTo0 (d
 unfolding upTo0
 line-over l i h = rw (drop-of-length-le l h)
 
-pub head-last : (b : List ℕ) → eqb (getD b 0 0) 1 ≡ true → isName (part b 2 (getD b 1 0)) && zeroBehind (getD b 1 0) (part b 2 15) ≡ true → leb (getD b 18 0) 4 ≡ true
-    → leb (getD b 19 0) 15 ≡ true → zeroBehind (length (upTo0 (part b 20 8))) (part b 20 8) ≡ true → allZero (part b 28 4) ≡ true → allZero (part b 448 62) ≡ headForm b
-unfolding headForm
-head-last b e1 e2 e3 e4 e5 e6 =
-    rw (e1, and-left (isName (part b 2 (getD b 1 0))) _ e2, and-right (isName (part b 2 (getD b 1 0))) _ e2, e3, e4, e5, e6)
-
 -- block 0 has not its form, if what the form would show is refuted
 pub not-head : (b : List ℕ) → (Headed b → isName (part b 2 (getD b 1 0)) && zeroBehind (getD b 1 0) (part b 2 15) ≡ true → getD b 18 0 ≤ 4 → ⊥) → false ≡ headForm b
 not-head b h =

@@ -110,13 +110,13 @@ pub fn table_number(t: &[u8], form: u32) -> u32
     }
     let width = row_length(form as usize);
     let n = t.len();
-    if n % width != 0 {
-        return 1;
-    }
-    if n < width {
+    if n == 0 {
         return 1;
     }
     if MOST_ROWS * width < n {
+        return 1;
+    }
+    if n % width != 0 {
         return 1;
     }
     0

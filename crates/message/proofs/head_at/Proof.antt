@@ -18,9 +18,12 @@ add-flags c = search needs
 shared-slice-read-flags : tie.Need-shared-slice-read-flags
 shared-slice-read-flags c = search needs
 
+read32-requires : tie.Need-read32-requires
+read32-requires c κs = search needs
+
 returns-2 : tie.Need-returns-2
 returns-2 c =
-    let a = c .before .before .before .before .args in
+    let a = c .before .before .before .before .before .args in
     sym (at-bits (a .m .now) (a .at) (omega arith) (c .if2 .taken))
 
 add-read24 : tie.Need-add-read24
@@ -38,21 +41,18 @@ mul-whole c = search needs
 returns-3 : tie.Need-returns-3
 returns-3 c =
     let s = c .before .before in
-    let a = s .before .before .before .before .before .args in
+    let a = s .before .before .before .before .before .before .args in
     sym (at-length-v (a .m .now) (a .at) (omega arith) (s .before .if2 .left) (omega arith) (omega arith))
 
 returns-4 : tie.Need-returns-4
 unfolding up4
 returns-4 c =
     let s = c .before .before .before in
-    let a = s .before .before .before .before .before .args in
+    let a = s .before .before .before .before .before .before .args in
     sym (at-past-v (a .m .now) (a .at) (omega arith) (s .before .if2 .left) (omega arith) (omega arith) (omega arith))
 
 add-read32 : tie.Need-add-read32
 add-read32 c = search needs
-
-read32-requires : tie.Need-read32-requires
-read32-requires c κs = search needs
 
 read32-requires-2 : tie.Need-read32-requires-2
 read32-requires-2 c κs = search needs
@@ -60,48 +60,45 @@ read32-requires-2 c κs = search needs
 vendor-slot-requires : tie.Need-vendor-slot-requires
 vendor-slot-requires c κs = search needs
 
-add-t16 : tie.Need-add-t16
-add-t16 c = search needs
+add-t17 : tie.Need-add-t17
+add-t17 c = search needs
 
 returns-5 : tie.Need-returns-5
 unfolding up4
 returns-5 c =
-    let s = c .before .before .before .before .before .before in
-    let a = s .before .before .before .before .before .args in
+    let s = c .before .before .before .before .before in
+    let a = s .before .before .before .before .before .before .args in
     let e = s .read24 .ensures .0 in
     sym (at-v (a .m .now) (a .at) (omega arith) (s .before .if2 .left) (omega arith) (omega arith) (omega arith)
-    ∙ rw (← e, ← c .before .before .read32 .ensures, ← c .before .read322 .ensures, ← c .vendor-slot .ensures))
+    ∙ rw (← e, ← c .before .read322 .ensures, ← s .before .before .read32 .ensures, ← c .vendor-slot .ensures))
 
 returns-6 : tie.Need-returns-6
 returns-6 c =
     let s = c .before .before in
-    let a = s .before .before .before .before .before .args in
+    let a = s .before .before .before .before .before .before .args in
     sym (at-length (a .m .now) (a .at) (omega arith) (s .before .if2 .left) (omega arith) (omega arith))
 
 returns-7 : tie.Need-returns-7
 unfolding up4
 returns-7 c =
     let s = c .before .before .before in
-    let a = s .before .before .before .before .before .args in
+    let a = s .before .before .before .before .before .before .args in
     sym (at-past (a .m .now) (a .at) (omega arith) (s .before .if2 .left) (omega arith) (omega arith) (omega arith))
-
-read32-requires-3 : tie.Need-read32-requires-3
-read32-requires-3 c κs = search needs
 
 base-slot-requires : tie.Need-base-slot-requires
 base-slot-requires c κs = search needs
 
-add-t13 : tie.Need-add-t13
-add-t13 c = search needs
+add-t14 : tie.Need-add-t14
+add-t14 c = search needs
 
 returns-8 : tie.Need-returns-8
 unfolding up4
 returns-8 c =
-    let s = c .before .before .before .before .before in
-    let a = s .before .before .before .before .before .args in
+    let s = c .before .before .before .before in
+    let a = s .before .before .before .before .before .before .args in
     let e = s .read24 .ensures .0 in
     sym (at-base (a .m .now) (a .at) (omega arith) (s .before .if2 .left) (omega arith) (omega arith) (omega arith)
-    ∙ rw (← e, ← c .before .read323 .ensures, ← c .base-slot .ensures))
+    ∙ rw (← e, ← s .before .before .read32 .ensures, ← c .base-slot .ensures))
 
 pub head-at-spec : {M : Type 1} → statement M
 head-at-spec =
@@ -110,6 +107,7 @@ head-at-spec =
     returns
     add-flags
     shared-slice-read-flags
+    read32-requires
     returns-2
     add-read24
     read24-requires
@@ -118,14 +116,12 @@ head-at-spec =
     returns-3
     returns-4
     add-read32
-    read32-requires
     read32-requires-2
     vendor-slot-requires
-    add-t16
+    add-t17
     returns-5
     returns-6
     returns-7
-    read32-requires-3
     base-slot-requires
-    add-t13
+    add-t14
     returns-8)

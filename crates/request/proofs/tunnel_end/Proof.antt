@@ -15,12 +15,12 @@ use Rattle.request.proofs.tunnel_end.Tie as tie
 abbrev behindLabel : ℕ → List Avp → List ℕ
 behindLabel most xs = fieldCode xs (textsField most routingPolicy false) ∷ []
 
-labelled : (p : tie.After-known-told) → tunnelCode (p .before .before .before .before .before .before .args .most) (avps (p .before .before .before .before .before .before .args .m .now)) ≡ firstOf (behindLabel (p .before .before .before .before .before .before .args .most) (avps (p .before .before .before .before .before .before .args .m .now)))
+labelled : (p : tie.After-known-told) (most : ℕ) → tunnelCode most (avps (p .before .before .before .before .before .before .args .m .now)) ≡ firstOf (behindLabel most (avps (p .before .before .before .before .before .before .args .m .now)))
 unfolding tunnelCode labelField bytesField nameAt names
-labelled p =
+labelled p most =
     let a = p .before .before .before .before .before .before .args in
     let m = a .m .now in
-    go-on m (labelField wlanApnId true) (behindLabel (a .most) (avps m)) (p .before .before .before .text-field .result) (p .before .g1 .given .0 .0)
+    go-on m (labelField wlanApnId true) (behindLabel most (avps m)) (p .before .before .before .text-field .result) (p .before .g1 .given .0 .0)
     (p .before .before .before .text-field .ensures true) (p .before .g1 .given .1)
 
 text-field-requires : tie.Need-text-field-requires
@@ -35,37 +35,34 @@ refusal-requires c κs = search needs
 returns : tie.Need-returns
 unfolding tunnelCode labelField bytesField nameAt names
 returns c =
+    λ most e.
     let a = c .before .before .before .before .before .args in
     let m = a .m .now in
-    let st = stop m (labelField wlanApnId true) (behindLabel (a .most) (avps m)) (c .before .before .text-field .result) (c .refusal .result)
+    let st = stop m (labelField wlanApnId true) (behindLabel most (avps m)) (c .before .before .text-field .result) (c .refusal .result)
     (c .before .before .text-field .ensures true) refl (c .before .match .keys2) (c .refusal .ensures) in
-    listed-refused m (tunnelCode (a .most) (avps m)) (tunnelOf (a .visited) (avps m)) (c .refusal .result) (st .0) (st .1)
-
-routes-code-requires : tie.Need-routes-code-requires
-routes-code-requires c κs =
-    let p = c .before .before .before .before .before .before .pre in
-    (p .5, p .6, p .7, p .8, p .0)
+    listed-refused m (tunnelCode most (avps m)) (tunnelOf (a .visited) (avps m)) (c .refusal .result) (st .0) (st .1)
 
 returns-2 : tie.Need-returns-2
 returns-2 c =
-    let a = c .before .before .before .before .before .before .before .before .args in
+    λ most e.
+    let a = c .before .before .before .before .before .before .before .args in
     let m = a .m .now in
-    let n = c .before .routes-code .result in
-    let h = above-zero n (c .if1 .taken) in
-    listed-refused m (tunnelCode (a .most) (avps m)) (tunnelOf (a .visited) (avps m)) n
-    (labelled (c .before .before) ∙ first-stop (fieldCode (avps m) (textsField (a .most) routingPolicy false)) n [] (sym (c .before .routes-code .ensures)) h) h
+    let h = above-zero (a .wrong) (c .if1 .taken) in
+    listed-refused m (tunnelCode most (avps m)) (tunnelOf (a .visited) (avps m)) (a .wrong)
+    (labelled (c .before) most ∙ first-stop (fieldCode (avps m) (textsField most routingPolicy false)) (a .wrong) [] (sym e) h) h
 
 returns-3 : tie.Need-returns-3
 unfolding labelField bytesField nameAt names firstOf
 returns-3 c =
-    let s = c .before .before .before .before .before .before .before .before in
+    λ most e.
+    let s = c .before .before .before .before .before .before .before in
     let a = s .args in
     let m = a .m .now in
-    let label = c .before .before .before .g1 .given .0 .0 in
-    let z : fieldCode (avps m) (textsField (a .most) routingPolicy false) ≡ 0 = sym (c .before .routes-code .ensures) ∙ c .if1 .left in
-    told-tunnel (a .most) m (a .user) (a .session) (a .host) (a .realm) label (a .visited) (s .pre .1) (s .pre .2) (s .pre .3) (s .pre .4)
-    (c .before .before .before .before .before .text-field .ensures true .found label (c .before .before .before .g1 .given .1))
-    (labelled (c .before .before) ∙ first-go (fieldCode (avps m) (textsField (a .most) routingPolicy false)) [] z)
+    let label = c .before .before .g1 .given .0 .0 in
+    let z : fieldCode (avps m) (textsField most routingPolicy false) ≡ 0 = sym e ∙ c .if1 .left in
+    told-tunnel most m (a .user) (a .session) (a .host) (a .realm) label (a .visited) (s .pre .1) (s .pre .2) (s .pre .3) (s .pre .4)
+    (c .before .before .before .before .text-field .ensures true .found label (c .before .before .g1 .given .1))
+    (labelled (c .before) most ∙ first-go (fieldCode (avps m) (textsField most routingPolicy false)) [] z)
 
 pub tunnel-end-spec : {M : Type 1} → statement M
 tunnel-end-spec =
@@ -75,6 +72,5 @@ tunnel-end-spec =
     enum-known-g1
     refusal-requires
     returns
-    routes-code-requires
     returns-2
     returns-3)

@@ -23,46 +23,43 @@ returns-2 c =
 returns-3 : tie.Need-returns-3
 returns-3 c =
     let given = c .before .before .before .before .before .args in
-    let test3 = c .if3 in
-    let row-length-was = c .before .row-length in
-    sym (number-rest (lent (given .form) (given .t .now)) (λ e. test3 .taken (ap (λ (w : ℕ). length (given .t .now) % w) (row-length-was .ensures) ∙ e)))
+    sym (number-short (lent (given .form) (given .t .now)) (omega (arith, width-least (given .form))))
 
 returns-4 : tie.Need-returns-4
 returns-4 c =
     let given = c .before .before .before .before .before .before .args in
     let row-length-was = c .before .before .row-length in
-    sym (number-short (lent (given .form) (given .t .now)) (omega (arith, row-length-was .ensures)))
+    sym (number-long (lent (given .form) (given .t .now)) (omega (arith, row-length-was .ensures)))
 
 returns-5 : tie.Need-returns-5
 returns-5 c =
     let given = c .before .before .before .before .before .before .before .args in
+    let test5 = c .if5 in
     let row-length-was = c .before .before .before .row-length in
-    let test3 = c .before .before .if3 in
-    let whole : length (given .t .now) % rowLength (given .form) ≡ 0 = ap (λ (w : ℕ). length (given .t .now) % w) (sym (row-length-was .ensures)) ∙ test3 .left in
-    sym (number-long (lent (given .form) (given .t .now)) (omega (arith, row-length-was .ensures)) whole)
+    sym (number-rest (lent (given .form) (given .t .now)) (λ e. test5 .taken (ap (λ (w : ℕ). length (given .t .now) % w) (row-length-was .ensures) ∙ e)))
 
 returns-6 : tie.Need-returns-6
 returns-6 c =
     let given = c .before .before .before .before .before .before .before .args in
     let row-length-was = c .before .before .before .row-length in
-    let test3 = c .before .before .if3 in
-    let whole : length (given .t .now) % rowLength (given .form) ≡ 0 = ap (λ (w : ℕ). length (given .t .now) % w) (sym (row-length-was .ensures)) ∙ test3 .left in
+    let test5 = c .if5 in
+    let whole : length (given .t .now) % rowLength (given .form) ≡ 0 = ap (λ (w : ℕ). length (given .t .now) % w) (sym (row-length-was .ensures)) ∙ test5 .left in
     sym (number-right (lent (given .form) (given .t .now)) (a-form (given .form) (omega arith) (omega arith)) whole (omega (arith, row-length-was .ensures)) (omega (arith, row-length-was .ensures)))
 
 row-length-requires : tie.Need-row-length-requires
 row-length-requires c κs = search needs
 
-rem-if3 : tie.Need-rem-if3
-rem-if3 c =
-    let row-length-was = c .row-length in
-    let given = c .before .before .before .before .args in
-    omega (arith, row-length-was .ensures, width-least (given .form))
+mul-if4 : tie.Need-mul-if4
+mul-if4 c =
+    let row-length-was = c .before .row-length in
+    let given = c .before .before .before .before .before .args in
+    omega (arith, row-length-was .ensures, width-most (given .form) (omega arith))
 
-mul-if5 : tie.Need-mul-if5
-mul-if5 c =
+rem-if5 : tie.Need-rem-if5
+rem-if5 c =
     let row-length-was = c .before .before .row-length in
     let given = c .before .before .before .before .before .before .args in
-    omega (arith, row-length-was .ensures, width-most (given .form) (omega arith))
+    omega (arith, row-length-was .ensures, width-least (given .form))
 
 pub table-number-spec : {M : Type 1} → statement M
 table-number-spec =
@@ -71,9 +68,9 @@ table-number-spec =
     returns
     returns-2
     row-length-requires
-    rem-if3
     returns-3
+    mul-if4
     returns-4
-    mul-if5
+    rem-if5
     returns-5
     returns-6)
