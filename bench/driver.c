@@ -6,6 +6,7 @@
  *   driver mix CALLS SEED          the same on calls by chance (mix.c)
  *   driver tally LISTS SEED        the same on lists of results by chance, counted into a report (tally.c)
  *   driver answers FILE CALLS      the proved library's answers to such calls, one behind the other, into a file
+ *   driver aborts FILE CALLS       its Abort-Session-Requests for the cuts of such calls on a table of form 2, the same way
  *   driver count LINE LIBRARY N    N calls of one line, for the counting of instructions; LIBRARY is proved, plain or none
  *   driver time                    one table of time ratios, the libraries measured in turn
  */
@@ -18,7 +19,7 @@ struct timespec {
     long tv_sec, tv_nsec;
 };
 int clock_gettime(int, struct timespec *);
-int mix(uint32_t calls, uint64_t seed, const char *answers);
+int mix(uint32_t calls, uint64_t seed, const char *written, bool aborts);
 /* the lines of the report, behind those of this file */
 size_t tally_lines(void);
 const char *tally_name(size_t line);
@@ -33,6 +34,9 @@ enum { ROWS = 1024, MESSAGES = 12, MOVED = 64 };
 typedef struct wm_outcome handle_function(uint8_t *, size_t, uint32_t, uint32_t, const uint8_t *, size_t, const uint8_t *, size_t,
                                           const uint8_t *, size_t, bool, uint8_t *, size_t, uint8_t *, size_t);
 typedef uint32_t move_function(const uint8_t *, size_t, uint8_t *, size_t, uint32_t);
+typedef struct wm_written abort_function(const uint8_t *, size_t, const uint8_t *, size_t, const uint8_t *, size_t, uint32_t, uint32_t,
+                                         uint32_t, uint32_t, uint32_t, uint8_t *, size_t);
+typedef uint32_t answered_function(const uint8_t *, size_t, const uint8_t *, size_t, uint32_t, uint32_t);
 
 /* What a call costs without a library: the loop around it. */
 static struct wm_outcome none_handle(uint8_t *t, size_t tl, uint32_t f, uint32_t op, const uint8_t *h, size_t hl, const uint8_t *r, size_t rl,
@@ -46,16 +50,31 @@ static uint32_t none_move(const uint8_t *t, size_t tl, uint8_t *to, size_t tol, 
     return 0;
 }
 
+static struct wm_written none_abort(const uint8_t *h, size_t hl, const uint8_t *r, size_t rl, const uint8_t *n, size_t nl, uint32_t cs,
+                                    uint32_t ch, uint32_t cr, uint32_t hop, uint32_t end, uint8_t *to, size_t tol) {
+    (void)h, (void)hl, (void)r, (void)rl, (void)n, (void)nl, (void)cs, (void)ch, (void)cr, (void)hop, (void)end, (void)to, (void)tol;
+    return (struct wm_written){0};
+}
+
+static uint32_t none_answered(const uint8_t *a, size_t al, const uint8_t *s, size_t sl, uint32_t hop, uint32_t end) {
+    (void)a, (void)al, (void)s, (void)sl, (void)hop, (void)end;
+    return 0;
+}
+
 /* volatile: the compiler must not see which function it is, or it takes the loop around the empty one away. */
 static const struct library {
     const char *name;
     handle_function *volatile handle;
     move_function *volatile move;
-} libraries[3] = {{"proved", wm_handle, wm_move}, {"plain", plain_handle, plain_move}, {"none", none_handle, none_move}};
+    abort_function *volatile abort;
+    answered_function *volatile answered;
+} libraries[3] = {{"proved", wm_handle, wm_move, wm_abort, wm_abort_answered},
+                  {"plain", plain_handle, plain_move, plain_abort, plain_abort_answered},
+                  {"none", none_handle, none_move, none_abort, none_answered}};
 
 /* Everything that a library is lent. */
 struct lent {
-    uint8_t table[ROWS * WM_ROW_2], target[MOVED * WM_ROW_2], answer[WM_ANSWER_LEAST], notice[WM_NOTICE_LEAST];
+    uint8_t table[ROWS * WM_ROW_2], target[MOVED * WM_ROW_2], answer[WM_ANSWER_LEAST], notice[WM_NOTICE_2_LEAST];
 };
 static struct lent lent[2];
 static uint8_t saved[WM_ROW_2]; /* the subscriber's row as it was set up */
@@ -126,7 +145,11 @@ static void put_termination(uint32_t i, uint32_t session, uint32_t row) {
 
 /* ---- lines ---- */
 
-/* restore: the subscriber's row is set back before each call. form: of the table. A line without messages moves the table to the other form. */
+/* What a line calls: a request is handled, the table is moved to the other form, an Abort-Session-Request is written from the notice that `cut` has, with the
+ * identifiers of the message, or the message is an answer that is judged. */
+enum what { HANDLE, MOVE, WRITE, JUDGE };
+
+/* restore: the subscriber's row is set back before each call. form: of the table. */
 struct line {
     const char *name;
     void (*set_up)(void);
@@ -134,13 +157,24 @@ struct line {
     bool restore;
     struct wm_outcome expected; /* length 0: not looked at */
     uint32_t form;
+    enum what what;
 };
+
+/* The notice of a cut in form 2, and its lengths. */
+static struct {
+    uint8_t notice[WM_NOTICE_2_LEAST];
+    uint32_t session, host, realm;
+} cut;
 
 static uint8_t *table;
 static uint32_t rows, form;
 
 static size_t row_of(uint32_t of_form) {
     return of_form == 1 ? WM_ROW : WM_ROW_2;
+}
+
+static size_t notice_of(uint32_t of_form) {
+    return of_form == 1 ? WM_NOTICE_LEAST : WM_NOTICE_2_LEAST;
 }
 
 /* One row of the operator, as a table by itself, with this name. */
@@ -153,7 +187,7 @@ static void enter(uint8_t *row, uint32_t op, const uint8_t *name) {
 
 /* The subscriber of a row gets two W-APNs, the first with `limit` places, of which `open` are in use. */
 static void fill_row(uint32_t i, uint8_t limit, uint32_t open) {
-    static uint8_t answer[WM_ANSWER_LEAST], notice[WM_NOTICE_LEAST];
+    static uint8_t answer[WM_ANSWER_LEAST], notice[WM_NOTICE_2_LEAST];
     size_t size = row_of(form);
     uint8_t *row = table + i * size;
     plain_add(row, size, form, 0, name_of(i), 15, (const uint8_t *)label, sizeof label - 1, limit, 2);
@@ -347,38 +381,114 @@ static void unsound(void) {
     table[(rows - 1) * row_of(form) + (size_t)form * 512 + 512 + 8 + 70] ^= 1;
 }
 
+/* The Session-Id of the answers, which is that of the notice: the gateway's name, two numbers and a mark. */
+static void put_cut(uint32_t session) {
+    static struct request r;
+    r.length = 0;
+    put_session(&r, session);
+    memset(cut.notice, 0, sizeof cut.notice);
+    memcpy(cut.notice, r.bytes + 8, cut.session = 72);
+    memcpy(cut.notice + 128, gateway, cut.host = sizeof gateway - 1);
+    memcpy(cut.notice + 256, realm, cut.realm = sizeof realm - 1);
+}
+
+/* The identifiers stand in the messages. */
+static void disconnecting(void) {
+    subscribers(2, 2);
+    put_cut(7);
+    for (uint32_t i = 0; i < MESSAGES; i++)
+        start(&messages[i], 0xC0, 274, 1, i);
+}
+
+static void disconnecting_longest(void) {
+    disconnecting();
+    memset(cut.notice, 'x', sizeof cut.notice);
+    cut.session = cut.host = cut.realm = 128;
+}
+
+/* An access that came from a move has no realm. */
+static void disconnecting_moved(void) {
+    disconnecting();
+    cut.realm = 0;
+}
+
+/* An Abort-Session-Answer as a gateway gives it. */
+static void put_answer(uint32_t i, uint32_t session) {
+    struct request *r = &messages[i];
+    start(r, 0x40, 274, 1, i);
+    put_session(r, session);
+    put_value(r, 268, false, 2001);
+    put_text(r, 264, gateway);
+    put_text(r, 296, realm);
+    finish(r);
+}
+
+static void answered(void) {
+    disconnecting();
+    for (uint32_t i = 0; i < MESSAGES; i++)
+        put_answer(i, 7);
+}
+
+/* The last AVP is a second Result-Code. */
+static void answered_twice(void) {
+    answered();
+    for (struct request *r = messages; r < messages + MESSAGES; r++) {
+        put_value(r, 268, false, 2001);
+        finish(r);
+    }
+}
+
+static void answered_another(void) {
+    answered();
+    for (uint32_t i = 0; i < MESSAGES; i++)
+        put_answer(i, 8);
+}
+
+static void answered_tiny(void) {
+    answered();
+    for (struct request *r = messages; r < messages + MESSAGES; r++)
+        put_tiny(r);
+}
+
 static const struct line lines[] = {
-    {"opening with a cut, 1 row", cutting, 1, MESSAGES, false, {2001, 1, 0, 0, 1, 72, 39}, 1},
-    {"opening with a cut, 64 rows", cutting, 64, MESSAGES, false, {2001, 1, 0, 0, 1, 72, 39}, 1},
-    {"opening with a cut, 1,024 rows", cutting, 1024, MESSAGES, false, {2001, 1, 0, 0, 1, 72, 39}, 1},
-    {"opening with a cut, 1,024 rows of its name", cutting_namesake, 1024, MESSAGES, false, {2001, 1, 0, 0, 1, 72, 39}, 1},
-    {"opening with a cut, 8 accesses", cutting_full, 1, MESSAGES, false, {2001, 1, 0, 0, 1, 72, 39}, 1},
-    {"opening with a cut, W-APN in capitals", cutting_capitals, 1, MESSAGES, false, {2001, 1, 0, 0, 1, 72, 39}, 1},
-    {"opening without a cut, 1 row", opening_first, 1, MESSAGES, true, {2001, 1, 0, 1, 0, 0, 0}, 1},
-    {"opening without a cut, 1,024 rows", opening_first, 1024, MESSAGES, true, {2001, 1, 0, 1, 0, 0, 0}, 1},
-    {"policy", policies, 1, 2, false, {2001, 1, 0, 0, 0, 0, 0}, 1},
-    {"termination", terminations, 1, 1, true, {2001, 1, 0, 0, 0, 0, 0}, 1},
-    {"refused: number 7", wrong_length, 1, 1, false, {7, 0, 0, 0, 0, 0, 0}, 1},
-    {"refused: header flags", wrong_header, 1, 1, false, {5013, 1, 0, 0, 0, 0, 0}, 1},
-    {"refused: bare header", bare, 1, 1, false, {5005, 1, 0, 0, 0, 0, 0}, 1},
-    {"refused: no W-APN", no_label, 1, 1, false, {5005, 1, 0, 0, 0, 0, 0}, 1},
-    {"refused: 509 AVPs of 8 bytes", tiny_refused, 1, 1, false, {5005, 1, 0, 0, 0, 0, 0}, 1},
-    {"refused: the last of 509 AVPs", last_refused, 1, 1, false, {5001, 1, 0, 0, 0, 0, 0}, 1},
-    {"opening with a cut, 463 more AVPs", tiny_opened, 1, MESSAGES, false, {2001, 1, 0, 0, 1, 72, 39}, 1},
-    {"opening with a cut, 463 known AVPs with M", known_opened, 1, MESSAGES, false, {2001, 1, 0, 0, 1, 72, 39}, 1},
-    {"opening with a cut, 64 Proxy-Infos", many_proxies, 1, MESSAGES, false, {2001, 1, 0, 0, 1, 72, 39}, 1},
-    {"opening with a cut, 40 Proxy-Infos apart", proxies_apart, 1, MESSAGES, false, {2001, 1, 0, 0, 1, 72, 39}, 1},
-    {"unknown user, 1,024 rows", unknown, 1024, 1, false, {5001, 2, 0, 0, 0, 0, 0}, 1},
-    {"unsound row", unsound, 1, 1, false, {5012, 1, 0, 0, 0, 0, 0}, 1},
-    {"form 2: opening with a cut, 1 row", cutting, 1, MESSAGES, false, {2001, 1, 0, 0, 1, 72, 39}, 2},
-    {"form 2: opening with a cut, 1,024 rows", cutting, 1024, MESSAGES, false, {2001, 1, 0, 0, 1, 72, 39}, 2},
-    {"form 2: opening with a cut, 8 accesses", cutting_full, 1, MESSAGES, false, {2001, 1, 0, 0, 1, 72, 39}, 2},
-    {"form 2: opening without a cut", opening_first, 1, MESSAGES, true, {2001, 1, 0, 1, 0, 0, 0}, 2},
-    {"form 2: one policy", policies, 1, 2, false, {2001, 1, 0, 0, 0, 0, 0}, 2},
-    {"form 2: three policies", three_policies, 1, 2, false, {2001, 1, 0, 0, 0, 0, 0}, 2},
-    {"form 2: termination", terminations, 1, 1, true, {2001, 1, 0, 0, 0, 0, 0}, 2},
-    {"moving 64 rows to form 2", full_table, MOVED, 0, false, {0, 0, 0, 0, 0, 0, 0}, 1},
-    {"moving 64 rows back to form 1", full_table, MOVED, 0, false, {0, 0, 0, 0, 0, 0, 0}, 2},
+    {"opening with a cut, 1 row", cutting, 1, MESSAGES, false, {2001, 1, 0, 0, 1, 72, 39, 0}, 1, HANDLE},
+    {"opening with a cut, 64 rows", cutting, 64, MESSAGES, false, {2001, 1, 0, 0, 1, 72, 39, 0}, 1, HANDLE},
+    {"opening with a cut, 1,024 rows", cutting, 1024, MESSAGES, false, {2001, 1, 0, 0, 1, 72, 39, 0}, 1, HANDLE},
+    {"opening with a cut, 1,024 rows of its name", cutting_namesake, 1024, MESSAGES, false, {2001, 1, 0, 0, 1, 72, 39, 0}, 1, HANDLE},
+    {"opening with a cut, 8 accesses", cutting_full, 1, MESSAGES, false, {2001, 1, 0, 0, 1, 72, 39, 0}, 1, HANDLE},
+    {"opening with a cut, W-APN in capitals", cutting_capitals, 1, MESSAGES, false, {2001, 1, 0, 0, 1, 72, 39, 0}, 1, HANDLE},
+    {"opening without a cut, 1 row", opening_first, 1, MESSAGES, true, {2001, 1, 0, 1, 0, 0, 0, 0}, 1, HANDLE},
+    {"opening without a cut, 1,024 rows", opening_first, 1024, MESSAGES, true, {2001, 1, 0, 1, 0, 0, 0, 0}, 1, HANDLE},
+    {"policy", policies, 1, 2, false, {2001, 1, 0, 0, 0, 0, 0, 0}, 1, HANDLE},
+    {"termination", terminations, 1, 1, true, {2001, 1, 0, 0, 0, 0, 0, 0}, 1, HANDLE},
+    {"refused: number 7", wrong_length, 1, 1, false, {7, 0, 0, 0, 0, 0, 0, 0}, 1, HANDLE},
+    {"refused: header flags", wrong_header, 1, 1, false, {5013, 1, 0, 0, 0, 0, 0, 0}, 1, HANDLE},
+    {"refused: bare header", bare, 1, 1, false, {5005, 1, 0, 0, 0, 0, 0, 0}, 1, HANDLE},
+    {"refused: no W-APN", no_label, 1, 1, false, {5005, 1, 0, 0, 0, 0, 0, 0}, 1, HANDLE},
+    {"refused: 509 AVPs of 8 bytes", tiny_refused, 1, 1, false, {5005, 1, 0, 0, 0, 0, 0, 0}, 1, HANDLE},
+    {"refused: the last of 509 AVPs", last_refused, 1, 1, false, {5001, 1, 0, 0, 0, 0, 0, 0}, 1, HANDLE},
+    {"opening with a cut, 463 more AVPs", tiny_opened, 1, MESSAGES, false, {2001, 1, 0, 0, 1, 72, 39, 0}, 1, HANDLE},
+    {"opening with a cut, 463 known AVPs with M", known_opened, 1, MESSAGES, false, {2001, 1, 0, 0, 1, 72, 39, 0}, 1, HANDLE},
+    {"opening with a cut, 64 Proxy-Infos", many_proxies, 1, MESSAGES, false, {2001, 1, 0, 0, 1, 72, 39, 0}, 1, HANDLE},
+    {"opening with a cut, 40 Proxy-Infos apart", proxies_apart, 1, MESSAGES, false, {2001, 1, 0, 0, 1, 72, 39, 0}, 1, HANDLE},
+    {"unknown user, 1,024 rows", unknown, 1024, 1, false, {5001, 2, 0, 0, 0, 0, 0, 0}, 1, HANDLE},
+    {"unsound row", unsound, 1, 1, false, {5012, 1, 0, 0, 0, 0, 0, 0}, 1, HANDLE},
+    {"form 2: opening with a cut, 1 row", cutting, 1, MESSAGES, false, {2001, 1, 0, 0, 1, 72, 39, 34}, 2, HANDLE},
+    {"form 2: opening with a cut, 1,024 rows", cutting, 1024, MESSAGES, false, {2001, 1, 0, 0, 1, 72, 39, 34}, 2, HANDLE},
+    {"form 2: opening with a cut, 8 accesses", cutting_full, 1, MESSAGES, false, {2001, 1, 0, 0, 1, 72, 39, 34}, 2, HANDLE},
+    {"form 2: opening without a cut", opening_first, 1, MESSAGES, true, {2001, 1, 0, 1, 0, 0, 0, 0}, 2, HANDLE},
+    {"form 2: one policy", policies, 1, 2, false, {2001, 1, 0, 0, 0, 0, 0, 0}, 2, HANDLE},
+    {"form 2: three policies", three_policies, 1, 2, false, {2001, 1, 0, 0, 0, 0, 0, 0}, 2, HANDLE},
+    {"form 2: termination", terminations, 1, 1, true, {2001, 1, 0, 0, 0, 0, 0, 0}, 2, HANDLE},
+    {"moving 64 rows to form 2", full_table, MOVED, 0, false, {0, 0, 0, 0, 0, 0, 0, 0}, 1, MOVE},
+    {"moving 64 rows back to form 1", full_table, MOVED, 0, false, {0, 0, 0, 0, 0, 0, 0, 0}, 2, MOVE},
+    {"writing an Abort-Session-Request", disconnecting, 1, MESSAGES, false, {0, 1, 0, 0, 0, 0, 0, 0}, 2, WRITE},
+    {"writing one of the longest texts", disconnecting_longest, 1, MESSAGES, false, {0, 1, 0, 0, 0, 0, 0, 0}, 2, WRITE},
+    {"writing one, refused: number 22", disconnecting_moved, 1, MESSAGES, false, {22, 0, 0, 0, 0, 0, 0, 0}, 2, WRITE},
+    {"an answer to it that belongs", answered, 1, MESSAGES, false, {1, 0, 0, 0, 0, 0, 0, 0}, 2, JUDGE},
+    {"an answer of another Session-Id", answered_another, 1, MESSAGES, false, {0, 0, 0, 0, 0, 0, 0, 0}, 2, JUDGE},
+    {"an answer with two Result-Codes", answered_twice, 1, MESSAGES, false, {0, 0, 0, 0, 0, 0, 0, 0}, 2, JUDGE},
+    {"an answer that belongs, 486 more AVPs", answered_tiny, 1, MESSAGES, false, {1, 0, 0, 0, 0, 0, 0, 0}, 2, JUDGE},
 };
 enum { LINES = sizeof lines / sizeof *lines };
 
@@ -396,17 +506,35 @@ static void set_up(const struct line *line) {
     }
 }
 
+static inline uint32_t four(const uint8_t *p) {
+    return (uint32_t)p[0] << 24 | (uint32_t)p[1] << 16 | (uint32_t)p[2] << 8 | p[3];
+}
+
+/* A request that was written goes where an answer does, and is told like one. */
+static inline struct wm_outcome write_abort(const struct library *library, struct lent *l, uint32_t hop, uint32_t end) {
+    struct wm_written w =
+        library->abort((const uint8_t *)host, sizeof host - 1, (const uint8_t *)realm, sizeof realm - 1, cut.notice, sizeof cut.notice,
+                       cut.session, cut.host, cut.realm, hop, end, l->answer, WM_ABORT_LEAST);
+    return (struct wm_outcome){.code = w.number, .kind = w.number == 0, .length = w.length};
+}
+
 static inline struct wm_outcome call(const struct library *library, struct lent *l, const struct line *line, size_t i) {
     size_t size = row_of(line->form);
-    if (line->messages == 0) {
+    if (line->what == MOVE) {
         uint32_t to = 3 - line->form;
         return (struct wm_outcome){.code = library->move(l->table, line->rows * size, l->target, line->rows * row_of(to), to)};
     }
+    const uint8_t *m = messages[i].bytes;
+    if (line->what == WRITE)
+        return write_abort(library, l, four(m + 12), four(m + 16));
+    if (line->what == JUDGE)
+        return (struct wm_outcome){
+            .code = library->answered(m, messages[i].length, cut.notice, cut.session, four(m + 12), four(m + 16))};
     if (line->restore)
         memcpy(l->table + (line->rows - 1) * size, saved, size);
     return library->handle(l->table, line->rows * size, line->form, 0, (const uint8_t *)host, sizeof host - 1, (const uint8_t *)realm,
                            sizeof realm - 1, messages[i].bytes, messages[i].length, true, l->answer, sizeof l->answer, l->notice,
-                           sizeof l->notice);
+                           notice_of(line->form));
 }
 
 /* ---- checking ---- */
@@ -420,12 +548,12 @@ static bool same_lent(const struct line *line) {
 
 static bool as_expected(const struct wm_outcome *o, const struct wm_outcome *e) {
     return o->code == e->code && o->kind == e->kind && o->cut == e->cut && o->cut_session == e->cut_session &&
-           o->cut_host == e->cut_host && (e->place == 0 || o->place == e->place) && (e->kind != 0) == (o->length >= 20);
+           o->cut_host == e->cut_host && o->cut_realm == e->cut_realm && (e->place == 0 || o->place == e->place) && (e->kind != 0) == (o->length >= 20);
 }
 
 static void say(const char *who, const struct wm_outcome *o) {
-    printf("  %s: code %u, kind %u, length %u, place %u, cut %u, lengths %u and %u\n", who, o->code, o->kind, o->length,
-           o->place, o->cut, o->cut_session, o->cut_host);
+    printf("  %s: code %u, kind %u, length %u, place %u, cut %u, lengths %u, %u and %u\n", who, o->code, o->kind, o->length,
+           o->place, o->cut, o->cut_session, o->cut_host, o->cut_realm);
 }
 
 /* One call of each library: true if all is the same. */
@@ -471,7 +599,7 @@ static inline uint32_t wrong(const struct line *line, const struct wm_outcome *o
     memcpy(&asked, r->bytes + 12, 8);
     identifiers ^= asked;
     return (o->code ^ e->code) | (o->kind ^ e->kind) | (o->cut ^ e->cut) | (o->cut_session ^ e->cut_session) |
-           (o->cut_host ^ e->cut_host) | ((o->place ^ e->place) & placed) |
+           (o->cut_host ^ e->cut_host) | (o->cut_realm ^ e->cut_realm) | ((o->place ^ e->place) & placed) |
            (((head ^ __builtin_bswap32(0x01000000 + o->length)) | (uint32_t)identifiers | (uint32_t)(identifiers >> 32)) & answered);
 }
 
@@ -507,7 +635,7 @@ double seconds(void) {
 /* The shortest of many short runs for each, the libraries in turn; the loop around the call taken off. Both must leave the same. */
 static bool time_line(const struct line *line) {
     double best[3] = {1e9, 1e9, 1e9};
-    uint32_t calls = line->messages == 0 ? MESSAGES : 50 * MESSAGES; /* a move takes long */
+    uint32_t calls = line->what == MOVE ? MESSAGES : 50 * MESSAGES; /* a move takes long */
     set_up(line);
     for (uint32_t turn = 0; turn < 60; turn++) {
         uint32_t bad[3];
@@ -554,11 +682,11 @@ int main(int count, char **words) {
     } else if (!strcmp(what, "check"))
         return check() || tally_check();
     else if (!strcmp(what, "mix") && count == 4)
-        return mix((uint32_t)strtoul(words[2], 0, 10), strtoul(words[3], 0, 10), 0);
+        return mix((uint32_t)strtoul(words[2], 0, 10), strtoul(words[3], 0, 10), 0, false);
     else if (!strcmp(what, "tally") && count == 4)
         return tally_mix((uint32_t)strtoul(words[2], 0, 10), strtoul(words[3], 0, 10));
-    else if (!strcmp(what, "answers") && count == 4)
-        return mix((uint32_t)strtoul(words[3], 0, 10), 1, words[2]);
+    else if ((!strcmp(what, "answers") || !strcmp(what, "aborts")) && count == 4)
+        return mix((uint32_t)strtoul(words[3], 0, 10), 1, words[2], !strcmp(what, "aborts"));
     else if (!strcmp(what, "time")) {
         for (size_t i = 0; i < LINES; i++)
             if (!time_line(&lines[i]))
@@ -567,7 +695,7 @@ int main(int count, char **words) {
     } else if (!strcmp(what, "count") && count == 5)
         return count_any(strtoul(words[2], 0, 10) % (LINES + tally_lines()), words[3], (uint32_t)strtoul(words[4], 0, 10));
     else {
-        printf("driver: lines, check, mix CALLS SEED, tally LISTS SEED, answers FILE CALLS, count LINE LIBRARY N, or time\n");
+        printf("driver: lines, check, mix CALLS SEED, tally LISTS SEED, answers FILE CALLS, aborts FILE CALLS, count LINE LIBRARY N, or time\n");
         return 2;
     }
     return 0;

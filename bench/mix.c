@@ -1,4 +1,4 @@
-/* Calls by chance: set-up operations, requests and moves, good and damaged, on tables of both forms that live on. After each one both libraries must
+/* Calls by chance: set-up operations, requests, moves and disconnections, good and damaged, on tables of both forms that live on. After each one both libraries must
  * have given the same and left the same bytes everywhere. */
 #include "requests.h"
 
@@ -8,7 +8,7 @@ FILE *fopen(const char *, const char *);
 size_t fwrite(const void *, size_t, size_t, FILE *);
 int fclose(FILE *);
 
-enum { ROWS = 4, ANSWER = WM_ANSWER_LEAST + 64, NOTICE = WM_NOTICE_LEAST + 64 };
+enum { ROWS = 4, ANSWER = WM_ANSWER_LEAST + 64, NOTICE = WM_NOTICE_2_LEAST + 64 };
 
 static struct side {
     uint8_t table[ROWS * WM_ROW_2], target[ROWS * WM_ROW_2 + 64], answer[ANSWER], notice[NOTICE];
@@ -65,7 +65,7 @@ static const struct text *pick(const struct text *of, uint32_t count) {
     return &of[one_in(40) ? below(count) : below(count - 2 < 7 ? count - 2 : 7)];
 }
 
-/* Where the answers are for another decoder: requests are wrong in their fields only, commands are known ones, and a
+/* Where the answers, or the Abort-Session-Requests, are for another decoder: requests are wrong in their fields only, commands are known ones, and a
  * subscriber's name is as long as an IMSI is. */
 static bool decoded;
 
@@ -412,10 +412,23 @@ static bool set_up(uint32_t *number) {
     return *number == plain_add(plain.table, length, said, op, n, name->length, l, label->length, limit, flags);
 }
 
+/* The last cut in form 2: its notice and the lengths that came with it. */
+static struct {
+    uint8_t notice[NOTICE];
+    uint32_t lengths[3];
+} cut;
+
+static void keep_cut(const struct wm_outcome *o) {
+    memcpy(cut.notice, proved.notice, sizeof cut.notice);
+    cut.lengths[0] = o->cut_session;
+    cut.lengths[1] = o->cut_host;
+    cut.lengths[2] = o->cut_realm;
+}
+
 static bool request(struct wm_outcome *o) {
     static struct request r;
     const struct text *host = PICK(texts), *realm = PICK(texts);
-    size_t table = table_length(), answer = WM_ANSWER_LEAST, notice = WM_NOTICE_LEAST;
+    size_t table = table_length(), answer = WM_ANSWER_LEAST, notice = form == 1 ? WM_NOTICE_LEAST : WM_NOTICE_2_LEAST;
     bool wag = !one_in(4);
     look_at_table();
     uint32_t said = say_form(form), op = held.there && !one_in(10) ? held.op : pick_operator();
@@ -423,13 +436,99 @@ static bool request(struct wm_outcome *o) {
     if (one_in(100))
         answer = answer + below(3) - 1;
     if (one_in(100))
-        notice = notice + below(3) - 1;
+        notice = one_in(2) ? WM_NOTICE_LEAST + below(3) - 1 : WM_NOTICE_2_LEAST + below(3) - 1;
     *o = wm_handle(proved.table, table, said, op, (const uint8_t *)host->bytes, host->length, (const uint8_t *)realm->bytes,
                    realm->length, r.bytes, r.length, wag, proved.answer, answer, proved.notice, notice);
     struct wm_outcome other =
         plain_handle(plain.table, table, said, op, (const uint8_t *)host->bytes, host->length, (const uint8_t *)realm->bytes,
                      realm->length, r.bytes, r.length, wag, plain.answer, answer, plain.notice, notice);
+    if (o->cut && said == 2)
+        keep_cut(o);
     return memcmp(o, &other, sizeof other) == 0;
+}
+
+/* ---- the disconnection ---- */
+
+/* A length that came with a notice: now and then another, at the limits or one that would do if its high bytes were not looked at. */
+static uint32_t some_length(uint32_t right) {
+    static const uint32_t others[] = {0, 1, 127, 128, 129, 256, 257, 65537, 0x80000001, 0xFFFFFFFF};
+    return !decoded && one_in(12) ? others[below(sizeof others / sizeof *others)] : right;
+}
+
+/* What stands behind the texts of a notice is not looked at. */
+static void stain_tails(void) {
+    for (size_t i = 0; i < 3; i++)
+        for (size_t k = cut.lengths[i]; k < 128; k++)
+            cut.notice[128 * i + k] = (uint8_t)below(256);
+}
+
+/* The request for the last cut, mostly. */
+static bool abort_session(struct wm_written *w) {
+    const struct text *host = PICK(texts), *realm = PICK(texts);
+    size_t notice = one_in(20) ? WM_NOTICE_2_LEAST + below(3) - 1 : WM_NOTICE_2_LEAST, room = one_in(20) ? WM_ABORT_LEAST + below(3) - 1 : WM_ABORT_LEAST;
+    uint32_t session = some_length(cut.lengths[0]), gateway = some_length(cut.lengths[1]), other = some_length(cut.lengths[2]);
+    uint32_t hop = 0x1234567 + below(9999), end = one_in(8) ? hop : 0x89ABCDE0 + below(9999);
+    if (!decoded && one_in(4))
+        stain_tails();
+    *w = wm_abort((const uint8_t *)host->bytes, host->length, (const uint8_t *)realm->bytes, realm->length, cut.notice, notice, session,
+                  gateway, other, hop, end, proved.answer, room);
+    struct wm_written mine = plain_abort((const uint8_t *)host->bytes, host->length, (const uint8_t *)realm->bytes, realm->length,
+                                         cut.notice, notice, session, gateway, other, hop, end, plain.answer, room);
+    return w->number == mine.number && w->length == mine.length;
+}
+
+/* An AVP of an answer: now and then it is absent, twice there, of a vendor, shorter, or another one. */
+static void answer_field(struct request *r, uint32_t code, const void *value, size_t length) {
+    uint32_t chance = below(30);
+    if (chance == 0)
+        return;
+    if (chance == 5) {
+        put_text(r, code, one_in(2) ? "five." : "of eight");
+        return;
+    }
+    put_avp(r, code, chance == 1, value, chance == 2 ? length / 2 : length);
+    if (chance == 3)
+        put_avp(r, code, false, value, length);
+    if (chance == 4)
+        put_avp(r, code, true, value, length);
+}
+
+/* An answer by chance to a request with this Session-Id. */
+static void by_chance_answer(struct request *r, const struct text *session, uint32_t identifiers) {
+    start(r, one_in(4) ? below(256) : 0x40, one_in(20) ? 272 + below(4) : 274, one_in(4) ? below(3) : 1, identifiers);
+    if (one_in(20))
+        put_text(r, 264, "first");
+    answer_field(r, 263, session->bytes, session->length);
+    other(r);
+    if (one_in(20))
+        put_avp(r, 297, false, "", 0);
+    answer_field(r, 268, "\0\0\7\321", 4);
+    other(r);
+    if (one_in(60))
+        while (r->length < MESSAGE_MOST - 8 + 4 * below(4))
+            put_avp(r, 25, false, "", 0);
+    finish(r);
+    if (one_in(4))
+        damage(r->bytes, r->length, 1);
+    if (one_in(20))
+        r->length = one_in(2) ? below(24) : r->length - below(6);
+}
+
+/* The identifiers are those of start, or exchanged, or one is another. */
+static bool judge(uint32_t *belongs) {
+    static struct request r;
+    const struct text *sent = PICK(sessions), *came = one_in(12) ? PICK(sessions) : sent;
+    uint32_t identifiers = below(9999), hop = 0x1234567 + identifiers, end = 0x89ABCDE + identifiers, chance = below(24);
+    by_chance_answer(&r, came, identifiers);
+    if (chance == 0) {
+        uint32_t first = hop;
+        hop = end;
+        end = first;
+    }
+    hop ^= chance == 1 ? 1u << below(32) : 0;
+    end ^= chance == 2 ? 1u << below(32) : 0;
+    *belongs = wm_abort_answered(r.bytes, r.length, (const uint8_t *)sent->bytes, sent->length, hop, end);
+    return *belongs == plain_abort_answered(r.bytes, r.length, (const uint8_t *)sent->bytes, sent->length, hop, end);
 }
 
 /* Each outcome that was seen, once. */
@@ -443,27 +542,61 @@ static uint32_t outcomes(uint32_t outcome) {
     return count;
 }
 
-/* Both libraries on `calls` calls; the proved one's answers go to the file, where one is named. */
-int mix(uint32_t calls, uint64_t from, const char *answers) {
+/* What the proved library wrote goes to a file. */
+static uint32_t keep(FILE *file, uint32_t length) {
+    if (length != 0)
+        fwrite(proved.answer, 1, length, file);
+    return length != 0;
+}
+
+/* One call by chance. Gives back what to count it under. */
+static uint32_t one_call(struct wm_outcome *o, bool *same) {
+    struct wm_written w;
+    uint32_t chance = decoded ? 1 : below(20);
+    if (one_in(8)) {
+        *same = set_up(&o->code);
+        return 20000 + o->code;
+    }
+    if (chance == 0) {
+        *same = move(&o->code);
+        return 20000 + o->code;
+    }
+    if (chance == 2) {
+        *same = abort_session(&w);
+        o->code = w.number;
+        return 30000 + w.number;
+    }
+    if (chance == 3 || chance == 4) {
+        *same = judge(&o->code);
+        return 40000 + o->code;
+    }
+    *same = request(o);
+    return o->code + 10000 * (o->kind == 2);
+}
+
+/* Both libraries on `calls` calls; where a file is named the proved one's answers go there, or its requests for the cuts, of a table of form 2. */
+int mix(uint32_t calls, uint64_t from, const char *name, bool aborts) {
     uint32_t differ = 0, kinds = 0, written = 0;
-    FILE *file = answers ? fopen(answers, "wb") : 0;
-    if (answers && !file)
+    FILE *file = name ? fopen(name, "wb") : 0;
+    if (name && !file)
         return 2;
     begin_chance(from);
     decoded = file != 0;
-    form = 1;
+    form = aborts ? 2 : 1;
     for (uint32_t n = 0; n < calls && differ < 10; n++) {
         struct wm_outcome o = {0};
-        bool setting_up = one_in(8), moving = !decoded && !setting_up && one_in(20);
-        bool same = setting_up ? set_up(&o.code) : moving ? move(&o.code) : request(&o);
-        kinds = outcomes(setting_up || moving ? 20000 + o.code : o.code + 10000 * (o.kind == 2));
+        struct wm_written w = {0};
+        bool same;
+        kinds = outcomes(one_call(&o, &same));
+        if (file && !aborts)
+            written += keep(file, o.length);
+        if (file && aborts && o.cut) {
+            same = abort_session(&w) && same;
+            written += keep(file, w.length);
+        }
         if (!same || !same_rooms()) {
             printf("mix: call %u of seed %llu: the libraries differ; the proved one said %u\n", n, (unsigned long long)from, o.code);
             differ++;
-        }
-        if (file && o.kind != 0) {
-            fwrite(proved.answer, 1, o.length, file);
-            written++;
         }
         if (!decoded && one_in(120)) {
             damage_row(pick_row());
@@ -473,6 +606,6 @@ int mix(uint32_t calls, uint64_t from, const char *answers) {
     if (file)
         fclose(file);
     printf("mix: %u calls, %u differ, %u outcomes seen", calls, differ, kinds);
-    printf(file ? ", %u answers written\n" : "\n", written);
+    printf(file ? ", %u messages written\n" : "\n", written);
     return differ != 0;
 }

@@ -1,5 +1,5 @@
-/* A stack of 4 KiB with nothing behind it, as of a request task: how deep the C library's memory functions go on it, and a request that cuts
- * a tunnel. What was not touched still has its paint. Ends with 1 where a memory function takes over LIBRARY bytes; a call that needs more
+/* A stack of 4 KiB with nothing behind it, as of a request task: how deep the C library's memory functions go on it, a request that cuts
+ * a tunnel, the request for its disconnection, and the answer to that. What was not touched still has its paint. Ends with 1 where a memory function takes over LIBRARY bytes; a call that needs more
  * than 4 KiB does not come back at all. */
 
 /* The kit's compiler comes without headers, so the types and the functions of the C library stand here. */
@@ -66,9 +66,11 @@ static size_t deepest(void (*f)(void)) {
 
 /* ---- a request ---- */
 
-static uint8_t table[WM_ROW_2], message[512], answer[WM_ANSWER_LEAST], notice[WM_NOTICE_LEAST];
+static uint8_t table[WM_ROW_2], message[512], answer[WM_ANSWER_LEAST], notice[WM_NOTICE_2_LEAST];
 static size_t end;
 static struct wm_outcome outcome;
+static struct wm_written written;
+static uint32_t belongs;
 
 #define TEXT(s) (const uint8_t *)(s), sizeof(s) - 1
 
@@ -124,6 +126,30 @@ static void open_tunnel(void) {
                         notice, sizeof notice);
 }
 
+static void disconnect(void) {
+    written = wm_abort(TEXT("server.example"), TEXT("example"), notice, sizeof notice, outcome.cut_session, outcome.cut_host,
+                       outcome.cut_realm, 7, 8, answer, WM_ABORT_LEAST);
+}
+
+/* Success, for the Session-Id of the notice. */
+static void put_answer(void) {
+    end = 20;
+    put_avp(263, false, notice, outcome.cut_session);
+    put_avp(268, false, TEXT("\0\0\7\321"));
+    size_t whole = end;
+    end = 0;
+    put_number(4, 0x01000000 + (uint32_t)whole);
+    put_number(4, 0x40000000 + 274);
+    put_number(4, 1);
+    put_number(4, 7);
+    put_number(4, 8);
+    end = whole;
+}
+
+static void judge(void) {
+    belongs = wm_abort_answered(message, end, notice, outcome.cut_session, 7, 8);
+}
+
 int main(void) {
     uint8_t *pages = mmap(0, 2 * PAGE, 3, 0x22, -1, 0);
     stack = pages + PAGE;
@@ -141,5 +167,9 @@ int main(void) {
     ask(TEXT("b"));
     size_t opening = depth_of(open_tunnel);
     printf("of 4 KiB, with the caller's own frame: set-up %zu bytes, an opening with a cut %zu\n", entering, opening);
-    return outcome.code == 2001 && outcome.cut == 1 ? 0 : 1;
+    size_t writing = depth_of(disconnect);
+    put_answer();
+    size_t judging = depth_of(judge);
+    printf("of 4 KiB, the same way: writing an Abort-Session-Request %zu bytes, judging the answer %zu\n", writing, judging);
+    return outcome.code == 2001 && outcome.cut == 1 && written.number == 0 && belongs == 1 ? 0 : 1;
 }

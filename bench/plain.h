@@ -30,6 +30,11 @@ struct wm_outcome plain_handle(uint8_t *table, size_t table_length, uint32_t for
                                size_t message_length, bool wag, uint8_t *answer, size_t answer_length, uint8_t *notice,
                                size_t notice_length);
 uint32_t plain_move(const uint8_t *table, size_t table_length, uint8_t *target, size_t target_length, uint32_t form);
+struct wm_written plain_abort(const uint8_t *host, size_t host_length, const uint8_t *realm, size_t realm_length,
+                              const uint8_t *notice, size_t notice_length, uint32_t cut_session, uint32_t cut_host,
+                              uint32_t cut_realm, uint32_t hop, uint32_t end, uint8_t *room, size_t room_length);
+uint32_t plain_abort_answered(const uint8_t *answer, size_t answer_length, const uint8_t *session, size_t session_length,
+                              uint32_t hop, uint32_t end);
 uint32_t plain_report_count(struct wm_report *report, const struct wm_told *told, size_t told_length);
 
 #endif

@@ -11,7 +11,7 @@ enum { SESSION_AT = 8, HOST_AT = 136, POLICY_AT = 264 };          /* in a place'
 enum { REALM_AT = 8, SECOND_AT = 136, THIRD_AT = 264 };           /* in its second one, of form 2 */
 enum { BARRED = 1, MAY_ROAM = 2 };
 enum { RESULT = 1, EXPERIMENTAL = 2 };
-enum { VENDOR = 10415 };
+enum { VENDOR = 10415, ABORT = 274 };
 
 /* Loops that are better off with all registers to themselves. */
 #ifdef __GNUC__
@@ -695,7 +695,7 @@ static void free_place(struct call *c, uint32_t place) {
     memset(block(c, place), 0, (size_t)BLOCK * c->form);
 }
 
-/* Cuts the first-opened access of the entry. Texts in a block are zero filled, so the notice is one stretch of it. */
+/* Cuts the first-opened access of the entry. Texts in a block are zero filled, so the notice is one stretch of it, and in form 2 one of the second block. */
 static void cut_first(struct call *c, uint32_t entry, struct wm_outcome *o) {
     const uint8_t *line = c->row + LINE;
     while (block(c, *line)[1] != entry)
@@ -705,6 +705,10 @@ static void cut_first(struct call *c, uint32_t entry, struct wm_outcome *o) {
     o->cut_session = b[2];
     o->cut_host = b[3];
     memcpy(c->notice, b + SESSION_AT, 2 * TEXT_MOST);
+    if (c->form == 2) {
+        o->cut_realm = b[BLOCK + 1];
+        memcpy(c->notice + 2 * TEXT_MOST, b + BLOCK + REALM_AT, TEXT_MOST);
+    }
     free_place(c, *line);
 }
 
@@ -900,6 +904,15 @@ static void write_answer(uint8_t *answer, const struct call *c, const struct own
 
 /* ---- a request ---- */
 
+/* What is asked of any message, a request or an answer. */
+static inline uint32_t frame_number(const uint8_t *message, size_t message_length) {
+    if (message_length < 20 || message_length > 4096)
+        return 5;
+    if (message[0] != 1)
+        return 6;
+    return (number(message) & 0xFFFFFF) != message_length || message_length % 4 != 0 ? 7 : 0;
+}
+
 static uint32_t no_answer(size_t table_length, uint32_t form, uint32_t op, size_t host_length, size_t realm_length,
                           const uint8_t *message, size_t message_length, size_t answer_length, size_t notice_length) {
     if (!table_fits(table_length, form))
@@ -910,14 +923,11 @@ static uint32_t no_answer(size_t table_length, uint32_t form, uint32_t op, size_
         return 2;
     if (answer_length < WM_ANSWER_LEAST)
         return 3;
-    if (notice_length < WM_NOTICE_LEAST)
+    if (notice_length < (form == 1 ? WM_NOTICE_LEAST : WM_NOTICE_2_LEAST))
         return 4;
-    if (message_length < 20 || message_length > 4096)
-        return 5;
-    if (message[0] != 1)
-        return 6;
-    if ((number(message) & 0xFFFFFF) != message_length || message_length % 4 != 0)
-        return 7;
+    uint32_t frame = frame_number(message, message_length);
+    if (frame)
+        return frame;
     return message[4] & 0x80 ? 0 : 8;
 }
 
@@ -949,6 +959,68 @@ struct wm_outcome plain_handle(uint8_t *table, size_t table_length, uint32_t for
         decide(table, table_length, op, &c, aa, wag, &o);
     write_answer(answer, &c, &own, first_session(message, (uint32_t)message_length), &o);
     return o;
+}
+
+/* ---- the disconnection ---- */
+
+struct wm_written plain_abort(const uint8_t *host, size_t host_length, const uint8_t *realm, size_t realm_length,
+                              const uint8_t *notice, size_t notice_length, uint32_t cut_session, uint32_t cut_host,
+                              uint32_t cut_realm, uint32_t hop, uint32_t end, uint8_t *room, size_t room_length) {
+    if (host_length - 1 >= TEXT_MOST || realm_length - 1 >= TEXT_MOST)
+        return (struct wm_written){2, 0};
+    if (notice_length < WM_NOTICE_2_LEAST)
+        return (struct wm_written){4, 0};
+    if (cut_session - 1 >= TEXT_MOST || cut_host - 1 >= TEXT_MOST || cut_realm - 1 >= TEXT_MOST)
+        return (struct wm_written){22, 0};
+    if (room_length < WM_ABORT_LEAST)
+        return (struct wm_written){23, 0};
+    uint8_t *to = put_text(room + 20, 263, notice, cut_session);
+    to = put_text(to, 264, host, host_length);
+    to = put_text(to, 296, realm, realm_length);
+    to = put_text(to, 283, notice + 2 * TEXT_MOST, cut_realm);
+    to = put_text(to, 293, notice + TEXT_MOST, cut_host);
+    to = put_avp_number(to, 258, 1);
+    uint32_t length = (uint32_t)(to - room);
+    put_number(room, 0x01000000 | length);
+    put_number(room + 4, 0xC0000000 | ABORT);
+    put_number(room + 8, 1);
+    put_number(room + 12, hop);
+    put_number(room + 16, end);
+    return (struct wm_written){0, length};
+}
+
+/* The first AVP is the Session-Id that was sent, and no other one is a Session-Id. */
+static inline bool first_is(const uint8_t *answer, size_t answer_length, const uint8_t *session, size_t session_length) {
+    return answer_length >= 28 && number(answer + 20) == 263 && !(answer[24] >> 7) &&
+           (number(answer + 24) & 0xFFFFFF) - 8 == session_length && answer_length - 28 >= session_length &&
+           memcmp(answer + 28, session, session_length) == 0;
+}
+
+uint32_t plain_abort_answered(const uint8_t *answer, size_t answer_length, const uint8_t *session, size_t session_length,
+                              uint32_t hop, uint32_t end) {
+    if (frame_number(answer, answer_length) || (number(answer + 4) & 0x80FFFFFF) != ABORT)
+        return 0;
+    if (number(answer + 12) != hop || number(answer + 16) != end || !first_is(answer, answer_length, session, session_length))
+        return 0;
+    uint32_t sessions = 0, results = 0, left = (uint32_t)answer_length - 20;
+    for (const uint8_t *p = answer + 20; left != 0;) {
+        if (left < 8)
+            return 0;
+        uint32_t code = number(p), flags_length = number(p + 4), length = flags_length & 0xFFFFFF, padded = (length + 3) & ~3u;
+        if (avp_code(flags_length, left))
+            return 0;
+        if (!(flags_length >> 31)) {
+            sessions += code == 263;
+            if (code == 268) {
+                results++;
+                if (length != 12)
+                    return 0;
+            }
+        }
+        p += padded;
+        left -= padded;
+    }
+    return sessions == 1 && results == 1;
 }
 
 /* ---- the year by hour ---- */

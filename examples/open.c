@@ -1,6 +1,6 @@
 /* A table of two rows, one for each of two operators, who have a subscriber of the same name: one of them opens a tunnel on its one W-APN, the other has
- * no W-APN. Prints the outcome, the answer's bytes, what the other operator is told, what comes of moving the table to form 2 and back, the report of that hour, and
- * what the screen board shows of the request, of its result and of a notice. */
+ * no W-APN. Prints the outcome, the answer's bytes, what the other operator is told, what comes of moving the table to form 2 and back, what is cut there and how its
+ * gateway is asked to end it, the report of that hour, and what the screen board shows of the request, of its result and of a notice. */
 
 /* The kit's compiler comes without headers, so the types and the one function of the C library stand here. */
 #define WM_OWN_TYPES
@@ -17,7 +17,8 @@ int printf(const char *, ...);
 
 static struct wm_report report;
 static struct wm_screen screens[2] = {{WM_OFF, 0, 1, "a"}, {WM_OFF, 0, 1, "b"}};
-static uint8_t table[2 * WM_ROW], moved[2 * WM_ROW_2], back[2 * WM_ROW], message[512], answer[WM_ANSWER_LEAST], notice[WM_NOTICE_LEAST];
+static uint8_t table[2 * WM_ROW], moved[2 * WM_ROW_2], back[2 * WM_ROW], message[512], answer[WM_ANSWER_LEAST], notice[WM_NOTICE_2_LEAST],
+    room[WM_ABORT_LEAST];
 
 /* Operators 0 and 1 may have a row each. */
 static const uint32_t shares[WM_OPERATORS] = {1, 1};
@@ -45,6 +46,15 @@ static size_t put_avp(size_t at, uint32_t code, bool of_3gpp, const uint8_t *val
     return end;
 }
 
+/* The header of a message that ends there, with flags and command in one number and the identifiers 7 and 9. */
+static void put_header(size_t end, uint32_t command) {
+    put_number(0, 4, 0x01000000 + (uint32_t)end);
+    put_number(4, 4, command);
+    put_number(8, 4, 1);
+    put_number(12, 4, 7);
+    put_number(16, 4, 9);
+}
+
 /* AA-Request of type 0 for the W-APN "board", with a Session-Id of one letter. */
 static size_t opening(const char *session) {
     size_t at = 20;
@@ -58,11 +68,18 @@ static size_t opening(const char *session) {
     at = put_avp(at, 1, false, TEXT("001010123456789"));
     at = put_avp(at, 311, true, TEXT("\0\0\0\0"));
     at = put_avp(at, 100, true, TEXT("board"));
-    put_number(0, 4, 0x01000000 + (uint32_t)at);
-    put_number(4, 4, 0xC0000000 + 265);
-    put_number(8, 4, 1);
-    put_number(12, 4, 7);
-    put_number(16, 4, 9);
+    put_header(at, 0xC0000000 + 265);
+    return at;
+}
+
+/* A gateway's answer to a request to end the access with a Session-Id of one letter. */
+static size_t ended(const char *session) {
+    size_t at = 20;
+    at = put_avp(at, 263, false, (const uint8_t *)session, 1);
+    at = put_avp(at, 268, false, TEXT("\0\0\7\321"));
+    at = put_avp(at, 264, false, TEXT("gateway.example"));
+    at = put_avp(at, 296, false, TEXT("example"));
+    put_header(at, 0x40000000 + 274);
     return at;
 }
 
@@ -75,6 +92,11 @@ static void show(const char *fed, uint32_t number) {
     printf(", b is %s; %u connected\n", states[screens[1].state], wm_screens_connected(screens, 2).screens);
 }
 
+static struct wm_outcome open_in_form_2(const char *session) {
+    return wm_handle(moved, sizeof moved, 2, 0, TEXT("server.example"), TEXT("example"), message, opening(session), true, answer,
+                     sizeof answer, notice, sizeof notice);
+}
+
 /* There and back: to form 2, where each access has room for a realm and two policies more, and, as none has one yet, back to the same bytes. */
 static void move_both_ways(void) {
     uint32_t there = wm_move(table, sizeof table, moved, sizeof moved, 2), again = wm_move(moved, sizeof moved, back, sizeof back, 1);
@@ -82,9 +104,20 @@ static void move_both_ways(void) {
     while (same < sizeof table && table[same] == back[same])
         same++;
     printf("move to form 2: %u; back to form 1: %u, %zu of %zu bytes the same\n", there, again, same, sizeof table);
-    struct wm_outcome o = wm_handle(moved, sizeof moved, 2, 0, TEXT("server.example"), TEXT("example"), message, opening("b"), true,
-                                    answer, sizeof answer, notice, sizeof notice);
+    struct wm_outcome o = open_in_form_2("b");
     printf("in form 2: code %u, place %u; and back with its realm: %u\n", o.code, o.place, wm_move(moved, sizeof moved, back, sizeof back, 1));
+}
+
+/* The W-APN takes two accesses: a new one cuts the first that was opened, and its gateway is asked to end it. */
+static void cut_and_ask(const char *session) {
+    struct wm_outcome o = open_in_form_2(session);
+    struct wm_written w = wm_abort(TEXT("server.example"), TEXT("example"), notice, sizeof notice, o.cut_session, o.cut_host, o.cut_realm, 7, 9,
+                                   room, sizeof room);
+    printf("%s cuts %.*s of %.*s in %.*s; to end it: %u, %u bytes", session, (int)o.cut_session, (char *)notice, (int)o.cut_host,
+           (char *)notice + 128, (int)o.cut_realm, (char *)notice + 256, w.number, w.length);
+    uint32_t for_a = wm_abort_answered(message, ended("a"), notice, o.cut_session, 7, 9);
+    uint32_t for_b = wm_abort_answered(message, ended("b"), notice, o.cut_session, 7, 9);
+    printf("; answered for a: %u, for b: %u\n", for_a, for_b);
 }
 
 int main(void) {
@@ -103,6 +136,8 @@ int main(void) {
                                         answer, sizeof answer, notice, sizeof notice);
     printf("for operator 1: code %u, kind %u\n", other.code, other.kind);
     move_both_ways();
+    cut_and_ask("c");
+    cut_and_ask("d");
     struct wm_told told = {21, 0, o.code, o.kind, o.place, o.cut};
     printf("count: %u\n", wm_report_count(&report, &told, 1));
     struct wm_rate rate = wm_report_rate(&report);

@@ -1,13 +1,14 @@
-/* The Wm side of a tunnel access server: three set-up operations and one request at a time; moving a table from one form to the other; a report of
- * what came of requests, by hour; and a board that shows which screens are connected.
+/* The Wm side of a tunnel access server: three set-up operations and one request at a time; moving a table from one form to the other; asking a gateway
+ * to end an access that was cut; a report of what came of requests, by hour; and a board that shows which screens are connected.
  * docs/RULES.md has the rules.
  *
  * A table may serve several operators, 0 to 15. A row is one operator's: two of them may have a subscriber of one name, and neither finds or changes
  * the other's. Who has one operator alone says 0 everywhere.
  *
  * A table stands in one of two forms, and the caller says which in every call. In form 2 a row is longer: each access keeps its gateway's realm too, and up
- * to three policies. A table that is lent in the form it does not have is read as what it is not: where its length fits, damaged rows are
- * what is found. Who starts anew takes form 2; wm_move brings a table of form 1 there.
+ * to three policies; the notice of a cut tells the realm, by which the gateway can be asked to end the access. A table that is lent in the form it does
+ * not have is read as what it is not: where its length fits, damaged rows are what is found. Who starts anew takes form 2; wm_move brings a table of
+ * form 1 there.
  *
  * Everything is lent by the caller: a pointer and a length. No function keeps a pointer, allocates, locks or waits, and none has
  * state of its own. Any length and any contents are allowed: what does not fit the rules is refused by its number, and a refusal
@@ -19,9 +20,11 @@
  * - No pointer is null, not even with length 0: any address of the program's own will do there, it is neither read nor written.
  * - Any alignment will do for bytes. Shares, a report, a list of results and a list of screens are aligned as their types ask.
  * - Buffers of one call do not overlap where one of them is not const: table, answer and notice stand apart from each other
- *   and from all the rest, the target of a move from the table, a report that is changed from the other one and from the list, and a list of screens from the Session-Id. Those that are const may overlap each other: host,
- *   realm, message, name, label, shares.
- * - While a call runs no other thread writes to anything that was lent to it, and none reads table, answer, notice or target. A move reads its table only.
+ *   and from all the rest, the target of a move from the table, the room of wm_abort from its notice and names, a report that is changed from the other
+ *   one and from the list, and a list of screens from the Session-Id. Those that are const may overlap each other: host, realm, message, name, label,
+ *   shares.
+ * - While a call runs no other thread writes to anything that was lent to it, and none reads what is not const: table, answer, notice, target, room. A move
+ *   reads its table only, wm_abort its notice.
  *   So calls on one table come one after another, in any threads, with whatever lock the caller likes. Calls with tables and rooms of
  *   their own may run at once, and may share host, realm and messages.
  * - A bool is 0 or 1.
@@ -45,7 +48,9 @@ extern "C" {
 #define WM_ROW 4608u          /* bytes of a row in form 1; a table is 1 to 1,024 rows */
 #define WM_ROW_2 8704u        /* bytes of a row in form 2 */
 #define WM_ANSWER_LEAST 5120u /* the answer room's least length */
-#define WM_NOTICE_LEAST 256u  /* the notice room's least length */
+#define WM_NOTICE_LEAST 256u  /* the notice room's least length in form 1 */
+#define WM_NOTICE_2_LEAST 384u /* the notice room's least length in form 2 */
+#define WM_ABORT_LEAST 1024u  /* the least length of the room that wm_abort writes into */
 #define WM_OPERATORS 16u      /* how many shares there are: one for each operator */
 
 /* The flags of a label: either, both or none. */
@@ -55,15 +60,15 @@ enum wm_flag { WM_BARRED = 1, WM_MAY_ROAM = 2 };
 enum wm_kind { WM_NO_ANSWER = 0, WM_RESULT_CODE = 1, WM_EXPERIMENTAL_RESULT = 2 };
 
 /* The numbers of refusals that are no Diameter codes. A set-up operation gives 0, 1, 33, 26, 27 or 9 to 17. A request gives 1, 33 or 2 to 8, with the
- * kind WM_NO_ANSWER, or a code that goes into its answer. A move gives 0, 1 or 19 to 21. A board gives 0, 25 or 24, tested in this order;
- * a report 0, 29 or 30. Of the others the first that holds is given, in the order of these lines. */
+ * kind WM_NO_ANSWER, or a code that goes into its answer. A move gives 0, 1 or 19 to 21; wm_abort 0, 2, 4, 22
+ * or 23. A board gives 0, 25 or 24, tested in this order; a report 0, 29 or 30. Of the others the first that holds is given, in the order of these lines. */
 enum wm_number {
-    WM_DONE = 0,             /* set-up, a move, a board and a report: it is done */
+    WM_DONE = 0,             /* set-up, a move, wm_abort, a board and a report: it is done */
     WM_TABLE_LENGTH = 1,     /* the form is neither 1 nor 2, or the table is not 1 to 1,024 rows of its form: WM_ROW or WM_ROW_2 bytes each */
     WM_NO_OPERATOR = 33,     /* entering, adding, and a request: the operator is over 15 */
     WM_OWN_NAMES = 2,        /* the own host or realm has not 1 to 128 bytes */
     WM_ANSWER_ROOM = 3,      /* the answer room is under WM_ANSWER_LEAST */
-    WM_NOTICE_ROOM = 4,      /* the notice room is under WM_NOTICE_LEAST */
+    WM_NOTICE_ROOM = 4,      /* the notice room is under WM_NOTICE_LEAST, in form 2 and for wm_abort under WM_NOTICE_2_LEAST */
     WM_MESSAGE_LENGTH = 5,   /* the message is under 20 or over 4,096 bytes */
     WM_VERSION = 6,          /* the message's version is not 1 */
     WM_HEADER_LENGTH = 7,    /* the length in its header is not that given, or no multiple of 4 */
@@ -82,6 +87,8 @@ enum wm_number {
     WM_TARGET_LENGTH = 19,   /* moving: the target is not as many rows of the other form */
     WM_UNSOUND_MOVE = 20,    /* moving: some row is damaged, and not wholly zero */
     WM_MORE_THAN_FORM_1 = 21, /* moving to form 1: some access keeps a realm or a second policy */
+    WM_CUT_LENGTHS = 22,     /* wm_abort: a length of the cut access's texts is not 1 to 128 */
+    WM_ABORT_ROOM = 23,      /* wm_abort: the room is under WM_ABORT_LEAST */
     WM_NO_SCREEN = 24,       /* the board: the Session-Id is on no entry */
     WM_SCREENS = 25,         /* the board: over 64 entries, or a Session-Id on it twice or not of 1 to 128 bytes */
     WM_HOUR_OVER_23 = 29,    /* counting: an hour of the list is over 23 */
@@ -90,10 +97,11 @@ enum wm_number {
 
 /* code: the number, 1 to 8 or 33, of a call that gets no answer, or the Diameter code.
  * kind: one of enum wm_kind. length: of the answer. place: taken by a new access, 1 to 8, else 0.
- * cut: 1 if an access was cut, with the lengths of its Session-Id (bytes 0 on of the notice) and of its gateway host
- * (bytes 128 on); else all three are 0. */
+ * cut: 1 if an access was cut, with the lengths of its Session-Id (bytes 0 on of the notice), of its gateway's host (bytes 128 on) and, in form 2, of
+ * its gateway's realm (bytes 256 on); else all four are 0. In form 1 cut_realm is always 0, and bytes 256 on of the notice room stay. In form 2 it is 0
+ * for an access that was opened in form 1 and moved. */
 struct wm_outcome {
-    uint32_t code, kind, length, place, cut, cut_session, cut_host;
+    uint32_t code, kind, length, place, cut, cut_session, cut_host, cut_realm;
 };
 
 /* Set-up: one of enum wm_number. form: 1 or 2, the one in which the table is lent. op: the operator, 0 to 15. flags: of enum wm_flag.
@@ -117,6 +125,22 @@ struct wm_outcome wm_handle(uint8_t *table, size_t table_length, uint32_t form, 
  * tested, also those that no name finds, and those that are wholly zero stay so. Forwards each access keeps a realm of no bytes until
  * its tunnel is opened anew; back again the same bytes stand as before. */
 uint32_t wm_move(const uint8_t *table, size_t table_length, uint8_t *target, size_t target_length, uint32_t form);
+
+/* THE DISCONNECTION: an Abort-Session-Request, to be sent to the gateway of an access that was cut in form 2, and the answer to it.
+ * number: one of enum wm_number. length: of the request; 0 with a number other than 0. */
+struct wm_written {
+    uint32_t number, length;
+};
+
+/* Writes the request at the start of the room, WM_ABORT_LEAST bytes or more; the bytes behind it stay. host and realm are the server's own names. notice: as
+ * wm_handle left it; cut_session, cut_host, cut_realm: of the outcome that came with it. What stands in the notice behind the texts does not matter. hop, end:
+ * the two identifiers of the request, as the caller chooses them. An access that came from a move has no realm, so WM_CUT_LENGTHS is told for it. */
+struct wm_written wm_abort(const uint8_t *host, size_t host_length, const uint8_t *realm, size_t realm_length, const uint8_t *notice,
+                           size_t notice_length, uint32_t cut_session, uint32_t cut_host, uint32_t cut_realm, uint32_t hop, uint32_t end,
+                           uint8_t *room, size_t room_length);
+/* 1 if a message is the answer to the request with this Session-Id and these identifiers, else 0. It may be any bytes. */
+uint32_t wm_abort_answered(const uint8_t *answer, size_t answer_length, const uint8_t *session, size_t session_length, uint32_t hop,
+                           uint32_t end);
 
 /* THE YEAR BY HOUR. A report is numbers alone: all zero to begin with, and it may be stored and lent again as the caller likes. It may hold anything:
  * where its own totals pass 64 bits the number is WM_OVER_64_BITS.

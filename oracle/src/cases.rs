@@ -72,7 +72,7 @@ impl Case {
                 seed: random.byte(),
             },
             notice_room: Room {
-                length: *random.pick(&[256, 257, 300]),
+                length: form.notice() as u32 + *random.pick(&[0, 1, 44]),
                 seed: random.byte(),
             },
         };

@@ -23,6 +23,7 @@ pub enum Fault {
     Host(usize),
     Realm(usize),
     AnswerRoom(u32),
+    /// So many bytes too short, or without any.
     NoticeRoom(u32),
     /// The message has this many bytes.
     Size(usize),
@@ -107,7 +108,7 @@ fn call_checks() -> Vec<Vec<Fault>> {
         [16, 17, 255, 256, 1 << 16, u32::MAX].map(Operator).to_vec(),
         [lengths.map(Host), lengths.map(Realm)].concat(),
         [0, 1, 5_119].map(AnswerRoom).to_vec(),
-        [0, 1, 255].map(NoticeRoom).to_vec(),
+        [1, 128, 129, 384].map(NoticeRoom).to_vec(),
         [0, 1, 19, 4_100, 4_097, 5_000].map(Size).to_vec(),
         [0, 2, 17, 255].map(Version).to_vec(),
         [-4, 4, 1, -1, 1 << 16].map(LengthOff).to_vec(),
@@ -226,7 +227,10 @@ impl Fault {
             Fault::Host(length) => case.host = vec![b'h'; *length],
             Fault::Realm(length) => case.realm = vec![b'r'; *length],
             Fault::AnswerRoom(length) => case.answer_room.length = *length,
-            Fault::NoticeRoom(length) => case.notice_room.length = *length,
+            Fault::NoticeRoom(short) => {
+                let least = case.form.notice() as u32;
+                case.notice_room.length = least.saturating_sub(*short);
+            }
             Fault::WagSaysNo => case.wag = false,
             Fault::DamagedRow => any_damage(case, random),
             Fault::UnknownUser => unknown_user(case, random),

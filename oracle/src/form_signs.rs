@@ -122,7 +122,9 @@ pub fn signs_of_forms(
     seen: &Seen,
     came: &str,
 ) -> Vec<String> {
-    let said = operation.form();
+    let Some(said) = operation.form() else {
+        return Vec::new();
+    };
     let by_itself = format!("form {said}, {came}");
     let mut signs = vec![by_itself.clone()];
     if let Operation::Move { target, .. } = operation {

@@ -30,7 +30,7 @@ pub struct FormDecks {
     replaced: Deck<(usize, usize)>,
     realms: Deck<(Form, usize)>,
     clauses: Deck<(usize, usize)>,
-    no_forms: Deck<(usize, u32)>,
+    no_forms: Deck<(usize, u32, Form)>,
     early: Deck<(Form, Sort, Fault)>,
     moves: Deck<Moving>,
 }
@@ -39,7 +39,9 @@ impl FormDecks {
     pub fn new() -> FormDecks {
         let pairs = |n: usize, m: usize| (0..n).flat_map(move |a| (0..m).map(move |b| (a, b)));
         let realm = |form| [0, 1, 127, 128, 129].map(|length| (form, length));
-        let kinds = (0..4).flat_map(|kind| NO_FORMS.map(|form| (kind, form)));
+        let no_forms = NO_FORMS.into_iter().zip(FORMS.into_iter().cycle());
+        let kinds =
+            (0..4).flat_map(|kind| no_forms.clone().map(move |(said, form)| (kind, said, form)));
         FormDecks {
             policies: Deck::new(brought()),
             replaced: Deck::new(pairs(4, 3).map(|(n, m)| (n, m + 1)).collect()),
@@ -134,8 +136,8 @@ pub fn in_forms(recorder: &mut Recorder, decks: &mut FormDecks, random: &mut Ran
         broken(recorder, clause, kind, random);
     }
     for _ in 0..2 {
-        let (kind, form) = *decks.no_forms.draw(random);
-        no_form(recorder, kind, form, random);
+        let (kind, said, form) = *decks.no_forms.draw(random);
+        no_form(recorder, kind, said, form, random);
     }
     for _ in 0..3 {
         let (form, sort, fault) = decks.early.draw(random).clone();
@@ -213,12 +215,12 @@ fn broken(recorder: &mut Recorder, clause: usize, kind: usize, random: &mut Rand
     move_to(recorder, Form::One, random);
 }
 
-/// Each operation on a table that would do for form 1 or 2, with a form said that there
+/// Each operation on a table that would do for this form, with a form said that there
 /// is not.
-fn no_form(recorder: &mut Recorder, kind: usize, said: u32, random: &mut Random) {
+fn no_form(recorder: &mut Recorder, kind: usize, said: u32, form: Form, random: &mut Random) {
     let sort = *random.pick(&SORTS);
-    let case = Case::good(sort, random);
-    let (form, operator) = (case.form, case.operator);
+    let case = Case::in_form(form, sort, random);
+    let operator = case.operator;
     recorder.set_table(&case.table);
     let shares = all_rows(form, &case.table, operator);
     let operation = match kind {

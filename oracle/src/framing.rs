@@ -1,10 +1,10 @@
 //! Scripts as bytes. The README gives the format byte by byte.
 
-use crate::program::{Asked, Operation, Room};
+use crate::program::{Aborting, Answering, Asked, Operation, Room};
 use crate::script::{Changes, Expected, K1, Record, digest};
 
 pub const MAGIC: &[u8; 8] = b"WMSCRIPT";
-pub const VERSION: u32 = 3;
+pub const VERSION: u32 = 4;
 
 /// No record is longer, its type and length included.
 pub const LONGEST_RECORD: usize = 65_536;
@@ -12,6 +12,8 @@ pub const LONGEST_RECORD: usize = 65_536;
 pub const LONGEST_TABLE: usize = 8_921_664;
 /// No target of a move is longer.
 pub const LONGEST_TARGET: u32 = 65_536;
+/// No room for an answer or an Abort-Session-Request is longer.
+pub const LONGEST_ANSWER: u32 = 8_192;
 /// No entering brings more shares.
 pub const MOST_SHARES: usize = 17;
 
@@ -24,6 +26,8 @@ const ADD: u8 = 6;
 const HANDLE: u8 = 7;
 const END: u8 = 8;
 const MOVE: u8 = 9;
+const ABORT: u8 = 10;
+const ANSWERED: u8 = 11;
 
 /// Appends a record: type, length of the rest, body, check.
 fn frame(script: &mut Vec<u8>, kind: u8, body: &[u8]) {
@@ -84,9 +88,11 @@ fn write_record(record: &Record) -> (u8, Vec<u8>) {
     (kind, body)
 }
 
-/// Every call says its form first.
+/// A call that says a form says it first.
 fn write_operation(body: &mut Vec<u8>, operation: &Operation) -> u8 {
-    word(body, operation.form() as usize);
+    if let Some(form) = operation.form() {
+        word(body, form as usize);
+    }
     match operation {
         Operation::Clear { .. } => CLEAR,
         Operation::Enter {
@@ -125,7 +131,32 @@ fn write_operation(body: &mut Vec<u8>, operation: &Operation) -> u8 {
             write_room(body, *target);
             MOVE
         }
+        Operation::Abort(aborting) => {
+            write_aborting(body, aborting);
+            ABORT
+        }
+        Operation::Answered(asked) => {
+            words(body, asked.identifiers);
+            bytes(body, &asked.session);
+            bytes(body, &asked.answer);
+            ANSWERED
+        }
     }
+}
+
+fn words<const COUNT: usize>(to: &mut Vec<u8>, values: [u32; COUNT]) {
+    for value in values {
+        word(to, value as usize);
+    }
+}
+
+fn write_aborting(body: &mut Vec<u8>, aborting: &Aborting) {
+    words(body, aborting.lengths);
+    words(body, aborting.identifiers);
+    write_room(body, aborting.room);
+    bytes(body, &aborting.host);
+    bytes(body, &aborting.realm);
+    bytes(body, &aborting.notice);
 }
 
 fn write_asked(body: &mut Vec<u8>, asked: &Asked) {
@@ -144,9 +175,7 @@ fn write_room(body: &mut Vec<u8>, room: Room) {
 }
 
 fn write_expected(body: &mut Vec<u8>, expected: &Expected) {
-    for number in expected.numbers {
-        word(body, number as usize);
-    }
+    words(body, expected.numbers);
     bytes(body, &expected.answer);
     bytes(body, &expected.notice);
     match &expected.changes {
@@ -190,6 +219,14 @@ impl<'a> Fields<'a> {
     fn word(&mut self) -> Result<u32, Defect> {
         let bytes = self.take(4)?;
         Ok(u32::from_be_bytes([bytes[0], bytes[1], bytes[2], bytes[3]]))
+    }
+
+    fn words<const COUNT: usize>(&mut self) -> Result<[u32; COUNT], Defect> {
+        let mut values = [0; COUNT];
+        for value in &mut values {
+            *value = self.word()?;
+        }
+        Ok(values)
     }
 
     fn bytes(&mut self) -> Result<Vec<u8>, Defect> {
@@ -303,6 +340,12 @@ fn read_record(kind: u8, fields: &mut Fields) -> Result<Record, Defect> {
         },
         HANDLE => Operation::Handle(read_asked(fields)?),
         MOVE => read_move(fields)?,
+        ABORT => read_aborting(fields)?,
+        ANSWERED => Operation::Answered(Answering {
+            identifiers: fields.words()?,
+            session: fields.bytes()?,
+            answer: fields.bytes()?,
+        }),
         _ => return Err("a record of no known type"),
     };
     Ok(Record::Call(operation, read_expected(fields)?))
@@ -313,6 +356,20 @@ fn read_move(fields: &mut Fields) -> Result<Operation, Defect> {
     let target = fields.room()?;
     let fits = target.length <= LONGEST_TARGET;
     fits.then_some(Operation::Move { form, target })
+        .ok_or("a room too long")
+}
+
+fn read_aborting(fields: &mut Fields) -> Result<Operation, Defect> {
+    let aborting = Aborting {
+        lengths: fields.words()?,
+        identifiers: fields.words()?,
+        room: fields.room()?,
+        host: fields.bytes()?,
+        realm: fields.bytes()?,
+        notice: fields.bytes()?,
+    };
+    let fits = aborting.room.length <= LONGEST_ANSWER;
+    fits.then_some(Operation::Abort(aborting))
         .ok_or("a room too long")
 }
 
@@ -327,15 +384,12 @@ fn read_asked(fields: &mut Fields) -> Result<Asked, Defect> {
         answer_room: fields.room()?,
         notice_room: fields.room()?,
     };
-    let fit = asked.answer_room.length <= 8_192 && asked.notice_room.length <= 1_024;
+    let fit = asked.answer_room.length <= LONGEST_ANSWER && asked.notice_room.length <= 1_024;
     fit.then_some(asked).ok_or("a room too long")
 }
 
 fn read_expected(fields: &mut Fields) -> Result<Expected, Defect> {
-    let mut numbers = [0; 7];
-    for number in &mut numbers {
-        *number = fields.word()?;
-    }
+    let numbers = fields.words()?;
     let (answer, notice) = (fields.bytes()?, fields.bytes()?);
     let all_zero = fields.byte()? == 1;
     let mut runs = Vec::new();

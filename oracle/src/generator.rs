@@ -1,6 +1,7 @@
 //! Makes the calls of a script from a seed, round after round, each round with some of
 //! every sort.
 
+use crate::abort_calls::{AbortDecks, disconnections};
 use crate::cases::{Case, SORTS, Sort, digits, garnish, sound_row, text};
 use crate::damages::{DAMAGES, any_damage, damage, odd_row, some_entry};
 use crate::drafts::{Draft, DraftAvp};
@@ -48,6 +49,7 @@ struct Decks {
     unknown: Deck<(Sort, Vec<Fault>)>,
     situations: Deck<Situation>,
     forms: FormDecks,
+    aborts: AbortDecks,
 }
 
 /// The calls of a script.
@@ -63,6 +65,7 @@ pub fn generate(seed: u64, calls: usize) -> Recorder {
         unknown: Deck::new(all_unknown()),
         situations: Deck::new(situations()),
         forms: FormDecks::new(),
+        aborts: AbortDecks::new(),
     };
     for turn in 0.. {
         if recorder.is_full() {
@@ -83,6 +86,7 @@ fn round(recorder: &mut Recorder, decks: &mut Decks, random: &mut Random) {
     for sort in SORTS {
         record(recorder, &Case::good(sort, random));
     }
+    disconnections(recorder, &mut decks.aborts, random);
     for _ in 0..14 {
         let (sort, fault) = decks.singles.draw(random).clone();
         faulty(recorder, sort, &[fault], random);
@@ -95,8 +99,10 @@ fn round(recorder: &mut Recorder, decks: &mut Decks, random: &mut Random) {
     for (sort, fault) in late_faults(random) {
         faulty(recorder, sort, &[fault], random);
     }
-    let bits_and_application = [Fault::HeaderFlags(1), Fault::Application(2)];
-    faulty(recorder, Sort::Open, &bits_and_application, random);
+    for later in [Fault::Application(2), Fault::HeaderFlags(0x20)] {
+        let bits_and_more = [Fault::HeaderFlags(1), later];
+        faulty(recorder, Sort::Open, &bits_and_more, random);
+    }
     for form in FORMS {
         let foreign = [
             Fault::Command(257),
@@ -365,7 +371,8 @@ fn edges(recorder: &mut Recorder, random: &mut Random) {
             }
             3 => {
                 case.answer_room.length = *random.pick(&[5_119, 5_120, 8_192]);
-                case.notice_room.length = *random.pick(&[255, 256, 1_024]);
+                let least = case.form.notice() as u32;
+                case.notice_room.length = *random.pick(&[least - 1, least, 1_024]);
             }
             _ => {
                 let sort = case.sort;
@@ -552,6 +559,9 @@ pub fn request(
             length: 5_120,
             seed,
         },
-        notice_room: Room { length: 256, seed },
+        notice_room: Room {
+            length: form.notice() as u32,
+            seed,
+        },
     })
 }

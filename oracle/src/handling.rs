@@ -25,9 +25,9 @@ pub struct Call<'a> {
 /// Number 1, then 33, then 2 to 8, in this order; 0 for a call that gets an answer.
 pub fn no_answer(rules: &Rules, call: &Call) -> u16 {
     let fits = |name: &[u8]| (1..=128).contains(&name.len());
-    if form_lent(rules, call.form, call.table).is_none() {
+    let Some(form) = form_lent(rules, call.form, call.table) else {
         return 1;
-    }
+    };
     if !(rules.operator_fits)(call.operator) {
         return 33;
     }
@@ -37,7 +37,7 @@ pub fn no_answer(rules: &Rules, call: &Call) -> u16 {
     if call.answer_room.len() < 5_120 {
         return 3;
     }
-    if call.notice_room.len() < 256 {
+    if call.notice_room.len() < form.notice() {
         return 4;
     }
     message_number(call.message)
@@ -45,6 +45,15 @@ pub fn no_answer(rules: &Rules, call: &Call) -> u16 {
 
 /// Numbers 5 to 8, on the message alone.
 fn message_number(message: &[u8]) -> u16 {
+    let flags = header(message).map_or(0, |header| header.flags);
+    match frame_number(message) {
+        0 if flags & REQUEST == 0 => 8,
+        number => number,
+    }
+}
+
+/// Numbers 5 to 7, which are asked of answers too (W6).
+pub fn frame_number(message: &[u8]) -> u16 {
     let Some(header) = header(message) else {
         return 5;
     };
@@ -55,8 +64,6 @@ fn message_number(message: &[u8]) -> u16 {
         6
     } else if header.length as usize != length || !length.is_multiple_of(4) {
         7
-    } else if header.flags & REQUEST == 0 {
-        8
     } else {
         0
     }
@@ -131,12 +138,12 @@ pub fn handle(rules: &Rules, call: Call) -> Outcome {
     let bytes = answer(rules, &reply);
     put(call.answer_room, 0, &bytes);
     if let Some(cut) = &decision.cut {
-        (rules.notice)(call.notice_room, cut);
+        (rules.notice)(form, call.notice_room, cut);
     }
     Outcome {
         code: decision.code,
         length: bytes.len(),
         place: decision.place,
-        cut: decision.cut.map(|cut| (cut.session.len(), cut.host.len())),
+        cut: decision.cut.as_ref().map(rules.cut_lengths),
     }
 }

@@ -5,6 +5,7 @@
 //! and write them down as a script.
 
 pub mod deciding;
+pub mod disconnecting;
 pub mod handling;
 pub mod known_avps;
 pub mod moving;
@@ -16,6 +17,8 @@ pub mod the_table;
 pub mod the_year;
 pub mod writing_the_answer;
 
+pub mod abort_calls;
+pub mod abort_signs;
 pub mod board_calls;
 pub mod board_report;
 pub mod cases;
@@ -79,13 +82,13 @@ impl Code {
 }
 
 /// What handling a request returns. `cut` holds the lengths of the cut access's
-/// Session-Id and gateway host.
+/// Session-Id, gateway host and realm; in form 1 no realm is held.
 #[derive(Clone, Copy, Debug, PartialEq, Eq)]
 pub struct Outcome {
     pub code: Code,
     pub length: usize,
     pub place: u8,
-    pub cut: Option<(usize, usize)>,
+    pub cut: Option<[usize; 3]>,
 }
 
 impl Outcome {

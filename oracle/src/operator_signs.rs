@@ -110,12 +110,15 @@ pub fn signs_of_operators(
     table: &[u8],
     came: &str,
 ) -> Vec<String> {
-    let Some(form) = Form::numbered(operation.form()) else {
+    let Some(form) = operation.form().and_then(Form::numbered) else {
         return Vec::new();
     };
     let lent = (form, table);
     let mut signs = match operation {
-        Operation::Clear { .. } | Operation::Move { .. } => return Vec::new(),
+        Operation::Clear { .. }
+        | Operation::Move { .. }
+        | Operation::Abort(_)
+        | Operation::Answered(_) => return Vec::new(),
         Operation::Enter { shares, .. } => {
             let new = NewRow {
                 operator: subject.operator,

@@ -1,11 +1,12 @@
 //! One operation with all its inputs, and performing it on a table.
 
 use crate::Outcome;
+use crate::disconnecting::{Abort, Sent, Written};
 use crate::handling::Call;
 use crate::rules::Rules;
 use crate::set_up::{Account, NewEntry, NewRow};
 
-/// A program that offers the five operations: the oracle, or one compared with it. `form`
+/// A program that offers the seven operations: the oracle, or one compared with it. `form`
 /// is the one in which the table is lent; for a move, the one to move to.
 pub trait Program {
     fn clear(&mut self, form: u32, table: &mut [u8]) -> u8;
@@ -13,6 +14,8 @@ pub trait Program {
     fn add(&mut self, form: u32, table: &mut [u8], of: &Account, new: &NewEntry) -> u8;
     fn handle(&mut self, call: Call) -> Outcome;
     fn move_table(&mut self, source: &[u8], target: &mut [u8], form: u32) -> u8;
+    fn abort(&mut self, abort: &Abort, room: &mut [u8]) -> Written;
+    fn belongs(&mut self, sent: &Sent, answer: &[u8]) -> bool;
 }
 
 impl Program for Rules {
@@ -34,6 +37,14 @@ impl Program for Rules {
 
     fn move_table(&mut self, source: &[u8], target: &mut [u8], form: u32) -> u8 {
         (self.move_table)(self, source, target, form)
+    }
+
+    fn abort(&mut self, abort: &Abort, room: &mut [u8]) -> Written {
+        (self.abort)(self, abort, room)
+    }
+
+    fn belongs(&mut self, sent: &Sent, answer: &[u8]) -> bool {
+        (self.belongs)(self, sent, answer)
     }
 }
 
@@ -68,6 +79,46 @@ pub struct Asked {
     pub notice_room: Room,
 }
 
+/// The inputs of writing an Abort-Session-Request.
+#[derive(Clone, Debug, PartialEq, Eq)]
+pub struct Aborting {
+    pub lengths: [u32; 3],
+    pub identifiers: [u32; 2],
+    pub room: Room,
+    pub host: Vec<u8>,
+    pub realm: Vec<u8>,
+    pub notice: Vec<u8>,
+}
+
+impl Aborting {
+    pub fn abort(&self) -> Abort<'_> {
+        Abort {
+            host: &self.host,
+            realm: &self.realm,
+            notice: &self.notice,
+            lengths: self.lengths,
+            identifiers: self.identifiers,
+        }
+    }
+}
+
+/// The inputs of judging an answer to one.
+#[derive(Clone, Debug, PartialEq, Eq)]
+pub struct Answering {
+    pub identifiers: [u32; 2],
+    pub session: Vec<u8>,
+    pub answer: Vec<u8>,
+}
+
+impl Answering {
+    pub fn sent(&self) -> Sent<'_> {
+        Sent {
+            session: &self.session,
+            identifiers: self.identifiers,
+        }
+    }
+}
+
 #[derive(Clone, Debug, PartialEq, Eq)]
 pub enum Operation {
     Clear {
@@ -93,17 +144,21 @@ pub enum Operation {
         form: u32,
         target: Room,
     },
+    /// Neither this nor the next has to do with the table.
+    Abort(Aborting),
+    Answered(Answering),
 }
 
 impl Operation {
-    /// The number by which the call says a form.
-    pub fn form(&self) -> u32 {
+    /// The number by which the call says a form, if it says one.
+    pub fn form(&self) -> Option<u32> {
         match self {
             Operation::Clear { form }
             | Operation::Enter { form, .. }
             | Operation::Add { form, .. }
-            | Operation::Move { form, .. } => *form,
-            Operation::Handle(asked) => asked.form,
+            | Operation::Move { form, .. } => Some(*form),
+            Operation::Handle(asked) => Some(asked.form),
+            Operation::Abort(_) | Operation::Answered(_) => None,
         }
     }
 
@@ -115,17 +170,20 @@ impl Operation {
             | Operation::Add { form, .. }
             | Operation::Move { form, .. } => *form = number,
             Operation::Handle(asked) => asked.form = number,
+            Operation::Abort(_) | Operation::Answered(_) => (),
         }
         self
     }
 }
 
 /// What came of an operation besides the table. The numbers are code, kind, length,
-/// place, cut, and the lengths of the cut texts; set-up and moving have only the first.
-/// Set-up has no rooms; the target of a move stands where the answer room does.
+/// place, cut, and the lengths of the cut texts; set-up and moving have only the first,
+/// writing an Abort-Session-Request the length too, and of an answer the first is 1 if it
+/// belongs. Set-up has no rooms; the target of a move, and the room for an
+/// Abort-Session-Request, stand where the answer room does.
 #[derive(Clone, Debug, PartialEq, Eq, Default)]
 pub struct Seen {
-    pub numbers: [u32; 7],
+    pub numbers: [u32; 8],
     pub answer_room: Vec<u8>,
     pub notice_room: Vec<u8>,
 }
@@ -169,6 +227,13 @@ pub fn perform(program: &mut dyn Program, operation: &Operation, table: &mut [u8
             seen.answer_room = target.fresh();
             program.move_table(table, &mut seen.answer_room, *form)
         }
+        Operation::Abort(aborting) => {
+            seen.answer_room = aborting.room.fresh();
+            let written = program.abort(&aborting.abort(), &mut seen.answer_room);
+            seen.numbers[2] = written.length as u32;
+            written.number
+        }
+        Operation::Answered(asked) => u8::from(program.belongs(&asked.sent(), &asked.answer)),
     };
     seen.numbers[0] = u32::from(number);
     seen
@@ -188,7 +253,7 @@ fn perform_handle(program: &mut dyn Program, asked: &Asked, table: &mut [u8]) ->
         answer_room: &mut answer_room,
         notice_room: &mut notice_room,
     });
-    let (session, host) = outcome.cut.unwrap_or_default();
+    let [session, host, realm] = outcome.cut.unwrap_or_default();
     let numbers = [
         u32::from(outcome.code.number()),
         u32::from(outcome.code.kind()),
@@ -197,6 +262,7 @@ fn perform_handle(program: &mut dyn Program, asked: &Asked, table: &mut [u8]) ->
         u32::from(outcome.cut.is_some()),
         session as u32,
         host as u32,
+        realm as u32,
     ];
     Seen {
         numbers,

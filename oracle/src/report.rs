@@ -3,6 +3,7 @@
 use std::collections::BTreeMap;
 use std::fmt;
 
+use crate::abort_signs::{WANTED_OF_ABORTS, answered_key, signs_of_aborts};
 use crate::either_case::{PAIRS, PLACES_OF_LABELS, Texts, pair_key, signs};
 use crate::form_signs::{WANTED_OF_FORMS, signs_of_forms};
 use crate::known_avps::{UNKNOWN, known_and_ignored, supported};
@@ -68,6 +69,7 @@ fn wanted() -> Vec<String> {
     all.extend([3001, 3007, 3008, 5013].map(beside_key));
     all.extend(WANTED_OF_OPERATORS.iter().cloned());
     all.extend(WANTED_OF_FORMS.iter().cloned());
+    all.extend(WANTED_OF_ABORTS.iter().cloned());
     all
 }
 
@@ -144,6 +146,8 @@ impl Report {
             Operation::Move { .. } => number_key("move", code),
             Operation::Enter { .. } => number_key("enter", code),
             Operation::Add { .. } => number_key("add", code),
+            Operation::Abort(_) => number_key("abort", code),
+            Operation::Answered(_) => answered_key(code).to_string(),
             Operation::Handle(_) if seen.numbers[1] == 0 => number_key("handle", code),
             Operation::Handle(asked) => {
                 self.count_place(asked, table, seen);
@@ -152,7 +156,7 @@ impl Report {
                 format!("{}: {mark}{code}", sort(&asked.message))
             }
         };
-        let form = Form::numbered(operation.form());
+        let form = operation.form().and_then(Form::numbered);
         let subject = subject(operation);
         for sign in form.map_or(Vec::new(), |form| signs(&texts(operation), form, table)) {
             let of_bytes = sign.starts_with("bytes");
@@ -166,6 +170,9 @@ impl Report {
             self.add(sign);
         }
         for sign in signs_of_forms(operation, &subject, table, seen, &key) {
+            self.add(sign);
+        }
+        for sign in signs_of_aborts(operation, seen, &key) {
             self.add(sign);
         }
         self.add(key);
@@ -304,7 +311,10 @@ fn sort(message: &[u8]) -> &'static str {
 /// Who calls, and for which name.
 fn subject(operation: &Operation) -> Subject<'_> {
     let (operator, name) = match operation {
-        Operation::Clear { .. } | Operation::Move { .. } => (0, &[][..]),
+        Operation::Clear { .. }
+        | Operation::Move { .. }
+        | Operation::Abort(_)
+        | Operation::Answered(_) => (0, &[][..]),
         Operation::Enter { operator, name, .. } | Operation::Add { operator, name, .. } => {
             (*operator, name.as_slice())
         }

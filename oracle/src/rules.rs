@@ -2,12 +2,16 @@
 //! field. `DOCUMENT_01` holds the right one everywhere, and the program proper knows
 //! no other. The tests build wrong programs by exchanging a single field.
 
-use crate::handling::{Call, handle, no_answer};
+use crate::disconnecting::{
+    ANSWER_TESTS, Abort, AnswerTest, Sent, Written, abort_avps, abort_header, abort_number,
+    abort_texts, belongs, write_abort,
+};
+use crate::handling::{Call, frame_number, handle, no_answer};
 use crate::known_avps::supported;
 use crate::moving::{move_table, row_may_move, says_form_1};
 use crate::reading_a_message::{
-    Avp, Field, Header, Name, Request, header_tests, is, list, read_field, read_list, walk_is_over,
-    walk_tests,
+    Avp, Field, HEADER, Header, Name, Request, header_tests, is, list, read_field, read_list,
+    walk_is_over, walk_tests,
 };
 use crate::set_up::{
     Account, NewEntry, NewRow, add, clear, enter, may_add, operator_fits, share_is_full,
@@ -15,7 +19,7 @@ use crate::set_up::{
 };
 use crate::the_table::{Access, CONDITIONS, Form, Row, find, row_is_free, store, sums};
 use crate::writing_the_answer::{
-    Reply, answer_flags, auth_part, notice, proxy_part, result_part, session_part,
+    Reply, answer_flags, auth_part, cut_lengths, notice, proxy_part, result_part, session_part,
     subscription_part,
 };
 use crate::{Code, Outcome, deciding};
@@ -24,16 +28,19 @@ type ReadList = for<'m> fn(&Rules, Form, u32, &[Avp<'m>]) -> Result<Request<'m>,
 type ReadField = for<'m> fn(&Rules, &[Avp<'m>], &Field) -> Result<Vec<&'m [u8]>, Code>;
 type Find = fn(&Rules, Form, &[u8], u32, &[u8]) -> Option<usize>;
 type Part = fn(&Reply) -> Vec<u8>;
+type AbortTexts = for<'a> fn(&Abort<'a>) -> [&'a [u8]; 3];
 
 #[derive(Clone, Copy)]
 pub struct Rules {
-    // The five operations. The first four are told by a number which form is lent, the
-    // last one to which form the table goes.
+    // The seven operations. The first four are told by a number which form is lent, the
+    // fifth one to which form the table goes; the last two have no table (W6).
     pub clear: fn(&Rules, u32, &mut [u8]) -> u8,
     pub enter: fn(&Rules, u32, &mut [u8], &NewRow) -> u8,
     pub add: fn(&Rules, u32, &mut [u8], &Account, &NewEntry) -> u8,
     pub handle: fn(&Rules, Call) -> Outcome,
     pub move_table: fn(&Rules, &[u8], &mut [u8], u32) -> u8,
+    pub abort: fn(&Rules, &Abort, &mut [u8]) -> Written,
+    pub belongs: fn(&Rules, &Sent, &[u8]) -> bool,
     // Calls that get no Diameter answer, and set-up.
     pub no_answer: fn(&Rules, &Call) -> u16,
     pub form_numbered: fn(u32) -> Option<Form>,
@@ -76,7 +83,16 @@ pub struct Rules {
     pub result_part: Part,
     pub subscription_part: Part,
     pub proxy_part: Part,
-    pub notice: fn(&mut [u8], &Access),
+    pub notice: fn(Form, &mut [u8], &Access),
+    pub cut_lengths: fn(&Access) -> [usize; 3],
+    // The disconnection.
+    pub abort_number: fn(&Abort, usize) -> u8,
+    pub abort_header: fn(&Abort) -> [u8; HEADER],
+    pub abort_texts: AbortTexts,
+    pub abort_avps: fn(&Abort, [&[u8]; 3]) -> Vec<Vec<u8>>,
+    pub answer_number: fn(&[u8]) -> u16,
+    pub supported_in_answers: fn(&Avp) -> Result<(), Code>,
+    pub answer_tests: &'static [AnswerTest],
 }
 
 pub const DOCUMENT_01: Rules = Rules {
@@ -85,6 +101,8 @@ pub const DOCUMENT_01: Rules = Rules {
     add,
     handle,
     move_table,
+    abort: write_abort,
+    belongs,
     no_answer,
     form_numbered: Form::numbered,
     table_fits,
@@ -122,4 +140,12 @@ pub const DOCUMENT_01: Rules = Rules {
     subscription_part,
     proxy_part,
     notice,
+    cut_lengths,
+    abort_number,
+    abort_header,
+    abort_texts,
+    abort_avps,
+    answer_number: frame_number,
+    supported_in_answers: |_| Ok(()),
+    answer_tests: ANSWER_TESTS,
 };

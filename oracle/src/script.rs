@@ -44,7 +44,7 @@ pub enum Changes {
 
 #[derive(Clone, Debug, PartialEq, Eq)]
 pub struct Expected {
-    pub numbers: [u32; 7],
+    pub numbers: [u32; 8],
     pub answer: Vec<u8>,
     pub notice: Vec<u8>,
     pub changes: Changes,
@@ -93,7 +93,9 @@ pub fn expect(operation: &Operation, seen: &Seen, old: &[u8], new: &[u8], mark: 
         Operation::Move { target, .. } if done => target.length as usize,
         _ => seen.numbers[2] as usize,
     };
-    let noticed = if seen.numbers[4] == 1 { 256 } else { 0 };
+    let form = operation.form().and_then(Form::numbered);
+    let noticed = form.filter(|_| seen.numbers[4] == 1);
+    let noticed = noticed.map_or(0, Form::notice);
     let cleared = matches!(operation, Operation::Clear { .. }) && done;
     Expected {
         numbers: seen.numbers,
@@ -153,6 +155,11 @@ fn compare(operation: &Operation, seen: &Seen, expected: &Expected) -> Result<()
         {
             return Err("the target room");
         }
+        Operation::Abort(aborting)
+            if !room_holds(aborting.room, &seen.answer_room, &expected.answer) =>
+        {
+            return Err("the room of the request");
+        }
         _ => (),
     }
     Ok(())
@@ -181,15 +188,20 @@ fn compare_table(table: &[u8], expected: &Expected) -> Result<(), &'static str> 
     }
 }
 
-/// Spoils what is expected of fifteen calls, a different thing of each: of requests the seven
+/// So many calls are spoiled.
+pub const SPOILED: usize = 21;
+
+/// Spoils what is expected of these calls, a different thing of each: of requests the eight
 /// numbers, the answer, the notice, the table, and both digests; of moves the number, the target, and
-/// a target that is expected to be written though the move is refused. Whoever plays the script must
+/// a target that is expected to be written though the move is refused; of written
+/// Abort-Session-Requests the number, the length, the request, and a room that is expected to be written though it is
+/// refused; and whether an answer belongs. Whoever plays the script must
 /// report just these calls; a player that reports none of them can not be trusted with a script that is
 /// right. It says how many were spoiled.
 pub fn spoil(records: &mut [Record]) -> usize {
     let mut spoiled = 0;
     let mut at = 0;
-    for kind in 0..15 {
+    for kind in 0..SPOILED {
         while at < records.len() && !spoil_record(&mut records[at], kind) {
             at += 1;
         }
@@ -201,36 +213,55 @@ pub fn spoil(records: &mut [Record]) -> usize {
 
 fn spoil_record(record: &mut Record, kind: usize) -> bool {
     match record {
-        Record::Call(Operation::Handle(_), expected) if kind < 12 => spoil_request(expected, kind),
+        Record::Call(Operation::Handle(_), expected) if kind < 13 => spoil_request(expected, kind),
         Record::Call(Operation::Move { target, .. }, expected) => match kind {
-            12 => {
-                expected.numbers[0] += 1;
-                true
-            }
-            13 => spoil_last(&mut expected.answer),
-            14 if target.length > 0 && expected.answer.is_empty() => {
-                expected.answer = vec![target.fill(0) ^ 1];
-                true
-            }
+            13 => spoil_number(expected, 0),
+            14 => spoil_last(&mut expected.answer),
+            15 => spoil_refused(*target, expected),
             _ => false,
         },
+        Record::Call(Operation::Abort(aborting), expected) => match kind {
+            16 => spoil_number(expected, 0),
+            17 => spoil_number(expected, 2),
+            18 => spoil_last(&mut expected.answer),
+            19 => spoil_refused(aborting.room, expected),
+            _ => false,
+        },
+        Record::Call(Operation::Answered(_), expected) if kind == 20 => {
+            expected.numbers[0] ^= 1;
+            true
+        }
         _ => false,
     }
 }
 
+fn spoil_number(expected: &mut Expected, which: usize) -> bool {
+    expected.numbers[which] += 1;
+    true
+}
+
+/// A byte that was written, of a room that nothing is written into.
+fn spoil_refused(room: Room, expected: &mut Expected) -> bool {
+    let refused = room.length > 0 && expected.answer.is_empty();
+    if refused {
+        expected.answer = vec![room.fill(0) ^ 1];
+    }
+    refused
+}
+
 fn spoil_request(expected: &mut Expected, kind: usize) -> bool {
     match kind {
-        0..7 => expected.numbers[kind] += 1,
-        7 => return spoil_last(&mut expected.answer),
-        8 => return spoil_last(&mut expected.notice),
-        9 => match &mut expected.changes {
+        0..8 => expected.numbers[kind] += 1,
+        8 => return spoil_last(&mut expected.answer),
+        9 => return spoil_last(&mut expected.notice),
+        10 => match &mut expected.changes {
             Changes::Runs(runs) => {
                 return runs.last_mut().is_some_and(|run| spoil_last(&mut run.1));
             }
             Changes::AllZero => return false,
         },
         _ => match &mut expected.digests {
-            Some(halves) => halves[kind - 10] = halves[kind - 10].wrapping_add(1),
+            Some(halves) => halves[kind - 11] = halves[kind - 11].wrapping_add(1),
             None => return false,
         },
     }

@@ -89,6 +89,15 @@ impl Form {
             Form::Two => MOST_POLICIES,
         }
     }
+
+    /// How many bytes the notice of a cut takes: 128 for each text, the realm of the
+    /// gateway in form 2 alone (W6).
+    pub const fn notice(self) -> usize {
+        match self {
+            Form::One => 256,
+            Form::Two => 384,
+        }
+    }
 }
 
 pub const MOST_POLICIES: usize = 3;

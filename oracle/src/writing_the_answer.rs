@@ -6,7 +6,7 @@ use crate::reading_a_message::{
     walk_tests,
 };
 use crate::rules::Rules;
-use crate::the_table::{Access, put};
+use crate::the_table::{Access, Form, put};
 use crate::{Code, SUCCESS};
 
 pub const RESULT_CODE: u32 = 268;
@@ -128,10 +128,18 @@ pub fn proxy_part(reply: &Reply) -> Vec<u8> {
     proxies.flat_map(|a| a.whole).copied().collect()
 }
 
-/// The 256 bytes of the notice: two texts, each with zeros behind it.
-pub fn notice(room: &mut [u8], cut: &Access) {
-    let mut bytes = [0; 256];
+/// The notice: two texts in form 1, three in form 2 (W6), each with zeros behind it.
+pub fn notice(form: Form, room: &mut [u8], cut: &Access) {
+    let mut bytes = vec![0; form.notice()];
     put(&mut bytes, 0, &cut.session);
     put(&mut bytes, 128, &cut.host);
+    if form == Form::Two {
+        put(&mut bytes, 256, &cut.realm);
+    }
     put(room, 0, &bytes);
+}
+
+/// The lengths that go with the notice; the realm of form 1 has none.
+pub fn cut_lengths(cut: &Access) -> [usize; 3] {
+    [cut.session.len(), cut.host.len(), cut.realm.len()]
 }

@@ -45,7 +45,7 @@ struct Desk {
 
 impl Desk {
     fn send(&mut self, asked: &Asked) -> Answered {
-        let (mut answer_room, mut notice_room) = ([0; 5_120], [0; 256]);
+        let (mut answer_room, mut notice_room) = ([0; 5_120], [0; FORM.notice()]);
         let outcome = (DOCUMENT_01.handle)(
             &DOCUMENT_01,
             Call {
@@ -62,7 +62,7 @@ impl Desk {
         );
         let cut = outcome
             .cut
-            .map(|(length, _)| notice_room[..length].to_vec());
+            .map(|[length, ..]| notice_room[..length].to_vec());
         Answered { outcome, cut }
     }
 

@@ -229,10 +229,12 @@ fn a_cut_and_what_takes_its_place() {
     );
     let seen = bench.run(&asked);
     assert_eq!(seen.numbers[..2], [2001, 1]);
-    assert_eq!(seen.numbers[3..], [1, 1, 1, 3]);
-    assert_eq!(seen.notice_room.len(), 256);
+    assert_eq!(seen.numbers[3..], [1, 1, 1, 3, 12]);
+    assert_eq!(seen.notice_room.len(), 384);
     assert_eq!(seen.notice_room[..2], *b"a\0");
     assert_eq!(seen.notice_room[128..132], *b"pdg\0");
+    assert_eq!(seen.notice_room[256..269], *b"a long realm\0");
+    assert!(is_zero(&seen.notice_room[269..]));
     assert_eq!(bench.block(SECOND_1), second(b"rc", b"", b""));
     assert_eq!(bench.table[20..23], [2, 1, 0]);
     assert!(sound(&DOCUMENT_01, Form::Two, &bench.table).is_some());

@@ -285,7 +285,7 @@ fn tables_without_operators_are_operator_0s() {
             judge(&mut DOCUMENT_01.clone(), &record, &mut table).unwrap();
             continue;
         };
-        let Some(form) = Form::numbered(operation.form()) else {
+        let Some(form) = operation.form().and_then(Form::numbered) else {
             continue;
         };
         let old = table.chunks(form.row());
@@ -335,7 +335,10 @@ fn without_operator(form: Form, row: &[u8]) -> Vec<u8> {
 fn called_by(operation: &Operation, by: u32, form: Form, table: &[u8]) -> Operation {
     let mut operation = operation.clone();
     match &mut operation {
-        Operation::Clear { .. } | Operation::Move { .. } => (),
+        Operation::Clear { .. }
+        | Operation::Move { .. }
+        | Operation::Abort(_)
+        | Operation::Answered(_) => (),
         Operation::Enter {
             operator, shares, ..
         } => {

@@ -21,6 +21,7 @@ fn run(operation: &Operation, table: &mut [u8]) -> Seen {
 fn succeeded(operation: &Operation, seen: &Seen) -> bool {
     match operation {
         Operation::Handle(_) => seen.numbers[0] == 2001,
+        Operation::Answered(_) => seen.numbers[0] == 1,
         _ => seen.numbers[0] == 0,
     }
 }
@@ -47,9 +48,13 @@ fn refusals_change_nothing() {
             return;
         }
         assert!(before == after, "{operation:?}");
-        assert_eq!(seen.numbers[3..], [0; 4]);
+        assert_eq!(seen.numbers[3..], [0; 5]);
         if let Operation::Move { target, .. } = operation {
             assert!(seen.answer_room == target.fresh());
+        }
+        if let Operation::Abort(aborting) = operation {
+            assert_eq!(seen.numbers[2], 0);
+            assert!(seen.answer_room == aborting.room.fresh());
         }
         if let Operation::Handle(asked) = operation {
             assert!(seen.notice_room == asked.notice_room.fresh());
@@ -64,7 +69,7 @@ fn refusals_change_nothing() {
 #[test]
 fn sound_rows_stay_sound() {
     each_call(22, 4_000, |operation, _, before, after| {
-        let Some(form) = Form::numbered(operation.form()) else {
+        let Some(form) = operation.form().and_then(Form::numbered) else {
             return;
         };
         if is_clear(operation) || before.len() > 64 * form.row() {
@@ -84,7 +89,8 @@ fn sound_rows_stay_sound() {
 #[test]
 fn only_one_row_changes() {
     each_call(23, 3_000, |operation, _, before, after| {
-        let row = Form::numbered(operation.form()).map_or(1, Form::row);
+        let form = operation.form().and_then(Form::numbered);
+        let row = form.map_or(1, Form::row);
         let rows = before.chunks(row).zip(after.chunks(row));
         let changed = rows.filter(|(was, is)| was != is).count();
         assert!(changed <= 1 || is_clear(operation));
@@ -191,7 +197,7 @@ fn the_longest_answer_fits() {
     });
     let seen = run(&operation, &mut [0; Form::One.row()]);
     let length = 20 + 136 + 24 + 12 + 136 + 136 + (4_096 - 20 - 136);
-    assert_eq!(seen.numbers, [5005, 1, length, 0, 0, 0, 0]);
+    assert_eq!(seen.numbers, [5005, 1, length, 0, 0, 0, 0, 0]);
     assert_eq!(seen.answer_room[1..4], length.to_be_bytes()[1..]);
 }
 
@@ -229,7 +235,7 @@ fn ask(message: Vec<u8>) -> Operation {
             length: 5_120,
             seed,
         },
-        notice_room: Room { length: 256, seed },
+        notice_room: Room { length: 384, seed },
     })
 }
 

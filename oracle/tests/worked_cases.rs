@@ -126,7 +126,7 @@ fn terminate(session: u8, label: &str) -> Vec<u8> {
     message("000113", &format!("{both} {own} {label}"))
 }
 
-fn success(length: usize, place: u8, cut: Option<(usize, usize)>) -> Outcome {
+fn success(length: usize, place: u8, cut: Option<[usize; 3]>) -> Outcome {
     Outcome {
         code: plain(2001),
         length,
@@ -181,13 +181,13 @@ fn cases_2_to_4_lowest_place_and_oldest_cut() {
     bench.open(b'a');
     assert_eq!(bench.open(b'b'), success(136, 2, None));
     assert_eq!(bench.line(), [1, 2, 0, 0, 0, 0, 0, 0]);
-    assert_eq!(bench.open(b'c'), success(136, 1, Some((1, 3))));
+    assert_eq!(bench.open(b'c'), success(136, 1, Some([1, 3, 0])));
     assert_eq!(bench.line(), [2, 1, 0, 0, 0, 0, 0, 0]);
     assert_eq!(bench.notice[..2], *b"a\0");
     assert_eq!(bench.notice[128..132], *b"pdg\0");
     assert!(bench.notice[2..128].iter().all(|&b| b == 0));
     assert!(bench.notice[132..].iter().all(|&b| b == 0));
-    assert_eq!(bench.open(b'd'), success(136, 2, Some((1, 3))));
+    assert_eq!(bench.open(b'd'), success(136, 2, Some([1, 3, 0])));
     assert_eq!(bench.line(), [1, 2, 0, 0, 0, 0, 0, 0]);
     assert_eq!(bench.notice[..2], *b"b\0");
 }

@@ -35,7 +35,7 @@ pub record Done (t u : Table) (c : Call) (q : Ask) (r : Reply) : Type 0 where
   pub form-after : formOf (rowAt u i) ≡ t .form
   pub says : readRow (rowAt u i) ≡ afterwards (t .form) q (readRow (rowAt t i))
   pub passes : noneFails (decidingChecks q (c .wag) (readRow (rowAt t i))) ≡ true
-  pub replied : r ≡ reply c (plain 2001) (placeTaken q (readRow (rowAt t i))) (cutFor q (readRow (rowAt t i)))
+  pub replied : r ≡ reply (t .form) c (plain 2001) (placeTaken q (readRow (rowAt t i))) (cutFor q (readRow (rowAt t i)))
 
 module _ (t : Table) (c : Call) (s : succeeds t c ≡ true) where
   row-in : (i : ℕ) → found t c ≡ row i → i < length (t .bytes) / width t
@@ -69,27 +69,27 @@ module _ (t : Table) (c : Call) (s : succeeds t c ≡ true) where
 
 -- WHAT ITS REPLY TELLS
 
-module _ (c : Call) (place : ℕ) where
-  pub code-told : (cut : List Access) → (reply c (plain 2001) place cut) .result .code ≡ 2001
+module _ (form : ℕ) (c : Call) (place : ℕ) where
+  pub code-told : (cut : List Access) → (reply form c (plain 2001) place cut) .result .code ≡ 2001
   unfolding reply resultOf numberOf
   code-told [] = refl
   code-told (a ∷ others) = refl
 
-  pub kind-told : (cut : List Access) → (reply c (plain 2001) place cut) .result .kind ≡ 1
+  pub kind-told : (cut : List Access) → (reply form c (plain 2001) place cut) .result .kind ≡ 1
   unfolding reply resultOf kindOf
   kind-told [] = refl
   kind-told (a ∷ others) = refl
 
-  pub place-told : (cut : List Access) → (reply c (plain 2001) place cut) .result .place ≡ place
+  pub place-told : (cut : List Access) → (reply form c (plain 2001) place cut) .result .place ≡ place
   unfolding reply resultOf
   place-told [] = refl
   place-told (a ∷ others) = refl
 
-  pub no-cut-told : (reply c (plain 2001) place []) .result .cut ≡ 0
+  pub no-cut-told : (reply form c (plain 2001) place []) .result .cut ≡ 0
   unfolding reply resultOf
   no-cut-told = refl
 
-  pub cut-told : (a : Access) → (reply c (plain 2001) place (a ∷ [])) .result .cut ≡ 1
+  pub cut-told : (a : Access) → (reply form c (plain 2001) place (a ∷ [])) .result .cut ≡ 1
   unfolding reply resultOf
   cut-told a = refl
 
@@ -98,17 +98,17 @@ pub data CutTold (cut : List Access) (r : Reply) : Type 0 where
   no-cut : cut ≡ [] → r .result .cut ≡ 0 → CutTold cut r
   one-cut : (a : Access) → cut ≡ a ∷ [] → r .result .cut ≡ 1 → sessionCut r ≡ a .session → CutTold cut r
 
-pub none-told : (c : Call) (place : ℕ) (q : Ask) (s : Subscriber) → cutFor q s ≡ [] → CutTold (cutFor q s) (reply c (plain 2001) place (cutFor q s))
-none-told c place q s e = rw e (no-cut refl (no-cut-told c place))
+pub none-told : (form : ℕ) (c : Call) (place : ℕ) (q : Ask) (s : Subscriber) → cutFor q s ≡ [] → CutTold (cutFor q s) (reply form c (plain 2001) place (cutFor q s))
+none-told form c place q s e = rw e (no-cut refl (no-cut-told form c place))
 
-module _ {fm : ℕ} (c : Call) (place : ℕ) (session host realm label : List ℕ) (visited wag : Bool) (s : Subscriber) (g : Good fm s) where
+module _ (form : ℕ) {fm : ℕ} (c : Call) (place : ℕ) (session host realm label : List ℕ) (visited wag : Bool) (s : Subscriber) (g : Good fm s) where
   abbrev asked : Ask
   asked = tunnel session host realm label visited
 
-  one-told : (a : Access) (n : ℕ) → Standing fm n a → cutFor asked s ≡ a ∷ [] → CutTold (cutFor asked s) (reply c (plain 2001) place (cutFor asked s))
-  one-told a n fits e = rw e (one-cut a refl (cut-told c place a) (session-told c place n a fits))
+  one-told : (a : Access) (n : ℕ) → Standing fm n a → cutFor asked s ≡ a ∷ [] → CutTold (cutFor asked s) (reply form c (plain 2001) place (cutFor asked s))
+  one-told a n fits e = rw e (one-cut a refl (cut-told form c place a) (session-told form c place a fits))
 
-  first-told : exceeds asked s ≡ true → First (onAsked asked s) → CutTold (cutFor asked s) (reply c (plain 2001) place (cutFor asked s))
+  first-told : exceeds asked s ≡ true → First (onAsked asked s) → CutTold (cutFor asked s) (reply form c (plain 2001) place (cutFor asked s))
   unfolding cutFor firstAlone onAsked onEntry pick
   first-told e (first a others on) = one-told a _ (fitting s g _ a others on) (rw (e, on))
 
@@ -116,8 +116,8 @@ module _ {fm : ℕ} (c : Call) (place : ℕ) (session host realm label : List �
   unfolding cutFor pick
   all-stay e = rw e
 
-  pub cut-is-told : noneFails (decidingChecks asked wag s) ≡ true → CutTold (cutFor asked s) (reply c (plain 2001) place (cutFor asked s))
+  pub cut-is-told : noneFails (decidingChecks asked wag s) ≡ true → CutTold (cutFor asked s) (reply form c (plain 2001) place (cutFor asked s))
   cut-is-told h =
       by-test (exceeds asked s)
       (λ e. first-told e (first-alone _ ((cut-first asked wag s g h e) .some)))
-      (λ e. none-told c place asked s (all-stay e))
+      (λ e. none-told form c place asked s (all-stay e))

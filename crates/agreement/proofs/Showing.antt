@@ -134,13 +134,13 @@ module _ (t u : Table) (c : Call) (q : Ask) (r : Reply) (d : Done t u c q r) whe
   sub = readRow (rowAt t (d .i))
 
   code-is : r .result .code ≡ 2001
-  code-is = ap (λ (x : Reply). x .result .code) (d .replied) ∙ code-told c _ (cutFor q sub)
+  code-is = ap (λ (x : Reply). x .result .code) (d .replied) ∙ code-told (t .form) c _ (cutFor q sub)
 
   kind-is : r .result .kind ≡ 1
-  kind-is = ap (λ (x : Reply). x .result .kind) (d .replied) ∙ kind-told c _ (cutFor q sub)
+  kind-is = ap (λ (x : Reply). x .result .kind) (d .replied) ∙ kind-told (t .form) c _ (cutFor q sub)
 
   place-is : r .result .place ≡ placeTaken q sub
-  place-is = ap (λ (x : Reply). x .result .place) (d .replied) ∙ place-told c _ (cutFor q sub)
+  place-is = ap (λ (x : Reply). x .result .place) (d .replied) ∙ place-told (t .form) c _ (cutFor q sub)
 
   turned-by : (sid : List ℕ) (gone : Bool) → Became sid gone (sub .accesses) ((afterwards (t .form) q sub) .accesses) → Turned t u sid gone
   turned-by sid gone b =
@@ -157,7 +157,7 @@ pub policy-true : (t u : Table) (c : Call) (session one two three : List ℕ) (r
     → (way : Way) (s : Screen) → Truthful t s → Truthful u (through way (policy session one two three) r s)
 unfolding kindAsked resultSays quiet cutFor exceeds pick
 policy-true t u c session one two three r d way s i =
-    let uncut : r .result .cut ≡ 0 = ap (λ (x : Reply). x .result .cut) (d .replied) ∙ no-cut-told c _ in
+    let uncut : r .result .cut ≡ 0 = ap (λ (x : Reply). x .result .cut) (d .replied) ∙ no-cut-told (t .form) c _ in
     still-true t u s _ (session-through way (policy session one two three) r s) i
     (alike-through (policy session one two three) r uncut refl way s (i .one-of-four))
     ((turned-by t u c (policy session one two three) r d (sessionOf s) false (routed-stays (t .form) (sessionOf s) session one two three _)) .rest refl)
@@ -171,11 +171,11 @@ module _ (t u : Table) (c : Call) (session label : List ℕ) (r : Reply) (d : Do
   ended-turned sid =
       let g : Good (formOf (rowAt t (d .i))) (readRow (rowAt t (d .i))) = says-good (rowAt t (d .i)) (d .was-sound) in
       turned-by t u c ending r d sid (same session sid)
-      (ended-left (t .form) sid session label _ g (ended-one c 0 _ g session label (c .wag) (d .passes)))
+      (ended-left (t .form) sid session label _ g (ended-one _ c 0 _ g session label (c .wag) (d .passes)))
 
   uncut : r .result .cut ≡ 0
   unfolding cutFor exceeds pick
-  uncut = ap (λ (x : Reply). x .result .cut) (d .replied) ∙ no-cut-told c _
+  uncut = ap (λ (x : Reply). x .result .cut) (d .replied) ∙ no-cut-told (t .form) c _
 
   ends-by : (s : Screen) → noticed r (answered ending r (requested ending s)) ≡ told session ends (told session nothing s)
   unfolding kindAsked sessionAsked requestSays resultSays success pick
@@ -219,7 +219,7 @@ module _ (t u : Table) (c : Call) (session host realm label : List ℕ) (visited
   row-opened = opens-row (t .form) says-before good-before session host realm label visited (c .wag) (d .passes)
 
   cut-told : CutTold (cutFor opening says-before) r
-  cut-told = rw (d .replied) (cut-is-told c _ session host realm label visited (c .wag) says-before good-before (d .passes))
+  cut-told = rw (d .replied) (cut-is-told (t .form) c _ session host realm label visited (c .wag) says-before good-before (d .passes))
 
   -- what its screen is told
   asks-by : (s : Screen) → requested opening s ≡ told session asks s

@@ -282,7 +282,7 @@ written-seven d0 d1 d2 d3 d4 d5 d6 d7 p0 p1 p2 p3 p4 p5 p6 p7 a b c d e f g w1 w
     rw r at v7
 
 -- the header in front of what was written behind it
-head-put : (d h b : List ℕ) → length h ≡ 20 → 20 + length b ≤ length d → put (put d 20 b) 0 h ≡ h ++ b ++ drop (length (h ++ b)) d
+pub head-put : (d h b : List ℕ) → length h ≡ 20 → 20 + length b ≤ length d → put (put d 20 b) 0 h ≡ h ++ b ++ drop (length (h ++ b)) d
 unfolding put
 head-put d h b l k =
     let t : length (take 20 d) ≡ 20 = length-take-le 20 d (omega arith) in

@@ -32,7 +32,7 @@ fn put_head(room: &mut [u8], at: usize, code: u32, n: usize)
 }
 
 // An AVP of ours with a text, and the place behind it. The last word of its room is zeroed first, for the padding.
-fn put_avp(room: &mut [u8], at: usize, code: u32, value: &[u8]) -> usize
+pub fn put_avp(room: &mut [u8], at: usize, code: u32, value: &[u8]) -> usize
     requires { ⌜ (length (now value) ≤ 4096) × (at + length (now value) + 12 ≤ length (now room)) ⌝ }
     ensures { λ r. ⌜ Written (now (room .entry)) (now (room .exit)) at r (avpBytes code (now (value .entry))) ⌝ }
 {
@@ -46,7 +46,7 @@ fn put_avp(room: &mut [u8], at: usize, code: u32, value: &[u8]) -> usize
 }
 
 // An AVP of ours with a number, which two bytes hold, and the place behind it.
-fn put_number(room: &mut [u8], at: usize, code: u32, n: u32) -> usize
+pub fn put_number(room: &mut [u8], at: usize, code: u32, n: u32) -> usize
     requires { ⌜ (at + 12 ≤ length (now room)) × (n < 65536) ⌝ }
     ensures { λ r. ⌜ Written (now (room .entry)) (now (room .exit)) at r (avpBytes code (in32 n)) ⌝ }
 {

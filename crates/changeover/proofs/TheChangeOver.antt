@@ -16,7 +16,7 @@ use Rattle.moving.proofs.Copies.{ready}
 use Rattle.moving.proofs.Whole.{Passes, all-ready, length-rows, move-is, out-number, out-rows, passes}
 use Rattle.rules.specs.Calls.{Call, run}
 use Rattle.order.proofs.Lists.{ran}
-use Rattle.changeover.specs.TheChangeOver.{ChangeOver, SaysAlike, Unnoticed, onePolicy}
+use Rattle.changeover.specs.TheChangeOver.{ChangeOver, SaysAlike, Unnoticed, onePolicy, roomForBoth, toldInBoth}
 use Rattle.changeover.proofs.Pairs.{Pairs, moved-pairs, pair-alike, pairs-at, pairs-length}
 use Rattle.changeover.proofs.Calls.{answers-all, outs, runs, tables-all}
 
@@ -73,7 +73,7 @@ module _ (bytes room : List ℕ) (h : (move 2 bytes room) .number ≡ 0) where
   pairs : Pairs (rows (lent 1 bytes)) (rows new)
   pairs = subst (Pairs (rows (lent 1 bytes))) (sym new-rows) (moved-pairs (rows (lent 1 bytes)) old-ready)
 
-  module _ (cs : List Call) (few : every onePolicy cs ≡ true) where
+  module _ (cs : List Call) (few : every onePolicy cs ≡ true) (large : every roomForBoth cs ≡ true) where
     abbrev then-old : List (List ℕ)
     then-old = runs 1 (rows (lent 1 bytes)) cs
 
@@ -81,7 +81,7 @@ module _ (bytes room : List ℕ) (h : (move 2 bytes room) .number ≡ 0) where
     then-new = runs 2 (rows new) cs
 
     pairs-then : Pairs then-old then-new
-    pairs-then = tables-all cs few (rows (lent 1 bytes)) (rows new) pairs
+    pairs-then = tables-all cs few large (rows (lent 1 bytes)) (rows new) pairs
 
     row-alike : (i : ℕ) → i < length (rows (lent 1 bytes)) → SaysAlike (rowAt ((run (lent 1 bytes) cs) .table) i) (rowAt ((run new cs) .table) i)
     row-alike i l =
@@ -92,9 +92,12 @@ module _ (bytes room : List ℕ) (h : (move 2 bytes room) .number ≡ 0) where
     unnoticed : Unnoticed (lent 1 bytes) new cs
     unnoticed =
         record {
-          replies-same = replies-by new new-right cs ∙ answers-all cs few (rows (lent 1 bytes)) (rows new) pairs ∙ sym (replies-by (lent 1 bytes) old-right cs);
+          replies-same =
+              ap (map toldInBoth) (replies-by new new-right cs)
+              ∙ answers-all cs few large (rows (lent 1 bytes)) (rows new) pairs
+              ∙ ap (map toldInBoth) (sym (replies-by (lent 1 bytes) old-right cs));
           rows-alike = row-alike;
         }
 
 pub change-over : ChangeOver
-change-over bytes room cs h few = unnoticed bytes room h cs few
+change-over bytes room cs h few large = unnoticed bytes room h cs few large

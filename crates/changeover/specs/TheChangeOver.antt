@@ -1,11 +1,13 @@
 -- The change-over to form 2 (W5): a table that was moved answers as before, for as long as no request brings a second Routing-Policy, which is
--- what form 2 is for. What form 2 keeps beside is the realm of the gateway, and no answer and no notice says it.
+-- what form 2 is for, and every call brings a notice room for a notice of form 2 (W6). What form 2 keeps beside is the realm of the gateway: no
+-- answer says it, and a cut notice says it behind all that it said before.
 use mathlib.Core.Path.{_≡_}
 use mathlib.Core.Bool.{Bool, true}
 use mathlib.Core.List.{List, [], map}
 use Prim.Native.Nat.{ℕ, _≤_, _<_}
-use lib.Dec.{leb}
-use lib.ListN.{length}
+use lib.Dec.{eqb, leb}
+use lib.ListN.{length, take, drop}
+use Rattle.octets.specs.Choice.{pick}
 use Rattle.octets.specs.Lists.{every}
 use Rattle.octets.specs.Texts.{allZero}
 use Rattle.message.specs.ReadingAMessage.{Ask, avps, having, read, routingPolicy}
@@ -13,7 +15,7 @@ use Rattle.table.specs.Answers.{lent}
 use Rattle.table.specs.TheTable.{Access, Subscriber, Table, readRow, rowAt, rows}
 use Rattle.changes.specs.Changes.{withAccesses}
 use Rattle.moving.specs.Moving.{move}
-use Rattle.rules.specs.Calls.{Call, run}
+use Rattle.rules.specs.Calls.{Call, Reply, noticeLength, run}
 use Rattle.rules.specs.Deciding.{Verdict, decide}
 
 -- READING
@@ -53,14 +55,49 @@ pub record SaysAlike (old new : List ℕ) : Type 0 where
   pub zero-alike : allZero new ≡ allZero old
   pub says-alike : withoutRealms (readRow new) ≡ readRow old
 
--- A list of calls on the old table and on the new one: the replies are the same, results, answer rooms and notice rooms; and afterwards the
--- rows say the same but for the realms.
+-- A call that brings a notice room of 384 bytes or more, which is a notice of form 2.
+unfoldable pub roomForBoth : Call → Bool
+roomForBoth c = leb (noticeLength 2) (length (c .notice))
+
+-- What a reply tells in both forms: the seven numbers, which are all but the length of a cut realm; the answer room; and the notice room but for
+-- the 128 bytes that have the cut realm in form 2. So of a cut it is the first 256 bytes, which are the notice of form 1, and what stands behind
+-- the notice of form 2; and without a cut all of it.
+pub record ToldInBoth : Type 0 where
+  pub length : ℕ
+  pub code : ℕ
+  pub kind : ℕ
+  pub place : ℕ
+  pub cut : ℕ
+  pub cutSession : ℕ
+  pub cutHost : ℕ
+  pub answer : List ℕ
+  pub notice : List ℕ
+  pub behind : List ℕ
+
+unfoldable pub toldInBoth : Reply → ToldInBoth
+toldInBoth r =
+    record {
+      length = r .result .length;
+      code = r .result .code;
+      kind = r .result .kind;
+      place = r .result .place;
+      cut = r .result .cut;
+      cutSession = r .result .cutSession;
+      cutHost = r .result .cutHost;
+      answer = r .answer;
+      notice = pick (eqb (r .result .cut) 1) (take (noticeLength 1) (r .notice)) (r .notice);
+      behind = drop (noticeLength 2) (r .notice);
+    }
+
+-- A list of calls on the old table and on the new one: call by call the replies tell the same in both forms; and afterwards the rows say the
+-- same but for the realms.
 pub record Unnoticed (old new : Table) (cs : List Call) : Type 0 where
-  pub replies-same : (run new cs) .replies ≡ (run old cs) .replies
+  pub replies-same : map toldInBoth ((run new cs) .replies) ≡ map toldInBoth ((run old cs) .replies)
   pub rows-alike : (i : ℕ) → i < length (rows old) → SaysAlike (rowAt ((run old cs) .table) i) (rowAt ((run new cs) .table) i)
 
--- For every table of form 1 whose move is not refused, and every list of calls of which none brings a second policy.
+-- For every table of form 1 whose move is not refused, and every list of calls of which none brings a second policy and each a notice room for
+-- both forms.
 abbrev pub ChangeOver : Type 0
 ChangeOver =
-    (bytes room : List ℕ) (cs : List Call) → (move 2 bytes room) .number ≡ 0 → every onePolicy cs ≡ true
+    (bytes room : List ℕ) (cs : List Call) → (move 2 bytes room) .number ≡ 0 → every onePolicy cs ≡ true → every roomForBoth cs ≡ true
     → Unnoticed (lent 1 bytes) (lent 2 ((move 2 bytes room) .target)) cs

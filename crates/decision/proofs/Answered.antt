@@ -37,7 +37,7 @@ use Rattle.rules.specs.Deciding.{Verdict, refuse, grant, openOn}
 use Rattle.plans.specs.Plans.{Brought, fitPolicies, planned, planCode, fitting}
 use Rattle.rules.specs.Calls.{mostPolicies, resultOf, noticeRoom, reply, tableAfter, settled}
 use Rattle.effects.specs.Carrying.{cutFor, doneFor}
-use Rattle.decision.specs.Outcomes.{Named, answeredBy, cutMade, cutSession, cutHost, noText, resultSaid, leaves, callOf, spansOf, textsOf}
+use Rattle.decision.specs.Outcomes.{Named, answeredBy, cutMade, cutSession, cutHost, cutRealm, noText, resultSaid, leaves, callOf, spansOf, textsOf}
 
 -- CODES
 
@@ -50,7 +50,7 @@ number-from Experimental n = refl
 -- the result in numbers
 pub result-is : (k : Kind) (n size place : ℕ) (cut : List Access)
     → resultSaid (record { code = n; kind = k; length = size; place = place; cut = cutFor cut }) ≡ resultOf size place (codeFrom k n) cut
-unfolding resultSaid resultOf cutFor cutMade cutSession cutHost
+unfolding resultSaid resultOf cutFor cutMade cutSession cutHost cutRealm
 result-is k n size place [] = rw (number-from k n)
 result-is k n size place (a ∷ others) = rw (number-from k n)
 
@@ -235,24 +235,24 @@ unfolding answeredBy
 written-is d n m host realm room t a u en ea = λ j. leaves (record { code = d .code; kind = d .kind; length = en j; place = d .place; cut = d .cut }) t (ea j) u
 
 -- what is decided and the notice room, answered
-pub answered-is : (k : Kind) (n : ℕ) (user : Span) (o : ℕ) (m host realm room notice : List ℕ) (wag : Bool) (place : ℕ) (cut : List Access) (t : Table) (u : List ℕ)
-    → u ≡ noticeRoom cut notice
+pub answered-is : (f : ℕ) (k : Kind) (n : ℕ) (user : Span) (o : ℕ) (m host realm room notice : List ℕ) (wag : Bool) (place : ℕ) (cut : List Access) (t : Table) (u : List ℕ)
+    → u ≡ noticeRoom f cut notice
     → answeredBy (record { code = n; kind = k; user = user; place = place; cut = cutFor cut }) m host realm room t u
-    ≡ record { reply = reply (callOf o m host realm room notice wag) (codeFrom k n) place cut; table = t }
+    ≡ record { reply = reply f (callOf o m host realm room notice wag) (codeFrom k n) place cut; table = t }
 unfolding answeredBy leaves reply callOf
-answered-is k n user o m host realm room notice wag place cut t u eu =
+answered-is f k n user o m host realm room notice wag place cut t u eu =
     let c = codeFrom k n in
     λ i. record { reply = record { result = result-is k n (length (answer m host realm c)) place cut i; answer = answerRoom m host realm c room; notice = eu i }; table = t }
 
 pub settled-is : (t : Table) (i o : ℕ) (m host realm room notice : List ℕ) (wag : Bool) (v : Verdict) (k : Kind) (n : ℕ) (user : Span) (d : Done) (t′ : Table) (u : List ℕ)
     → v .code ≡ codeFrom k n
     → t′ ≡ tableAfter t i v
-    → u ≡ noticeRoom (v .cut) notice
+    → u ≡ noticeRoom (t .form) (v .cut) notice
     → d ≡ doneFor v
     → answeredBy (record { code = n; kind = k; user = user; place = d .place; cut = d .cut }) m host realm room t′ u
     ≡ settled t (callOf o m host realm room notice wag) i v
 unfolding settled doneFor
 settled-is t i o m host realm room notice wag v k n user d t′ u ec et eu ed =
     ap (λ (x : Done). answeredBy (record { code = n; kind = k; user = user; place = x .place; cut = x .cut }) m host realm room t′ u) ed
-    ∙ answered-is k n user o m host realm room notice wag (v .place) (v .cut) t′ u eu
-    ∙ (λ j. record { reply = reply (callOf o m host realm room notice wag) (sym ec j) (v .place) (v .cut); table = et j })
+    ∙ answered-is (t .form) k n user o m host realm room notice wag (v .place) (v .cut) t′ u eu
+    ∙ (λ j. record { reply = reply (t .form) (callOf o m host realm room notice wag) (sym ec j) (v .place) (v .cut); table = et j })

@@ -10,7 +10,7 @@ use Rattle.message.specs.declared.Kind.the-variants.{NoAnswer, Plain, Experimen
 use Rattle.effects.specs.declared.Cut.{Cut}
 use Rattle.effects.specs.declared.Cut.the-variants.{NoCut, Lengths}
 use Rattle.decision.specs.declared.Outcome.{Outcome}
-use Rattle.decision.specs.Outcomes.{cutMade, cutSession, cutHost, resultSaid}
+use Rattle.decision.specs.Outcomes.{cutMade, cutSession, cutHost, cutRealm, resultSaid}
 use Rattle.rules.specs.Calls.{Result}
 
 -- the kind that a number says
@@ -23,14 +23,14 @@ kind-back NoAnswer n = refl
 kind-back Plain n = refl
 kind-back Experimental n = refl
 
--- the cut that three numbers say
-cutBack : (made session host : ℕ) → Cut
-cutBack made session host = pick (eqb made 0) NoCut (Lengths session host)
+-- the cut that four numbers say
+cutBack : (made session host realm : ℕ) → Cut
+cutBack made session host realm = pick (eqb made 0) NoCut (Lengths session host realm)
 
-cut-back : (c : Cut) → cutBack (cutMade c) (cutSession c) (cutHost c) ≡ c
-unfolding cutBack cutMade cutSession cutHost pick
+cut-back : (c : Cut) → cutBack (cutMade c) (cutSession c) (cutHost c) (cutRealm c) ≡ c
+unfolding cutBack cutMade cutSession cutHost cutRealm pick
 cut-back NoCut = refl
-cut-back (Lengths s h) = refl
+cut-back (Lengths s h r) = refl
 
 -- the outcome that a result says
 pub outcomeBack : Result → Outcome
@@ -40,7 +40,7 @@ outcomeBack r =
       kind = kindBack (r .kind);
       length = r .length;
       place = r .place;
-      cut = cutBack (r .cut) (r .cutSession) (r .cutHost);
+      cut = cutBack (r .cut) (r .cutSession) (r .cutHost) (r .cutRealm);
     }
 
 pub outcome-back : (o : Outcome) → outcomeBack (resultSaid o) ≡ o

@@ -19,8 +19,8 @@ use Rattle.effects.specs.declared.Cut.the-variants.{NoCut}
 use Rattle.message.specs.CallsThatGetNoAnswer.{messageNumber}
 use Rattle.table.specs.TheTable.{Table, firstNumber, tableNumber}
 use Rattle.table.proofs.Rows.{first-operator, first-table}
-use Rattle.rules.specs.Calls.{Call, callNumber, handle, mostPolicies, onReading, silent}
-use Rattle.decision.specs.Outcomes.{callOf, cutHost, cutMade, cutSession, leaves, resultSaid}
+use Rattle.rules.specs.Calls.{Call, callNumber, handle, mostPolicies, noticeLength, onReading, silent}
+use Rattle.decision.specs.Outcomes.{callOf, cutHost, cutMade, cutRealm, cutSession, leaves, resultSaid}
 
 module _ (t : Table) (c : Call) where
   pub number-first : (firstNumber t (c .operator) ≡ 0 → ⊥) → callNumber t c ≡ firstNumber t (c .operator)
@@ -54,14 +54,14 @@ module _ (t : Table) (c : Call) where
         number-answer h = rw (y, o, hh, hr, lt-leb 5120 (length (c .answer)) h)
 
         module _ (ha : 5120 ≤ length (c .answer)) where
-          pub number-notice : length (c .notice) < 256 → callNumber t c ≡ 4
+          pub number-notice : length (c .notice) < noticeLength (t .form) → callNumber t c ≡ 4
           unfolding callNumber firstOf require pick
-          number-notice h = rw (y, o, hh, hr, le-leb 5120 (length (c .answer)) ha, lt-leb 256 (length (c .notice)) h)
+          number-notice h = rw (y, o, hh, hr, le-leb 5120 (length (c .answer)) ha, lt-leb (noticeLength (t .form)) (length (c .notice)) h)
 
-          pub number-message : 256 ≤ length (c .notice) → callNumber t c ≡ messageNumber (c .message)
+          pub number-message : noticeLength (t .form) ≤ length (c .notice) → callNumber t c ≡ messageNumber (c .message)
           unfolding callNumber firstOf require pick
           number-message h =
-              rw (y, o, hh, hr, le-leb 5120 (length (c .answer)) ha, le-leb 256 (length (c .notice)) h)
+              rw (y, o, hh, hr, le-leb 5120 (length (c .answer)) ha, le-leb (noticeLength (t .form)) (length (c .notice)) h)
               (by-test (eqb (messageNumber (c .message)) 0)
               (λ e. rw e (sym (eqb-true (messageNumber (c .message)) 0 e)))
               (λ e. rw e))
@@ -82,7 +82,7 @@ module _ (t : Table) (o : ℕ) (m host realm room notice : List ℕ) (wag : Bool
   names = within 1 128 (length host) && within 1 128 (length realm)
 
   others : List ℕ
-  others = require (leb 5120 (length room)) 3 ∷ require (leb 256 (length notice)) 4 ∷ messageNumber m ∷ []
+  others = require (leb 5120 (length room)) 3 ∷ require (leb (noticeLength (t .form)) (length notice)) 4 ∷ messageNumber m ∷ []
 
   pub table-right : tableNumber t ≡ 0
   unfolding callNumber callOf
@@ -98,13 +98,13 @@ module _ (t : Table) (o : ℕ) (m host realm room notice : List ℕ) (wag : Bool
   after-names : firstOf others ≡ 0
   after-names = others-pass (require names 2) others after-table
 
-  pub notice-fits : 256 ≤ length notice
+  pub notice-fits : noticeLength (t .form) ≤ length notice
   unfolding others
-  notice-fits = leb-true 256 (length notice) (passed (leb 256 (length notice)) 4 (omega arith) (first-passes _ _ (others-pass (require (leb 5120 (length room)) 3) _ after-names)))
+  notice-fits = leb-true (noticeLength (t .form)) (length notice) (passed (leb (noticeLength (t .form)) (length notice)) 4 (omega arith) (first-passes _ _ (others-pass (require (leb 5120 (length room)) 3) _ after-names)))
 
   pub message-right : messageNumber m ≡ 0
   unfolding others
-  message-right = first-passes (messageNumber m) [] (others-pass (require (leb 256 (length notice)) 4) _ (others-pass (require (leb 5120 (length room)) 3) _ after-names))
+  message-right = first-passes (messageNumber m) [] (others-pass (require (leb (noticeLength (t .form)) (length notice)) 4) _ (others-pass (require (leb 5120 (length room)) 3) _ after-names))
 
   pub is-ready : Ready m host realm room
   unfolding names others
@@ -128,5 +128,5 @@ module _ (t : Table) (c : Call) where
 
 pub silent-is : (t : Table) (o : ℕ) (m host realm room notice : List ℕ) (wag : Bool) (n : ℕ)
     → leaves (record { code = n; kind = NoAnswer; length = 0; place = 0; cut = NoCut }) t room notice ≡ silent t (callOf o m host realm room notice wag) n
-unfolding leaves resultSaid silent callOf codeFrom kindOf cutMade cutSession cutHost
+unfolding leaves resultSaid silent callOf codeFrom kindOf cutMade cutSession cutHost cutRealm
 silent-is t o m host realm room notice wag n = refl

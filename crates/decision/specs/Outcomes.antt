@@ -25,15 +25,19 @@ use Rattle.rules.specs.Calls.{Call, Result, Left}
 -- A cut: 1 with the lengths of its texts, or 0 and no lengths.
 unfoldable pub cutMade : Cut → ℕ
 cutMade NoCut = 0
-cutMade (Lengths s h) = 1
+cutMade (Lengths s h r) = 1
 
 unfoldable pub cutSession : Cut → ℕ
 cutSession NoCut = 0
-cutSession (Lengths s h) = s
+cutSession (Lengths s h r) = s
 
 unfoldable pub cutHost : Cut → ℕ
 cutHost NoCut = 0
-cutHost (Lengths s h) = h
+cutHost (Lengths s h r) = h
+
+unfoldable pub cutRealm : Cut → ℕ
+cutRealm NoCut = 0
+cutRealm (Lengths s h r) = r
 
 -- The outcome of a call in the numbers that the paper has it return. `kindOf (codeFrom k c)` is 0, 1 or 2 for no answer,
 -- Result-Code and Experimental-Result.
@@ -47,6 +51,7 @@ resultSaid o =
       cut = cutMade (o .cut);
       cutSession = cutSession (o .cut);
       cutHost = cutHost (o .cut);
+      cutRealm = cutRealm (o .cut);
     }
 
 -- All that a call leaves: its outcome, and every byte of the table and of both rooms.

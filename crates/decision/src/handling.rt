@@ -20,7 +20,7 @@ ghost use Rattle.octets.specs.Lists.{every};
 ghost use Rattle.message.specs.Codes.{numberOf};
 ghost use Rattle.message.specs.Kinds.{codeFrom};
 ghost use Rattle.message.specs.Spans.{asks, bytesOf, isInside, says, spans, spansIn};
-ghost use Rattle.rules.specs.Calls.{callNumber, handle, mostPolicies, noticeRoom, onReading, onRow, refusal, settled, tableAfter};
+ghost use Rattle.rules.specs.Calls.{callNumber, handle, mostPolicies, noticeLength, noticeRoom, onReading, onRow, refusal, settled, tableAfter};
 ghost use Rattle.message.specs.ReadingAMessage.{read, request};
 ghost use Rattle.table.specs.Answers.{lent};
 ghost use Rattle.table.specs.TheTable.{Table, isForm, lookup, readRow, rowAt, rowLength, tableNumber};
@@ -35,6 +35,8 @@ const ANSWER_LEAST: usize = 5120;
 
 const NOTICE_LENGTH: usize = 256;
 
+const NOTICE_LENGTH_2: usize = 384;
+
 // An own name of 1 to 128 bytes.
 fn name_fits(s: &[u8]) -> bool
     ensures { λ r. ⌜ r ≡ within 1 128 (length (now (s .entry))) ⌝ }
@@ -43,6 +45,16 @@ fn name_fits(s: &[u8]) -> bool
         return false;
     }
     s.len() <= 128
+}
+
+// How long a notice is.
+fn notice_length(form: u32) -> usize
+    ensures { λ r. ⌜ r ≡ noticeLength form ⌝ }
+{
+    if form != 2 {
+        return NOTICE_LENGTH;
+    }
+    NOTICE_LENGTH_2
 }
 
 // The first of the numbers 1, 33 and 2 to 8 that a call is refused with, 0 where none is.
@@ -71,7 +83,7 @@ pub fn call_number(
     if answer.len() < ANSWER_LEAST {
         return 3;
     }
-    if notice.len() < NOTICE_LENGTH {
+    if notice.len() < notice_length(form) {
         return 4;
     }
     message::number(message)
@@ -217,11 +229,11 @@ fn carry_out(
     t: Texts,
     notice: &mut [u8],
 ) -> Done
-    requires { ⌜ (256 ≤ length (now notice)) × (form ≤ 2) × (rowLength form * i + rowLength form ≤ length (now table)) × (sound (rowAt (lent form (now table)) i) ≡ true)
+    requires { ⌜ (noticeLength form ≤ length (now notice)) × (form ≤ 2) × (rowLength form * i + rowLength form ≤ length (now table)) × (sound (rowAt (lent form (now table)) i) ≡ true)
         × (fitPlan (policiesAt (now m) t) plan (rowAt (lent form (now table)) i) ≡ true) × (every (isInside (now m)) (spansOf t) ≡ true)
         × (length (bytesOf (now m) (t .session)) ≤ 128) × (length (bytesOf (now m) (t .host)) ≤ 128) × (length (bytesOf (now m) (t .realm)) ≤ 128) ⌝ }
     ensures { λ r. ⌜ (lent form (now (table .exit)) ≡ tableAfter (lent form (now (table .entry))) i (planned (brought form (now (m .entry)) t) plan (readRow (rowAt (lent form (now (table .entry))) i))))
-        × (now (notice .exit) ≡ noticeRoom ((planned (brought form (now (m .entry)) t) plan (readRow (rowAt (lent form (now (table .entry))) i))) .cut) (now (notice .entry)))
+        × (now (notice .exit) ≡ noticeRoom form ((planned (brought form (now (m .entry)) t) plan (readRow (rowAt (lent form (now (table .entry))) i))) .cut) (now (notice .entry)))
         × (r ≡ doneFor (planned (brought form (now (m .entry)) t) plan (readRow (rowAt (lent form (now (table .entry))) i)))) ⌝ }
 {
     let session = text(m, t.session);
@@ -256,7 +268,7 @@ fn settle(
     asked: Asked,
     notice: &mut [u8],
 ) -> Decided
-    requires { ⌜ (256 ≤ length (now notice)) × (isForm form ≡ true) × (form ≤ 2) × (rowLength form * i + rowLength form ≤ length (now table)) × (sound (rowAt (lent form (now table)) i) ≡ true)
+    requires { ⌜ (noticeLength form ≤ length (now notice)) × (isForm form ≡ true) × (form ≤ 2) × (rowLength form * i + rowLength form ≤ length (now table)) × (sound (rowAt (lent form (now table)) i) ≡ true)
         × (every (isInside (now m)) (spansIn asked) ≡ true) × (isInside (now m) user ≡ true)
         × (read (mostPolicies form) (now m) ≡ request (record { user = bytesOf (now m) user; ask = asks (now m) asked })) ⌝ }
     ensures { λ r. ⌜ Named (now (m .entry)) r × ((o : ℕ) (host realm room : List ℕ) → answeredBy r (now (m .entry)) host realm room (lent form (now (table .exit))) (now (notice .exit))
@@ -289,7 +301,7 @@ fn on_request(
     asked: Asked,
     notice: &mut [u8],
 ) -> Decided
-    requires { ⌜ (256 ≤ length (now notice)) × (tableNumber (lent form (now table)) ≡ 0)
+    requires { ⌜ (noticeLength form ≤ length (now notice)) × (tableNumber (lent form (now table)) ≡ 0)
         × (every (isInside (now m)) (spansIn asked) ≡ true) × (isInside (now m) user ≡ true)
         × (read (mostPolicies form) (now m) ≡ request (record { user = bytesOf (now m) user; ask = asks (now m) asked })) ⌝ }
     ensures { λ r. ⌜ Named (now (m .entry)) r × ((host realm room : List ℕ) → answeredBy r (now (m .entry)) host realm room (lent form (now (table .exit))) (now (notice .exit))
@@ -316,7 +328,7 @@ fn on_reading(
     told: Told,
     notice: &mut [u8],
 ) -> Decided
-    requires { ⌜ (256 ≤ length (now notice)) × (tableNumber (lent form (now table)) ≡ 0)
+    requires { ⌜ (noticeLength form ≤ length (now notice)) × (tableNumber (lent form (now table)) ≡ 0)
         × (says (now m) told ≡ read (mostPolicies form) (now m)) × (every (isInside (now m)) (spans told) ≡ true) ⌝ }
     ensures { λ r. ⌜ Named (now (m .entry)) r × ((host realm room : List ℕ) → answeredBy r (now (m .entry)) host realm room (lent form (now (table .exit))) (now (notice .exit))
         ≡ onReading (lent form (now (table .entry))) (callOf op (now (m .entry)) host realm room (now (notice .entry)) wag) (read (mostPolicies form) (now (m .entry)))) ⌝ }

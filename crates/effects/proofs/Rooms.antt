@@ -1,26 +1,34 @@
 -- What stands in the notice room after a cut: the access at a place on the line, and its texts as they stand in the row.
 use mathlib.Core.Path.{_≡_, refl, sym, ap, _∙_}
 use mathlib.Core.Bool.{Bool, true, false, not}
-use mathlib.Core.List.{List, [], _∷_, _++_, map, append-assoc}
-use Prim.Native.Nat.{ℕ, _≤_}
+use mathlib.Core.List.{List, [], _∷_, _++_, map, append-assoc, append-nil}
+use Prim.Native.Nat.{ℕ, _+_, _-_, _*_, _≤_}
 use native.Mathlib.Omega.{arith}
-use borrow.Author.Tests.{eqb-true, not-true}
+use borrow.Author.Tests.{eq-eqb, eqb-true, ne-eqb, not-true}
 use lib.Dec.{eqb}
-use lib.ListN.{length, take, length-append}
-use lib.Seq.{take-at}
+use lib.ListN.{length, take, drop, length-append}
+use lib.Seq.{take-all, take-at}
 use Rattle.octets.specs.Choice.{pick, within}
 use Rattle.octets.specs.Lists.{distinct, every, isOn, keep}
 use Rattle.octets.specs.Texts.{filled, part, put, zeros}
 use Rattle.table.specs.Soundness.{sound}
-use Rattle.table.specs.TheTable.{Access, accessAt, accessBytes, firstBlock, firstBytes, formOf, held, orderLine, place, placeLength, readAccess, readRow, sealed, sumsFrom}
+use Rattle.table.specs.TheTable.{Access, Table, accessAt, accessBytes, firstBlock, firstBytes, formOf, held, orderLine, place, placeLength, readAccess, readRow, rowAt, sealed, secondBlock, secondBytes, sumsFrom, width}
 use Rattle.changes.proofs.Steps.{keep-map}
-use Rattle.rules.specs.Calls.{noticeRoom}
+use Rattle.rules.specs.Calls.{noticeBytes, noticeLength, noticeRoom}
 use Rattle.rules.specs.Deciding.{atPlace}
 use Rattle.octets.proofs.Lists.{and-left, and-right, by-test, eqb-comm, every-imp, on-cons, on-none, within-high, within-low}
-use Rattle.octets.proofs.Texts.{length-filled}
-use Rattle.table.proofs.Bytes.{first-of, place-is}
-use Rattle.table.proofs.Form.{every-on, place-read}
+use Rattle.octets.proofs.Texts.{length-filled, length-part, put-then}
+use Rattle.row.proofs.Entries.{realm-said, row-of}
+use Rattle.row.proofs.Places.{none-lent, row-sizes}
+use Rattle.table.proofs.Bytes.{first-of, length-second, place-is, second-of}
+use Rattle.table.proofs.Form.{every-on, length-second-of, place-read}
+use Rattle.table.proofs.Rows.{row-form}
 use Rattle.table.proofs.Sound.{clauses, row-is}
+
+-- a row has the form of its table
+pub form-there : (t : Table) (i : ℕ) → width t * i + width t ≤ length (t .bytes) → formOf (rowAt t i) ≡ t .form
+unfolding rowAt
+form-there t i h = row-form (part (t .bytes) (width t * i) (width t)) (t .form) (length-part (t .bytes) (width t * i) (width t) h)
 
 -- THE ACCESS AT A PLACE
 
@@ -43,7 +51,7 @@ only (x ∷ l) k d o =
     rw (e, none, q))
     (λ e. rw e (only l k (and-right (every (λ y. not (eqb x y)) l) _ d) (sym (on-cons x l k (eqb-comm k x ∙ e)) ∙ o)))
 
--- the first two texts of an access
+-- the two texts of an access that stand side by side in its first block, and the one in its second
 both-texts : (a : Access) → part (firstBytes a) 8 256 ≡ filled (a .session) 128 ++ filled (a .host) 128
 unfolding firstBytes sealed
 both-texts a =
@@ -54,6 +62,15 @@ both-texts a =
     sumsFrom 0 0 (2 ∷ a .entry ∷ length (a .session) ∷ length (a .host) ∷ held (a .policies .first) ∷ length (a .policies .first) ∷ 0 ∷ 0 ∷ s ++ (h ++ p)) in
     let e : (s ++ (h ++ p)) ++ t ≡ (s ++ h) ++ (p ++ t) = simp append-assoc in
     ap (take 256) e ∙ take-at (s ++ h) (p ++ t) 256 (length-append s h ∙ omega (arith, length-filled (a .session) 128, length-filled (a .host) 128))
+
+realm-text : (a : Access) → part (secondBytes a) 8 128 ≡ filled (a .realm) 128
+unfolding secondBytes sealed
+realm-text a =
+    let r : List ℕ = filled (a .realm) 128 in
+    let p : List ℕ = filled (a .policies .second) 128 ++ (filled (a .policies .third) 128 ++ zeros 118) in
+    let t : List ℕ = sumsFrom 0 0 (3 ∷ length (a .realm) ∷ 0 ∷ length (a .policies .second) ∷ length (a .policies .third) ∷ 0 ∷ 0 ∷ 0 ∷ r ++ p) in
+    let e : (r ++ p) ++ t ≡ r ++ (p ++ t) = append-assoc r p t in
+    ap (take 128) e ∙ take-at r (p ++ t) 128 (length-filled (a .realm) 128)
 
 module _ (r : List ℕ) (h : sound r ≡ true) (k : ℕ) (o : isOn (orderLine r) k ≡ true) where
   placed : within 1 8 k ≡ true
@@ -85,10 +102,63 @@ module _ (r : List ℕ) (h : sound r ≡ true) (k : ℕ) (o : isOn (orderLine r)
       ∙ ap (λ (b : List ℕ). part b 8 256) (first-of (formOf r) (accessAt r k) ((clauses r h) .row .form))
       ∙ both-texts (accessAt r k)
 
+  -- its realm, which form 1 does not keep
+  pub realm-none : (formOf r ≡ 2 → ⊥) → length ((accessAt r k) .realm) ≡ 0
+  realm-none f =
+      let one : formOf r ≡ 1 = omega (arith, row-sizes r (row-of r h), f) in
+      let none : length (secondBlock (place r k)) ≡ 0 = omega (arith, length-second-of r k ((clauses r h) .row) at-least at-most, one) in
+      ap length (sym (none-lent (secondBlock (place r k)) 8 1 none ∙ realm-said r k)) ∙ none
+
+  pub realm-is : formOf r ≡ 2 → part (secondBlock (place r k)) 8 128 ≡ filled ((accessAt r k) .realm) 128
+  realm-is f =
+      let x : Access = accessAt r k in
+      let whole : 512 * (formOf r - 1) ≡ 512 = omega (arith, f) in
+      let block : secondBlock (place r k) ≡ secondBytes x =
+      ap secondBlock bytes-are ∙ second-of (formOf r) x ((clauses r h) .row .form) ∙ ap (λ (n : ℕ). take n (secondBytes x)) whole ∙ take-all 512 (secondBytes x) (omega (arith, length-second x)) in
+      ap (λ (b : List ℕ). part b 8 128) block ∙ realm-text x
+
 -- THE NOTICE
 
-pub notice-is : (a : Access) (room : List ℕ) → put room 0 (filled (a .session) 128 ++ filled (a .host) 128) ≡ noticeRoom (a ∷ []) room
+pub notice-least : (f : ℕ) → 256 ≤ noticeLength f
+unfolding noticeLength pick
+notice-least f = by-test (eqb f 2) (λ e. rw e (omega arith)) (λ e. rw e (omega arith))
+
+pub notice-long : (f : ℕ) → f ≡ 2 → noticeLength f ≡ 384
+unfolding noticeLength pick
+notice-long f e = rw (eq-eqb f 2 e)
+
+length-notice : (f : ℕ) (a : Access) → length (noticeBytes f a) ≡ noticeLength f
+unfolding noticeBytes noticeLength pick
+length-notice f a = by-test (eqb f 2) (λ e. rw e (simp (length-append, length-filled))) (λ e. rw e (simp (length-append, length-filled)))
+
+all-put : (f : ℕ) (a : Access) (room : List ℕ) → put room 0 (noticeBytes f a) ≡ noticeRoom f (a ∷ []) room
 unfolding put noticeRoom
-notice-is a room =
-    let l : length (filled (a .session) 128 ++ filled (a .host) 128) ≡ 256 = length-append (filled (a .session) 128) (filled (a .host) 128) ∙ omega (arith, length-filled (a .session) 128, length-filled (a .host) 128) in
-    rw l (simp append-assoc)
+all-put f a room =
+    let size : 0 + length (noticeBytes f a) ≡ noticeLength f = omega (arith, length-notice f a) in
+    ap (λ (n : ℕ). noticeBytes f a ++ drop n room) size
+
+module _ (f : ℕ) (a : Access) (room : List ℕ) where
+  both : List ℕ
+  both = filled (a .session) 128 ++ filled (a .host) 128
+
+  length-both : length both ≡ 256
+  unfolding both
+  length-both = simp (length-append, length-filled)
+
+  bytes-one : eqb f 2 ≡ false → both ≡ noticeBytes f a
+  unfolding both noticeBytes pick
+  bytes-one e = rw (e, append-nil (filled (a .host) 128))
+
+  bytes-two : eqb f 2 ≡ true → both ++ filled (a .realm) 128 ≡ noticeBytes f a
+  unfolding both noticeBytes pick
+  bytes-two e = rw e (append-assoc (filled (a .session) 128) (filled (a .host) 128) (filled (a .realm) 128))
+
+  pub notice-one : (f ≡ 2 → ⊥) → put room 0 (filled (a .session) 128 ++ filled (a .host) 128) ≡ noticeRoom f (a ∷ []) room
+  unfolding both
+  notice-one e = ap (put room 0) (bytes-one (ne-eqb f 2 e)) ∙ all-put f a room
+
+  pub notice-two : f ≡ 2 → 256 ≤ length room
+      → put (put room 0 (filled (a .session) 128 ++ filled (a .host) 128)) 256 (filled (a .realm) 128) ≡ noticeRoom f (a ∷ []) room
+  unfolding both
+  notice-two e h =
+      put-then room 0 both (filled (a .realm) 128) 256 (omega (arith, length-both)) (omega (arith, length-both)) ∙ ap (put room 0) (bytes-two (eq-eqb f 2 e)) ∙ all-put f a room

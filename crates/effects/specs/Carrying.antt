@@ -10,10 +10,10 @@ use Rattle.effects.specs.declared.Cut.{Cut}
 use Rattle.effects.specs.declared.Cut.the-variants.{NoCut, Lengths}
 use Rattle.effects.specs.declared.Done.{Done}
 
--- What each case of the enum of a cut stands for: none, or the lengths of the cut access's Session-Id and gateway host.
+-- What each case of the enum of a cut stands for: none, or the lengths of the cut access's Session-Id and of its gateway's host and realm.
 unfoldable pub cutFor : List Access → Cut
 cutFor [] = NoCut
-cutFor (a ∷ others) = Lengths (length (a .session)) (length (a .host))
+cutFor (a ∷ others) = Lengths (length (a .session)) (length (a .host)) (length (a .realm))
 
 -- What carrying out a plan gives back: the place of a new access, else 0, and the cut.
 unfoldable pub doneFor : Verdict → Done

@@ -5,19 +5,20 @@ ghost use mathlib.Core.Bool.{true};
 ghost use Prim.Native.Nat.{ℕ, _+_, _*_, _≤_};
 ghost use lib.ListN.{length};
 ghost use Rattle.octets.specs.Lists.{isOn};
+ghost use Rattle.octets.specs.Texts.{filled, put};
 ghost use Rattle.table.specs.Answers.{lent};
-ghost use Rattle.table.specs.TheTable.{orderLine, readRow, rowAt, rowBytes, rowLength, withRow};
+ghost use Rattle.table.specs.TheTable.{accessAt, formOf, orderLine, readRow, rowAt, rowBytes, rowLength, withRow};
 ghost use Rattle.table.specs.Soundness.{sound};
 ghost use Rattle.changes.specs.Changes.{freed, keptIn, lowestFree, opened};
 ghost use Rattle.rules.specs.Deciding.{atPlace};
-ghost use Rattle.rules.specs.Calls.{noticeRoom, tableAfter};
+ghost use Rattle.rules.specs.Calls.{noticeLength, noticeRoom, tableAfter};
 ghost use Rattle.plans.specs.Plans.{planned, fitPlan};
 ghost use Rattle.effects.specs.Carrying.{broughtIn, cutFor, doneFor};
 
-// Whether a cut was made, with the lengths of the cut access's Session-Id and gateway host.
+// Whether a cut was made, with the lengths of the cut access's Session-Id and of its gateway's host and realm.
 pub enum Cut {
     NoCut,
-    Lengths(usize, usize),
+    Lengths(usize, usize, usize),
 }
 
 // What carrying out a plan gives back: the place of a new access, else 0, and the cut.
@@ -26,19 +27,35 @@ pub struct Done {
     pub cut: Cut,
 }
 
+// The realm in the notice of the access at place k, for form 2 alone: in a sound row it stands in its room as it does in the notice.
+fn write_realm(notice: &mut [u8], row: &[u8], k: usize) -> usize
+    requires { ⌜ (384 ≤ length (now notice)) × (sound (now row) ≡ true) × (isOn (orderLine (now row)) k ≡ true) × (formOf (now row) ≡ 2) ⌝ }
+    ensures { λ r. ⌜ (now (notice .exit) ≡ put (now (notice .entry)) 256 (filled ((accessAt (now (row .entry)) k) .realm) 128))
+        × (r ≡ length ((accessAt (now (row .entry)) k) .realm)) ⌝ }
+{
+    let second = row::second(row, k);
+    octets::put_bytes(notice, 256, row::realm_room(second));
+    let realm = row::realm(second);
+    realm.len()
+}
+
 // The notice of the access at place k. In a sound row the two texts stand side by side in rooms of 128 bytes, filled up with zeros,
 // as they do in the notice.
 fn write_notice(notice: &mut [u8], table: &[u8], form: usize, i: usize, k: usize) -> Cut
-    requires { ⌜ (256 ≤ length (now notice)) × (form ≤ 2) × (rowLength form * i + rowLength form ≤ length (now table)) × (sound (rowAt (lent form (now table)) i) ≡ true)
+    requires { ⌜ (noticeLength form ≤ length (now notice)) × (form ≤ 2) × (rowLength form * i + rowLength form ≤ length (now table)) × (sound (rowAt (lent form (now table)) i) ≡ true)
         × (isOn (orderLine (rowAt (lent form (now table)) i)) k ≡ true) ⌝ }
-    ensures { λ r. ⌜ (now (notice .exit) ≡ noticeRoom (atPlace k ((readRow (rowAt (lent form (now (table .entry))) i)) .accesses)) (now (notice .entry)))
+    ensures { λ r. ⌜ (now (notice .exit) ≡ noticeRoom form (atPlace k ((readRow (rowAt (lent form (now (table .entry))) i)) .accesses)) (now (notice .entry)))
         × (r ≡ cutFor (atPlace k ((readRow (rowAt (lent form (now (table .entry))) i)) .accesses))) ⌝ }
 {
     let row = row::at(table, form, i);
     octets::put_bytes(notice, 0, row::notice_rooms(row, k));
     let session = row::session(row, k);
     let host = row::host(row, k);
-    Cut::Lengths(session.len(), host.len())
+    if form != 2 {
+        return Cut::Lengths(session.len(), host.len(), 0);
+    }
+    let realm = write_realm(notice, row, k);
+    Cut::Lengths(session.len(), host.len(), realm)
 }
 
 // An opening on entry n: first the cut, where a place is named, then the new access.
@@ -53,11 +70,11 @@ fn open_with_cut(
     realm: &[u8],
     notice: &mut [u8],
 ) -> Done
-    requires { ⌜ (256 ≤ length (now notice)) × (form ≤ 2) × (rowLength form * i + rowLength form ≤ length (now table)) × (sound (rowAt (lent form (now table)) i) ≡ true)
+    requires { ⌜ (noticeLength form ≤ length (now notice)) × (form ≤ 2) × (rowLength form * i + rowLength form ≤ length (now table)) × (sound (rowAt (lent form (now table)) i) ≡ true)
         × (isOn (orderLine (rowAt (lent form (now table)) i)) k ≡ true) × (n ≤ 4) × (length (now session) ≤ 128) × (length (now host) ≤ 128) × (length (now realm) ≤ 128) ⌝ }
     ensures { λ r. ⌜ (lent form (now (table .exit))
         ≡ withRow (lent form (now (table .entry))) i (rowBytes form (opened n (record { session = now (session .entry); host = now (host .entry); realm = keptIn form (now (realm .entry)) }) (freed k (readRow (rowAt (lent form (now (table .entry))) i))))))
-        × (now (notice .exit) ≡ noticeRoom (atPlace k ((readRow (rowAt (lent form (now (table .entry))) i)) .accesses)) (now (notice .entry)))
+        × (now (notice .exit) ≡ noticeRoom form (atPlace k ((readRow (rowAt (lent form (now (table .entry))) i)) .accesses)) (now (notice .entry)))
         × (r ≡ record { place = lowestFree ((freed k (readRow (rowAt (lent form (now (table .entry))) i))) .accesses); cut = cutFor (atPlace k ((readRow (rowAt (lent form (now (table .entry))) i)) .accesses)) }) ⌝ }
 {
     let cut = write_notice(notice, table, form, i, k);
@@ -92,12 +109,12 @@ pub fn carry(
     third: &[u8],
     notice: &mut [u8],
 ) -> Done
-    requires { ⌜ (256 ≤ length (now notice)) × (form ≤ 2) × (rowLength form * i + rowLength form ≤ length (now table)) × (sound (rowAt (lent form (now table)) i) ≡ true)
+    requires { ⌜ (noticeLength form ≤ length (now notice)) × (form ≤ 2) × (rowLength form * i + rowLength form ≤ length (now table)) × (sound (rowAt (lent form (now table)) i) ≡ true)
         × (fitPlan (record { first = now first; second = now second; third = now third }) plan (rowAt (lent form (now table)) i) ≡ true)
         × (length (now session) ≤ 128) × (length (now host) ≤ 128) × (length (now realm) ≤ 128) ⌝ }
     ensures { λ r. ⌜ (lent form (now (table .exit))
         ≡ tableAfter (lent form (now (table .entry))) i (planned (broughtIn form (now (session .entry)) (now (host .entry)) (now (realm .entry)) (now (first .entry)) (now (second .entry)) (now (third .entry))) plan (readRow (rowAt (lent form (now (table .entry))) i))))
-        × (now (notice .exit) ≡ noticeRoom ((planned (broughtIn form (now (session .entry)) (now (host .entry)) (now (realm .entry)) (now (first .entry)) (now (second .entry)) (now (third .entry))) plan (readRow (rowAt (lent form (now (table .entry))) i))) .cut) (now (notice .entry)))
+        × (now (notice .exit) ≡ noticeRoom form ((planned (broughtIn form (now (session .entry)) (now (host .entry)) (now (realm .entry)) (now (first .entry)) (now (second .entry)) (now (third .entry))) plan (readRow (rowAt (lent form (now (table .entry))) i))) .cut) (now (notice .entry)))
         × (r ≡ doneFor (planned (broughtIn form (now (session .entry)) (now (host .entry)) (now (realm .entry)) (now (first .entry)) (now (second .entry)) (now (third .entry))) plan (readRow (rowAt (lent form (now (table .entry))) i)))) ⌝ }
 {
     match plan {

@@ -82,7 +82,7 @@ sent-own o (request q) r h = row-own (record { operator = o; name = q .user }) r
 finds-own : (fm : ℕ) (c : Call) (r : List ℕ) → finds (subject fm c) r ≡ true → isOwn (c .operator) r ≡ true
 unfolding subject pick
 finds-own fm c r h =
-    by-test (eqb (ownNumber c) 0)
+    by-test (eqb (ownNumber fm c) 0)
     (λ e. sent-own (c .operator) (read (mostPolicies fm) (c .message)) r (rw e at h))
     (λ e. none r (rw e at h))
   where

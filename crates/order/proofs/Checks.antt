@@ -76,6 +76,7 @@ module _ (t : Table) (c : Call) (i : ℕ) (v : Verdict) where
         cut = rw cut;
         cut-session = rw cut;
         cut-host = rw cut;
+        cut-realm = rw cut;
       }
 
 -- WHAT IS DECIDED
@@ -136,9 +137,9 @@ module _ (t : Table) (c : Call) where
   refused-went : succeeds t c ≡ false → Went t c → Unchanged t c (handle t c)
   unfolding succeeds silent refusal reply resultOf noticeRoom
   refused-went h (unanswered a l) =
-      rw l (record { table = refl; notice = refl; place = refl; cut = refl; cut-session = refl; cut-host = refl })
+      rw l (record { table = refl; notice = refl; place = refl; cut = refl; cut-session = refl; cut-host = refl; cut-realm = refl })
   refused-went h (stopped code a s l) =
-      rw l (record { table = refl; notice = refl; place = refl; cut = refl; cut-session = refl; cut-host = refl })
+      rw l (record { table = refl; notice = refl; place = refl; cut = refl; cut-session = refl; cut-host = refl; cut-realm = refl })
   refused-went h (reached i a o) =
       let n : noneFails (decisive t c i) ≡ false = sym (o .none) ∙ (rw a at h) in
       let r : ((verdict t c i) .cut ≡ []) × ((verdict t c i) .place ≡ 0) = refused-cut _ _ _ _ (how t c i) n in
@@ -204,12 +205,12 @@ module _ (t : Table) (c : Call) where
     unfolding cutFor pick
     one-for e = rw e ((first-one e) .some)
 
-    reply-is : (handle t c) .reply ≡ reply c (plain 2001) (placeTaken asked (readRow (rowAt t i))) (cutFor asked (readRow (rowAt t i)))
+    reply-is : (handle t c) .reply ≡ reply (t .form) c (plain 2001) (placeTaken asked (readRow (rowAt t i))) (cutFor asked (readRow (rowAt t i)))
     unfolding settled granting
     reply-is =
         ap (λ (l : Left). l .reply) (o .leaves)
-        ∙ ap (λ (v : Verdict). reply c (v .code) (v .place) (v .cut)) granted
-        ∙ ap (λ (l : List Access). reply c (plain 2001) (placeTaken asked (readRow (rowAt t i))) l) cut-for
+        ∙ ap (λ (v : Verdict). reply (t .form) c (v .code) (v .place) (v .cut)) granted
+        ∙ ap (λ (l : List Access). reply (t .form) c (plain 2001) (placeTaken asked (readRow (rowAt t i))) l) cut-for
 
   -- a call that succeeds is decided on a sound row
   pub data Won : Type 0 where
@@ -227,7 +228,7 @@ module _ (t : Table) (c : Call) where
   one-won : exceeds asked (said t c) ≡ true → Won → length (cutFor asked (said t c)) ≡ 1
   one-won e (won i o a h) = rw (o .before) (one-for i o h (rw (o .before) at e))
 
-  reply-won : Won → (handle t c) .reply ≡ reply c (plain 2001) (placeTaken asked (said t c)) (cutFor asked (said t c))
+  reply-won : Won → (handle t c) .reply ≡ reply (t .form) c (plain 2001) (placeTaken asked (said t c)) (cutFor asked (said t c))
   reply-won (won i o a h) = rw (o .before) (reply-is i o h)
 
 pub cut-exactly : CutExactly

@@ -67,9 +67,9 @@ module _ (fm : ℕ) (owner : Call → Subject) (counts : Counting fm owner) (min
   inside cs = keep-inside _ (isBy owner who) all cs
 
   -- what the subscriber's calls bring, by what the counted ones do
-  pub same-inside : (cs ds : List Call) → SameBroughtBy owner who cs ds → SameBrought fm who cs ds
+  pub same-inside : (cs ds : List Call) → SameBroughtBy fm owner who cs ds → SameBrought fm who cs ds
   same-inside cs ds h =
-      ap (map brought) (sym (inside cs)) ∙ same-of fm who (callsBy owner who cs) (callsBy owner who ds) h ∙ ap (map brought) (inside ds)
+      ap (map (brought fm)) (sym (inside cs)) ∙ same-of fm who (callsBy owner who cs) (callsBy owner who ds) h ∙ ap (map (brought fm)) (inside ds)
 
 module _ (t : Table) (owner : Call → Subject) (counts : Counting (t .form) owner) (mine : Account) (good : tableNumber t ≡ 0) where
   good-replies : (cs : List Call) → repliesBy owner (subscriber mine) cs ((run t cs) .replies) ≡ (run t (callsBy owner (subscriber mine) cs)) .replies
@@ -96,9 +96,9 @@ same-table-by t owner counts cs ds h =
 
 pub same-replies-by : SameRepliesBy
 same-replies-by t owner counts cs ds mine h =
-    ap (map told) (replies-alone-by t owner counts cs mine)
+    ap (map (told (t .form))) (replies-alone-by t owner counts cs mine)
     ∙ (same-run t (callsBy owner (subscriber mine) cs) (callsBy owner (subscriber mine) ds) h) .replies
-    ∙ ap (map told) (sym (replies-alone-by t owner counts ds mine))
+    ∙ ap (map (told (t .form))) (sym (replies-alone-by t owner counts ds mine))
 
 pub same-record-by : SameRecordBy
 same-record-by t owner counts cs ds mine h = same-record t cs ds mine (same-inside (t .form) owner counts mine cs ds h)
@@ -136,10 +136,10 @@ read-name : (o most : ℕ) (m : List ℕ) → readingCode most m ≡ 0 → sentB
 unfolding read sentBy requestOf pick
 read-name o most m h = rw h
 
-own-passes : (fm : ℕ) (c : Call) (mine : Account) → subject fm c ≡ subscriber mine → eqb (ownNumber c) 0 ≡ true
+own-passes : (fm : ℕ) (c : Call) (mine : Account) → subject fm c ≡ subscriber mine → eqb (ownNumber fm c) 0 ≡ true
 unfolding subject pick
 own-passes fm c mine h =
-    by-test (eqb (ownNumber c) 0)
+    by-test (eqb (ownNumber fm c) 0)
     (λ e. e)
     (λ e. let z : nobody ≡ subscriber mine = rw e at h in cc)
 

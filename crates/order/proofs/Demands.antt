@@ -1,7 +1,7 @@
 -- The demands, each a statement of specs/ with its proof, which stands in the file that is cited.
 use Rattle.order.specs.Demand2.{FirstFailingCheck, SuccessExactly, RefusedChangesNothing, UnansweredLeaves, RefusedLeaves, CutExactly, OneToCut, SuccessReply, SuccessFindsRow, SuccessReplacesRow, OtherRowsStay, SoundStaysSound, SoundStaysInList}
 use Rattle.order.specs.ChecksInOrder.{TellsTheByte, TellsTheUnknown}
-use Rattle.order.specs.Demand3.{FormStays, OneReplyEach, EachInTurn, LastTable, RepliesAlone, RecordAlone, LookupStays, BroughtDecides, RoomsAfter, SameTable, SameReplies, SameRecord, NobodysReply, NobodyChangesNothing, NobodysReplies, SubjectCounts, SenderCounts, NoSender, RepliesAloneBy, RecordAloneBy, SameTableBy, SameRepliesBy, SameRecordBy}
+use Rattle.order.specs.Demand3.{FormStays, OneReplyEach, EachInTurn, LastTable, RepliesAlone, RecordAlone, LookupStays, BroughtDecides, RoomsAfter, NoticeTold, SameTable, SameReplies, SameRecord, NobodysReply, NobodyChangesNothing, NobodysReplies, SubjectCounts, SenderCounts, NoSender, RepliesAloneBy, RecordAloneBy, SameTableBy, SameRepliesBy, SameRecordBy}
 use Rattle.order.specs.OpenedFirst.{LineIsHistory, EntriesStay, CutOpenedFirst, SecondRowStays, UnsoundRowStays}
 use Rattle.order.specs.OpenedAgain.{OpenedAgainStandsLast}
 use Rattle.order.specs.NoSecondAnswer.{OneClearing, OneEntering, OneAdding, OneAnswer}
@@ -141,6 +141,9 @@ brought-decides = Rooms.brought-decides
 
 pub rooms-after : RoomsAfter
 rooms-after = Rooms.rooms-after
+
+pub notice-told : NoticeTold
+notice-told = Rooms.notice-told
 
 -- so two lists whose calls bring the same, each subscriber's in order, end with the same table, and each call gets the same
 -- answer

@@ -72,7 +72,7 @@ rowAfter fm c q r = pick (sound r) (settledRow fm r (decide fm (q .ask) (c .wag)
 unfoldable pub replyOn : (fm : ℕ) → Call → Request → List ℕ → Reply
 replyOn fm c q r =
     let v : Verdict = decide fm (q .ask) (c .wag) (readRow r) in
-    pick (sound r) (reply c (v .code) (v .place) (v .cut)) (reply c (plain 5012) 0 [])
+    pick (sound r) (reply fm c (v .code) (v .place) (v .cut)) (reply fm c (plain 5012) 0 [])
 
 -- by what was read
 unfoldable pub actOn : (fm : ℕ) → Call → Reading → List ℕ → List ℕ
@@ -80,12 +80,12 @@ actOn fm c (refused code) r = r
 actOn fm c (request q) r = rowAfter fm c q r
 
 unfoldable pub sayOn : (fm : ℕ) → Call → Reading → List ℕ → Reply
-sayOn fm c (refused code) r = reply c (plain code) 0 []
+sayOn fm c (refused code) r = reply fm c (plain code) 0 []
 sayOn fm c (request q) r = replyOn fm c q r
 
-unfoldable pub lostOn : Call → Reading → Reply
-lostOn c (refused code) = reply c (plain code) 0 []
-lostOn c (request q) = reply c userUnknown 0 []
+unfoldable pub lostOn : (fm : ℕ) → Call → Reading → Reply
+lostOn fm c (refused code) = reply fm c (plain code) 0 []
+lostOn fm c (request q) = reply fm c userUnknown 0 []
 
 unfoldable pub silence : Call → ℕ → Reply
 silence c n = (silent (record { form = 1; bytes = [] }) c n) .reply
@@ -95,13 +95,13 @@ abbrev pub readIn : (fm : ℕ) → Call → Reading
 readIn fm c = read (mostPolicies fm) (c .message)
 
 unfoldable pub act : (fm : ℕ) → Call → List ℕ → List ℕ
-act fm c r = pick (eqb (ownNumber c) 0) (actOn fm c (readIn fm c) r) r
+act fm c r = pick (eqb (ownNumber fm c) 0) (actOn fm c (readIn fm c) r) r
 
 unfoldable pub says : (fm : ℕ) → Call → List ℕ → Reply
-says fm c r = pick (eqb (ownNumber c) 0) (sayOn fm c (readIn fm c) r) (silence c (ownNumber c))
+says fm c r = pick (eqb (ownNumber fm c) 0) (sayOn fm c (readIn fm c) r) (silence c (ownNumber fm c))
 
 unfoldable pub lost : (fm : ℕ) → Call → Reply
-lost fm c = pick (eqb (ownNumber c) 0) (lostOn c (readIn fm c)) (silence c (ownNumber c))
+lost fm c = pick (eqb (ownNumber fm c) 0) (lostOn fm c (readIn fm c)) (silence c (ownNumber fm c))
 
 -- WHAT STAYS OF A ROW: its length, if it is one of the form, and what it is found by
 
@@ -154,7 +154,7 @@ unfolding firstOf pick
 first-fail c cs h = rw h
 
 module _ (t : Table) (c : Call) where
-  pub number-good : tableNumber t ≡ 0 → callNumber t c ≡ ownNumber c
+  pub number-good : tableNumber t ≡ 0 → callNumber t c ≡ ownNumber (t .form) c
   unfolding callNumber ownNumber
   number-good h = first-pass (tableNumber t) _ h
 
@@ -162,7 +162,7 @@ module _ (t : Table) (c : Call) where
   unfolding callNumber
   number-bad h = first-fail (tableNumber t) _ h
 
-  pub handle-good : tableNumber t ≡ 0 → handle t c ≡ pick (eqb (ownNumber c) 0) (onReading t c (readIn (t .form) c)) (silent t c (ownNumber c))
+  pub handle-good : tableNumber t ≡ 0 → handle t c ≡ pick (eqb (ownNumber (t .form) c) 0) (onReading t c (readIn (t .form) c)) (silent t c (ownNumber (t .form) c))
   unfolding handle
   handle-good h = rw (number-good h)
 
@@ -173,15 +173,15 @@ module _ (t : Table) (c : Call) where
 -- WHOSE A CALL IS
 
 module _ (fm : ℕ) (c : Call) where
-  pub not-answered : eqb (ownNumber c) 0 ≡ false → subject fm c ≡ nobody
+  pub not-answered : eqb (ownNumber fm c) 0 ≡ false → subject fm c ≡ nobody
   unfolding subject pick
   not-answered e = rw e
 
-  pub was-refused : (code : ℕ) → eqb (ownNumber c) 0 ≡ true → readIn fm c ≡ refused code → subject fm c ≡ nobody
+  pub was-refused : (code : ℕ) → eqb (ownNumber fm c) 0 ≡ true → readIn fm c ≡ refused code → subject fm c ≡ nobody
   unfolding subject sentBy account pick
   was-refused code e g = rw (e, g)
 
-  pub was-read : (q : Request) → eqb (ownNumber c) 0 ≡ true → readIn fm c ≡ request q → subject fm c ≡ subscriber (account c q)
+  pub was-read : (q : Request) → eqb (ownNumber fm c) 0 ≡ true → readIn fm c ≡ request q → subject fm c ≡ subscriber (account c q)
   unfolding subject sentBy account pick
   was-read q e g = rw (e, g)
 
@@ -255,11 +255,11 @@ there p (r ∷ rs) = by-test (p r) (λ e. rw e (suc-le-suc zero-le)) (λ e. rw e
 
 -- ONE CALL
 
-lost-refused : (fm : ℕ) (c : Call) (code : ℕ) → eqb (ownNumber c) 0 ≡ true → readIn fm c ≡ refused code → lost fm c ≡ reply c (plain code) 0 []
+lost-refused : (fm : ℕ) (c : Call) (code : ℕ) → eqb (ownNumber fm c) 0 ≡ true → readIn fm c ≡ refused code → lost fm c ≡ reply fm c (plain code) 0 []
 unfolding lost lostOn pick
 lost-refused fm c code own g = rw (own, g)
 
-lost-silent : (fm : ℕ) (c : Call) → eqb (ownNumber c) 0 ≡ false → lost fm c ≡ silence c (ownNumber c)
+lost-silent : (fm : ℕ) (c : Call) → eqb (ownNumber fm c) 0 ≡ false → lost fm c ≡ silence c (ownNumber fm c)
 unfolding lost pick
 lost-silent fm c own = rw own
 
@@ -285,7 +285,7 @@ module _ (n : ℕ) (t : Table) (c : Call) (of : subject (t .form) c ≡ nobody) 
       }
 
 -- a call of a subscriber, whose row is replaced by what it says then
-module _ (n : ℕ) (t : Table) (size : length (t .bytes) ≡ width t * n) (c : Call) (q : Request) (own : eqb (ownNumber c) 0 ≡ true) (g : readIn (t .form) c ≡ request q) where
+module _ (n : ℕ) (t : Table) (size : length (t .bytes) ≡ width t * n) (c : Call) (q : Request) (own : eqb (ownNumber (t .form) c) 0 ≡ true) (g : readIn (t .form) c ≡ request q) where
   act-is : (r : List ℕ) → act (t .form) c r ≡ rowAfter (t .form) c q r
   unfolding act actOn pick
   act-is r = rw (own, g)
@@ -294,7 +294,7 @@ module _ (n : ℕ) (t : Table) (size : length (t .bytes) ≡ width t * n) (c : C
   unfolding says sayOn pick
   says-is r = rw (own, g)
 
-  lost-is : lost (t .form) c ≡ reply c userUnknown 0 []
+  lost-is : lost (t .form) c ≡ reply (t .form) c userUnknown 0 []
   unfolding lost lostOn pick
   lost-is = rw (own, g)
 
@@ -344,7 +344,7 @@ module _ (t : Table) (good : tableNumber t ≡ 0) where
   abbrev count : ℕ
   count = length (t .bytes) / width t
 
-  by-reading : (c : Call) (g : Reading) → eqb (ownNumber c) 0 ≡ true → readIn (t .form) c ≡ g → Agrees count t c (onReading t c g)
+  by-reading : (c : Call) (g : Reading) → eqb (ownNumber (t .form) c) 0 ≡ true → readIn (t .form) c ≡ g → Agrees count t c (onReading t c g)
   unfolding onReading refusal lookup rows
   by-reading c (refused code) own e = unmoved count t c (was-refused (t .form) c code own e) (refusal t c (plain code)) refl (sym (lost-refused (t .form) c code own e))
   by-reading c (request q) own e = on-found count t (whole-rows t good) c q own e (lookup t (account c q)) refl (subst (There (lookup t (account c q))) (length-pieces (width t) count (t .bytes)) (there (isRowOf (account c q)) (rows t)))
@@ -353,6 +353,6 @@ module _ (t : Table) (good : tableNumber t ≡ 0) where
   unfolding silent silence
   one-call c =
       rw (handle-good t c good)
-      (by-pick (Agrees count t c) (eqb (ownNumber c) 0)
+      (by-pick (Agrees count t c) (eqb (ownNumber (t .form) c) 0)
       (λ own. by-reading c (readIn (t .form) c) own refl)
-      (λ own. unmoved count t c (not-answered (t .form) c own) (silent t c (ownNumber c)) refl (sym (lost-silent (t .form) c own))))
+      (λ own. unmoved count t c (not-answered (t .form) c own) (silent t c (ownNumber (t .form) c)) refl (sym (lost-silent (t .form) c own))))

@@ -1,12 +1,12 @@
 -- What a request that succeeds makes of the tunnels on the order line is what its reply shows.
 use mathlib.Core.Path.{_≡_, refl, sym, ap, _∙_}
 use mathlib.Core.Bool.{Bool, true, false, _&&_}
-use mathlib.Core.List.{List, [], _∷_, _++_, map, map-append}
+use mathlib.Core.List.{List, [], _∷_, _++_, append-assoc, map, map-append}
 use Prim.Native.Nat.{ℕ, _≤_}
 use native.Mathlib.Omega.{arith}
-use borrow.Author.Tests.{eqb-true}
+use borrow.Author.Tests.{eqb-true, leb-true}
 use lib.Dec.{eqb}
-use lib.ListN.{length, take, drop}
+use lib.ListN.{length, take, drop, length-append}
 use lib.Seq.{take-at, drop-at, take-append-le, take-take}
 use Rattle.octets.specs.Choice.{pick}
 use Rattle.octets.specs.Lists.{firstOr, keep}
@@ -16,12 +16,12 @@ use Rattle.octets.proofs.Lists.{by-test, same-eq, within-high}
 use Rattle.octets.proofs.Texts.{length-filled}
 use Rattle.message.specs.Codes.{plain}
 use Rattle.message.specs.ReadingAMessage.{Ask, tunnel, policy, termination}
-use Rattle.table.specs.TheTable.{Access, Policies, Subscriber, line}
+use Rattle.table.specs.TheTable.{Access, Policies, Subscriber, isForm, line}
 use Rattle.table.specs.Soundness.{onEntry}
-use Rattle.table.proofs.Good.{Good, Standing, goodAccess, standing}
+use Rattle.table.proofs.Good.{Good, Standing, by-form, goodAccess, spare, standing}
 use Rattle.changes.specs.Changes.{Opening, freed, hold, newAccess, opened, routed}
 use Rattle.rules.specs.Deciding.{entryAt, entryNamed, none, placeOf, withSession}
-use Rattle.rules.specs.Calls.{Call, Reply, noticeRoom, reply, resultOf}
+use Rattle.rules.specs.Calls.{Call, Reply, noticeBytes, noticeLength, noticeRoom, reply, resultOf}
 use Rattle.plans.proofs.Stay.{entry-found}
 use Rattle.order.specs.ChecksInOrder.{check, decidingChecks, noneFails}
 use Rattle.order.specs.Demand2.{afterwards, cutFor, exceeds, firstAlone, onAsked, spared}
@@ -54,7 +54,7 @@ module _ {fm : ℕ} (s : Subscriber) (g : Good fm s) (f : Access → Bool) (a : 
   fitting = standing _ a (first-kept f (goodAccess fm (length (s .entries))) (s .accesses) a others (g .accesses-good .each) e)
 
 new-last : (n : ℕ) (o : Opening) (s : Subscriber)
-    → tunnels (opened n o s) ≡ tunnels s ++ (record { session = o .session; host = o .host; label = (entryAt n s) .label } ∷ [])
+    → tunnels (opened n o s) ≡ tunnels s ++ (record { session = o .session; host = o .host; realm = o .realm; label = (entryAt n s) .label } ∷ [])
 unfolding tunnels opened newAccess tunnelOf entryAt
 new-last n o s = map-append _ (s .accesses) _
 
@@ -90,47 +90,83 @@ text-filled x rest h =
     take-append-le (length x) (filled x 128) rest (rw (length-filled x 128) h)
     ∙ take-take (length x) 128 (x ++ zeros 128) h ∙ take-at x (zeros 128) (length x) refl
 
-module _ {fm : ℕ} (c : Call) (place : ℕ) (n : ℕ) (a : Access) (fits : Standing fm n a) where
+text-none : (x rest : List ℕ) → length x ≤ 0 → take (length x) rest ≡ x
+text-none [] rest h = refl
+text-none (b ∷ x) rest h = absurd (omega arith)
+
+module _ (form : ℕ) (c : Call) (place : ℕ) (a : Access) where
   abbrev pub told : Reply
-  told = reply c (plain 2001) place (a ∷ [])
+  told = reply form c (plain 2001) place (a ∷ [])
 
-  pub session-told : sessionCut told ≡ a .session
-  unfolding sessionCut reply resultOf noticeRoom
-  session-told = text-filled (a .session) _ (within-high 1 128 _ (fits .sid-fits))
+  -- what stands behind the two texts that a notice of either form has
+  behindBoth : List ℕ
+  behindBoth = pick (eqb form 2) (filled (a .realm) 128) [] ++ drop (noticeLength form) (c .notice)
 
-  tunnel-told : (label : List ℕ) → tunnelCut label told ≡ record { session = a .session; host = a .host; label = label }
-  unfolding tunnelCut reply resultOf noticeRoom
-  tunnel-told label =
-      let host : take (length (a .host)) (drop 128 (told .notice)) ≡ a .host =
-      ap (take (length (a .host))) (drop-at (filled (a .session) 128) _ 128 (length-filled (a .session) 128))
-      ∙ text-filled (a .host) _ (within-high 1 128 _ (fits .host-fits)) in
-      rw (session-told, host)
+  room-told : told .notice ≡ filled (a .session) 128 ++ (filled (a .host) 128 ++ behindBoth)
+  unfolding reply noticeRoom noticeBytes behindBoth
+  room-told =
+      append-assoc (filled (a .session) 128) _ _ ∙ ap (λ (l : List ℕ). filled (a .session) 128 ++ l) (append-assoc (filled (a .host) 128) _ _)
+
+  host-at : drop 128 (told .notice) ≡ filled (a .host) 128 ++ behindBoth
+  host-at = ap (drop 128) room-told ∙ drop-at (filled (a .session) 128) _ 128 (length-filled (a .session) 128)
+
+  realm-at : drop 256 (told .notice) ≡ behindBoth
+  realm-at =
+      ap (drop 256) (room-told ∙ sym (append-assoc (filled (a .session) 128) (filled (a .host) 128) behindBoth))
+      ∙ drop-at (filled (a .session) 128 ++ filled (a .host) 128) behindBoth 256 (simp (length-append, length-filled))
+
+  pub session-told : {fm n : ℕ} → Standing fm n a → sessionCut told ≡ a .session
+  unfolding sessionCut reply resultOf
+  session-told fits = ap (take (length (a .session))) room-told ∙ text-filled (a .session) _ (within-high 1 128 _ (fits .sid-fits))
+
+  host-told : {fm n : ℕ} → Standing fm n a → take (length (a .host)) (drop 128 (told .notice)) ≡ a .host
+  host-told fits = ap (take (length (a .host))) host-at ∙ text-filled (a .host) _ (within-high 1 128 _ (fits .host-fits))
+
+-- a realm is told in form 2, and in form 1 there is none
+realm-1 : (c : Call) (place n : ℕ) (a : Access) → Standing 1 n a → take (length (a .realm)) (drop 256 ((told 1 c place a) .notice)) ≡ a .realm
+unfolding spare
+realm-1 c place n a fits = text-none (a .realm) _ (leb-true (length (a .realm)) 0 (fits .realm-fits))
+
+realm-2 : (c : Call) (place n : ℕ) (a : Access) → Standing 2 n a → take (length (a .realm)) (drop 256 ((told 2 c place a) .notice)) ≡ a .realm
+unfolding behindBoth spare pick
+realm-2 c place n a fits =
+    ap (take (length (a .realm))) (realm-at 2 c place a) ∙ text-filled (a .realm) _ (leb-true (length (a .realm)) 128 (fits .realm-fits))
+
+module _ (fm : ℕ) (is : isForm fm ≡ true) (c : Call) (place n : ℕ) (a : Access) where
+  realm-told : Standing fm n a → take (length (a .realm)) (drop 256 ((told fm c place a) .notice)) ≡ a .realm
+  realm-told =
+      by-form (λ f. Standing f n a → take (length (a .realm)) (drop 256 ((told f c place a) .notice)) ≡ a .realm) fm is (realm-1 c place n a) (realm-2 c place n a)
+
+  tunnel-told : Standing fm n a → (label : List ℕ) → tunnelCut label (told fm c place a) ≡ record { session = a .session; host = a .host; realm = a .realm; label = label }
+  unfolding tunnelCut reply resultOf
+  tunnel-told fits label =
+      λ i. record { session = session-told fm c place a fits i; host = host-told fm c place a fits i; realm = realm-told fits i; label = label }
 
 -- A REQUEST THAT SUCCEEDS
 
-module _ {fm : ℕ} (c : Call) (place : ℕ) (s : Subscriber) (g : Good fm s) where
+module _ (fm : ℕ) (c : Call) (place : ℕ) (s : Subscriber) (g : Good fm s) where
   -- what was cut, if anything, and the line that is left
   module _ (session host realm label : List ℕ) (visited : Bool) where
     abbrev asked : Ask
     asked = tunnel session host realm label visited
 
     abbrev replied : Reply
-    replied = reply c (plain 2001) place (cutFor asked s)
+    replied = reply fm c (plain 2001) place (cutFor asked s)
 
     spared-cut : exceeds asked s ≡ true → First (onAsked asked s)
         → tunnels (spared asked s) ≡ pick (eqb (replied .result .cut) 1) (without (sessionCut replied) (tunnels s)) (tunnels s)
     unfolding spared cutFor firstAlone reply resultOf onAsked onEntry pick
     spared-cut e (first a others on) =
         rw (e, on) (ap tunnels (ap (λ (l : List Access). freed (placeOf l) s) (sym on)) ∙ freed-one s g _ a others on
-        ∙ ap (λ (x : List ℕ). without x (tunnels s)) (sym (session-told c place _ a (fitting s g _ a others on))))
+        ∙ ap (λ (x : List ℕ). without x (tunnels s)) (sym (session-told fm c place a (fitting s g _ a others on))))
 
     spared-all : exceeds asked s ≡ false → tunnels (spared asked s) ≡ pick (eqb (replied .result .cut) 1) (without (sessionCut replied) (tunnels s)) (tunnels s)
     unfolding spared cutFor reply resultOf pick
     spared-all e = rw e
 
-    line-tunnel : (form : ℕ) (wag : Bool) → noneFails (decidingChecks asked wag s) ≡ true → tunnels (afterwards form asked s) ≡ lineAfter (s .entries) asked replied (tunnels s)
+    line-tunnel : (wag : Bool) → noneFails (decidingChecks asked wag s) ≡ true → tunnels (afterwards fm asked s) ≡ lineAfter fm (s .entries) asked replied (tunnels s)
     unfolding afterwards lineAfter
-    line-tunnel form wag h =
+    line-tunnel wag h =
         let there : eqb (entryNamed label s) 0 ≡ false = entry-there session host realm label visited wag s h in
         let left : tunnels (spared asked s) ≡ pick (eqb (replied .result .cut) 1) (without (sessionCut replied) (tunnels s)) (tunnels s) =
         by-test (exceeds asked s) (λ e. spared-cut e (first-alone _ ((cut-first asked wag s g h e) .some))) (λ e. spared-all e) in
@@ -154,21 +190,21 @@ module _ {fm : ℕ} (c : Call) (place : ℕ) (s : Subscriber) (g : Good fm s) wh
     ended-one wag h = not-none ended (by-test (none ended) (λ e. let z : false ≡ true = rw e at h in cc) (λ e. e))
 
 -- what a request that succeeds leaves on the line is what its reply shows
-pub line-after : {fm : ℕ} (form : ℕ) (c : Call) (place : ℕ) (q : Ask) (wag : Bool) (s : Subscriber) → Good fm s → noneFails (decidingChecks q wag s) ≡ true
-    → tunnels (afterwards form q s) ≡ lineAfter (s .entries) q (reply c (plain 2001) place (cutFor q s)) (tunnels s)
+pub line-after : (fm : ℕ) (c : Call) (place : ℕ) (q : Ask) (wag : Bool) (s : Subscriber) → Good fm s → noneFails (decidingChecks q wag s) ≡ true
+    → tunnels (afterwards fm q s) ≡ lineAfter fm (s .entries) q (reply fm c (plain 2001) place (cutFor q s)) (tunnels s)
 unfolding afterwards lineAfter
-line-after form c place (tunnel session host realm label visited) wag s g h = line-tunnel c place s g session host realm label visited form wag h
-line-after form c place (policy session one two three) wag s g h = line-held _ _ s
-line-after form c place (termination session label) wag s g h = line-ended c place s g session label (ended-one c place s g session label wag h)
+line-after fm c place (tunnel session host realm label visited) wag s g h = line-tunnel fm c place s g session host realm label visited wag h
+line-after fm c place (policy session one two three) wag s g h = line-held _ _ s
+line-after fm c place (termination session label) wag s g h = line-ended fm c place s g session label (ended-one fm c place s g session label wag h)
 
 -- THE CUT
 
-module _ {fm : ℕ} (c : Call) (place : ℕ) (s : Subscriber) (g : Good fm s) (session host realm label : List ℕ) (visited : Bool) (there : eqb (entryNamed label s) 0 ≡ false) where
+module _ (fm : ℕ) (c : Call) (place : ℕ) (s : Subscriber) (g : Good fm s) (session host realm label : List ℕ) (visited : Bool) (there : eqb (entryNamed label s) 0 ≡ false) where
   abbrev opening : Ask
   opening = tunnel session host realm label visited
 
   abbrev answered : Reply
-  answered = reply c (plain 2001) place (cutFor opening s)
+  answered = reply fm c (plain 2001) place (cutFor opening s)
 
   first-named : exceeds opening s ≡ true → First (onAsked opening s)
       → take 1 (onLabel (labelIn (s .entries) label) (tunnels s)) ≡ tunnelCut (labelIn (s .entries) label) answered ∷ []
@@ -177,13 +213,13 @@ module _ {fm : ℕ} (c : Call) (place : ℕ) (s : Subscriber) (g : Good fm s) (s
       let own : a .entry ≡ entryNamed label s = eqb-true _ _ (kept-first _ (s .accesses) a others on) in
       let line : onLabel ((entryAt (entryNamed label s) s) .label) (tunnels s) ≡ map (tunnelOf s) (a ∷ others) =
       on-label s g (entryNamed label s) (entry-found label s there) (s .accesses) (g .accesses-good .each) ∙ ap (map (tunnelOf s)) on in
-      rw (label-is label s there, line, e, on, tunnel-told c place _ a (fitting s g _ a others on), ← own)
+      rw (label-is label s there, line, e, on, tunnel-told fm (g .form-good) c place _ a (fitting s g _ a others on) _, ← own)
 
 -- at the limit, the first on the label that is asked for is the one that the notice names
-pub cut-named : {fm : ℕ} (c : Call) (place : ℕ) (q : Ask) (wag : Bool) (s : Subscriber) → Good fm s → noneFails (decidingChecks q wag s) ≡ true → exceeds q s ≡ true
-    → take 1 (onLabel (labelIn (s .entries) (labelAsked q)) (tunnels s)) ≡ tunnelCut (labelIn (s .entries) (labelAsked q)) (reply c (plain 2001) place (cutFor q s)) ∷ []
+pub cut-named : (fm : ℕ) (c : Call) (place : ℕ) (q : Ask) (wag : Bool) (s : Subscriber) → Good fm s → noneFails (decidingChecks q wag s) ≡ true → exceeds q s ≡ true
+    → take 1 (onLabel (labelIn (s .entries) (labelAsked q)) (tunnels s)) ≡ tunnelCut (labelIn (s .entries) (labelAsked q)) (reply fm c (plain 2001) place (cutFor q s)) ∷ []
 unfolding exceeds labelAsked
-cut-named c place (tunnel session host realm label visited) wag s g h e =
-    first-named c place s g session host realm label visited (entry-there session host realm label visited wag s h) e (first-alone _ ((cut-first (tunnel session host realm label visited) wag s g h e) .some))
-cut-named c place (policy session one two three) wag s g h e = cc
-cut-named c place (termination session label) wag s g h e = cc
+cut-named fm c place (tunnel session host realm label visited) wag s g h e =
+    first-named fm c place s g session host realm label visited (entry-there session host realm label visited wag s h) e (first-alone _ ((cut-first (tunnel session host realm label visited) wag s g h e) .some))
+cut-named fm c place (policy session one two three) wag s g h e = cc
+cut-named fm c place (termination session label) wag s g h e = cc

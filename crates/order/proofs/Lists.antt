@@ -228,7 +228,7 @@ equal-calls t cs ds h =
 -- NOBODY
 
 -- what a call of nobody gets, by its own number and what was read
-nobody-reading : (t : Table) (c : Call) (g : Reading) → sentBy (c .operator) g ≡ nobody → (onReading t c g) ≡ record { reply = lostOn c g; table = t }
+nobody-reading : (t : Table) (c : Call) (g : Reading) → sentBy (c .operator) g ≡ nobody → (onReading t c g) ≡ record { reply = lostOn (t .form) c g; table = t }
 unfolding onReading sentBy lostOn refusal
 nobody-reading t c (refused code) h = refl
 nobody-reading t c (request q) h = cc
@@ -236,7 +236,7 @@ nobody-reading t c (request q) h = cc
 nobody-good : (t : Table) (c : Call) → tableNumber t ≡ 0 → subject (t .form) c ≡ nobody → handle t c ≡ record { reply = lost (t .form) c; table = t }
 unfolding subject lost silent silence pick
 nobody-good t c good h =
-    by-test (eqb (ownNumber c) 0)
+    by-test (eqb (ownNumber (t .form) c) 0)
     (λ e. rw (handle-good t c good, e) (nobody-reading t c (readIn (t .form) c) (rw e at h)))
     (λ e. rw (handle-good t c good, e))
 

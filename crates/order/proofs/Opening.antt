@@ -13,7 +13,6 @@ use Rattle.octets.proofs.Lists.{and-left, and-right, by-test}
 use Rattle.message.specs.ReadingAMessage.{Ask, command, avps, requestOf}
 use Rattle.table.specs.TheTable.{Account, Entry, Subscriber, Table, Found, row, nothing, later, firstRow, lookup, rows, isRowOf, rowAt, width, tableNumber, readRow}
 use Rattle.table.specs.Soundness.{sound}
-use Rattle.table.proofs.Sound.{says-good}
 use Rattle.table.proofs.Rows.{nth-row, whole-rows}
 use Rattle.rules.specs.Calls.{account, Call, handle, mostPolicies, run, ranFirst, callNumber}
 use Rattle.order.specs.Demand2.{requestIn, found, said, succeeds, exceeds, placeTaken}
@@ -26,7 +25,7 @@ use Rattle.order.proofs.Handling.{was-read, number-good}
 use Rattle.order.proofs.Lists.{form-stays, lookup-stays}
 use Rattle.order.proofs.Checks.{cut-exactly, success-exactly, success-reply, refused-changes-nothing, Won, won, won-went}
 use Rattle.order.proofs.Answered.{OnRow, went}
-use Rattle.order.proofs.Rest.{success-replaces-row, other-rows-stay, rows-there, in-table}
+use Rattle.order.proofs.Rest.{success-replaces-row, other-rows-stay, row-good, rows-there, in-table}
 use Rattle.order.proofs.History.{line-after, cut-named, same-entries}
 
 -- ONE NAME TO A ROW
@@ -67,7 +66,7 @@ not-nothing i e = let y : _≡_ {A = ℕ} 0 1 = cc in omega arith
 subject-won : (t : Table) (c : Call) (j : ℕ) → OnRow t c j → callNumber t c ≡ 0 → subject (t .form) c ≡ subscriber (account c (requestIn c))
 unfolding requestIn
 subject-won t c j o a =
-    let own : eqb (ownNumber c) 0 ≡ true = eq-eqb (ownNumber c) 0 (sym (number-good t c (rows-there t c a)) ∙ a) in
+    let own : eqb (ownNumber (t .form) c) 0 ≡ true = eq-eqb (ownNumber (t .form) c) 0 (sym (number-good t c (rows-there t c a)) ∙ a) in
     was-read (t .form) c (requestOf (command (c .message)) (avps (c .message))) own (read-is (mostPolicies (t .form)) (c .message) (o .was-read))
 
 same-account : (a b : Account) → subscriber a ≡ subscriber b → a ≡ b
@@ -90,11 +89,11 @@ module _ (t : Table) (c : Call) (i : ℕ) (e : found t c ≡ row i) where
   abbrev asks : Ask
   asks = (requestIn c) .ask
 
-  shows : succeeds t c ≡ true → Won t c → lineOf ((handle t c) .table) i ≡ lineAfter (entriesOf t i) asks ((handle t c) .reply) (lineOf t i)
+  shows : succeeds t c ≡ true → Won t c → lineOf ((handle t c) .table) i ≡ lineAfter (t .form) (entriesOf t i) asks ((handle t c) .reply) (lineOf t i)
   shows s (won j o a h) =
       let q : j ≡ i = same-row j i (sym (o .at) ∙ e) in
       rw ((success-replaces-row t c i s e) .says, success-reply t c s, o .before, q)
-      (line-after (t .form) c (placeTaken asks (readRow (rowAt t i))) asks (c .wag) (readRow (rowAt t i)) (says-good (rowAt t i) (rw q at (o .was-sound))) (rw q at (sym (o .none) ∙ h)))
+      (line-after (t .form) c (placeTaken asks (readRow (rowAt t i))) asks (c .wag) (readRow (rowAt t i)) (rw q at (row-good t c j (rows-there t c a) o)) (rw q at (sym (o .none) ∙ h)))
 
 -- ANY CALL
 
@@ -139,7 +138,7 @@ module _ (t : Table) (who : Account) (i : ℕ) (here : lookup t who ≡ row i) (
   line-stays b (on h e) = not-both granted (rw (own-call t who i here c e (won-success t c h), success-exactly t c ∙ h)) b
   line-stays b (stays e) = rw e
 
-  one-call : lineOf ((handle t c) .table) i ≡ pick granted (lineAfter (entriesOf t i) ((requestIn c) .ask) ((handle t c) .reply) (lineOf t i)) (lineOf t i)
+  one-call : lineOf ((handle t c) .table) i ≡ pick granted (lineAfter (t .form) (entriesOf t i) ((requestIn c) .ask) ((handle t c) .reply) (lineOf t i)) (lineOf t i)
   unfolding isOf pick
   one-call =
       by-test granted
@@ -206,7 +205,7 @@ module _ (t : Table) (c : Call) (i : ℕ) (e : found t c ≡ row i) where
       let q : j ≡ i = same-row j i (sym (o .at) ∙ e) in
       let full : exceeds ((requestIn c) .ask) (readRow (rowAt t i)) ≡ true = rw (o .before, q) at x in
       rw (success-reply t c s, o .before, q)
-      (cut-named c (placeTaken ((requestIn c) .ask) (readRow (rowAt t i))) ((requestIn c) .ask) (c .wag) (readRow (rowAt t i)) (says-good (rowAt t i) (rw q at (o .was-sound))) (rw q at (sym (o .none) ∙ h)) full)
+      (cut-named (t .form) c (placeTaken ((requestIn c) .ask) (readRow (rowAt t i))) ((requestIn c) .ask) (c .wag) (readRow (rowAt t i)) (rw q at (row-good t c j (rows-there t c a) o)) (rw q at (sym (o .none) ∙ h)) full)
 
 pub cut-opened-first : CutOpenedFirst
 cut-opened-first t before c who i here of cut =

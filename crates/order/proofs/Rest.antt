@@ -60,13 +60,16 @@ module _ (t : Table) (c : Call) where
       (settled-table (λ (u : Table). rowAt u j ≡ rowAt t j) i (verdict t c i) refl
       (row-other (length (t .bytes) / width t) t (whole-rows t good) i (row-in i (o .at)) _ (length-row (t .form) _) j (λ e. ne (o .at ∙ ap row (sym e)))))
 
-  -- what a request that was read makes of a sound row is good
+  -- what a sound row says is good, and what a request that was read makes of it too
+  pub row-good : (i : ℕ) → tableNumber t ≡ 0 → OnRow t c i → Good (t .form) (readRow (rowAt t i))
+  row-good i good o =
+      let is : formOf (rowAt t i) ≡ t .form = rowAt-form t i good (row-in i (o .at)) in
+      rw is at (says-good (rowAt t i) (o .was-sound))
+
   pub stays-good : (i : ℕ) → tableNumber t ≡ 0 → OnRow t c i → Good (t .form) ((verdict t c i) .after)
   unfolding requestIn
   stays-good i good o =
-      let is : formOf (rowAt t i) ≡ t .form = rowAt-form t i good (row-in i (o .at)) in
-      let g : Good (t .form) (readRow (rowAt t i)) = rw is at (says-good (rowAt t i) (o .was-sound)) in
-      stays (t .form) ((requestIn c) .ask) (c .wag) (readRow (rowAt t i)) (ask-fits (t .form) (form-in t good) (c .message) (o .was-read)) g
+      stays (t .form) ((requestIn c) .ask) (c .wag) (readRow (rowAt t i)) (ask-fits (t .form) (form-in t good) (c .message) (o .was-read)) (row-good i good o)
 
   sound-went : (j : ℕ) → sound (rowAt t j) ≡ true → Went t c → sound (rowAt ((handle t c) .table) j) ≡ true
   unfolding silent refusal

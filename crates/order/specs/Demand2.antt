@@ -1,6 +1,6 @@
 -- Demand 2: the first failing check gives the code, success is given exactly when none fails, what is cut, and what stays. All of it is said
--- of tables of either form (W5): the form of the table decides how many policies a request may bring, what is kept of it, and how a row is laid
--- out.
+-- of tables of either form (W5): the form of the table decides how many policies a request may bring, what is kept of it, how a row is laid
+-- out, and how long a notice is (W6).
 use mathlib.Core.Path.{_≡_}
 use mathlib.Core.Bool.{Bool, true, false, _&&_}
 use mathlib.Core.List.{List, [], _∷_, _++_}
@@ -112,6 +112,7 @@ pub record Unchanged (t : Table) (c : Call) (l : Left) : Type 0 where
   pub cut : l .reply .result .cut ≡ 0
   pub cut-session : l .reply .result .cutSession ≡ 0
   pub cut-host : l .reply .result .cutHost ≡ 0
+  pub cut-realm : l .reply .result .cutRealm ≡ 0
 
 abbrev pub RefusedChangesNothing : Type 0
 RefusedChangesNothing = (t : Table) (c : Call) → eqb ((handle t c) .reply .result .code) 2001 ≡ false → Unchanged t c (handle t c)
@@ -136,7 +137,7 @@ OneToCut = (t : Table) (c : Call) → succeeds t c && exceeds ((requestIn c) .as
 abbrev pub SuccessReply : Type 0
 SuccessReply =
     (t : Table) (c : Call) → succeeds t c ≡ true
-    → (handle t c) .reply ≡ reply c (plain 2001) (placeTaken ((requestIn c) .ask) (said t c)) (cutFor ((requestIn c) .ask) (said t c))
+    → (handle t c) .reply ≡ reply (t .form) c (plain 2001) (placeTaken ((requestIn c) .ask) (said t c)) (cutFor ((requestIn c) .ask) (said t c))
 
 -- On success the row that the lookup finds, a sound one, is replaced by the bytes of what it says afterwards. That is sound
 -- again, and reads as it was meant.

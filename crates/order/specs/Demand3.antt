@@ -1,5 +1,5 @@
 -- Demand 3: order between subscribers does not matter. A list of calls is run on one table, and no call changes the form of a table (`FormStays`):
--- so the form is the same for all calls of a list, and what depends on how messages are read takes that form (W5).
+-- so the form is the same for all calls of a list, and what depends on how messages are read (W5) or on how long a notice is (W6) takes that form.
 use mathlib.Core.Path.{_≡_}
 use mathlib.Core.Bool.{Bool, true, false, _&&_}
 use mathlib.Core.List.{List, [], _∷_, _++_, map}
@@ -10,8 +10,9 @@ use Rattle.octets.specs.Choice.{pick, require, firstOf}
 use Rattle.octets.specs.Lists.{keep}
 use Rattle.octets.specs.Texts.{same, put}
 use Rattle.message.specs.ReadingAMessage.{Reading, refused, request, read, headerCode, walkCode, command, avps, startsWith, sessionId, userName, valueOf, fieldCode, fields}
-use Rattle.table.specs.TheTable.{Account, Found, Table, row, nothing, lookup, rowAt}
-use Rattle.rules.specs.Calls.{Call, Result, Reply, Left, ownTests, handle, mostPolicies, run, answerLeast, noticeLength}
+use Rattle.table.specs.TheTable.{Access, Account, Found, Table, row, nothing, lookup, rowAt}
+use Rattle.rules.specs.Calls.{Call, Result, Reply, Left, ownTests, handle, mostPolicies, run, answerLeast, noticeBytes, noticeLength}
+use Rattle.order.specs.Demand2.{cutFor, requestIn, said, succeeds}
 
 -- WHOSE A CALL IS
 
@@ -28,19 +29,19 @@ sameSubject nobody (subscriber b) = false
 sameSubject (subscriber a) nobody = false
 sameSubject (subscriber a) (subscriber b) = sameAccount a b
 
--- The tests that get no answer and do not look at the table: numbers 33 and 2 to 8, in order, 0 where none fails.
-unfoldable pub ownNumber : Call → ℕ
-ownNumber c = firstOf (ownTests c)
+-- The tests that get no answer and do not look at the table but for its form: numbers 33 and 2 to 8, in order, 0 where none fails.
+unfoldable pub ownNumber : (form : ℕ) → Call → ℕ
+ownNumber f c = firstOf (ownTests f c)
 
 -- A message that is refused as it is read is nobody's; any other is that of its operator and of the User-Name in it.
 unfoldable pub sentBy : (operator : ℕ) → Reading → Subject
 sentBy o (refused code) = nobody
 sentBy o (request q) = subscriber (record { operator = o; name = q .user })
 
--- A call that gets no answer, for another reason than the table, is nobody's; any other is its message's. The message is read as for a
+-- A call that gets no answer, for another reason than the table, is nobody's; any other is its message's. Tested and read as for a
 -- table of the form.
 unfoldable pub subject : (form : ℕ) → Call → Subject
-subject f c = pick (eqb (ownNumber c) 0) (sentBy (c .operator) (read (mostPolicies f) (c .message))) nobody
+subject f c = pick (eqb (ownNumber f c) 0) (sentBy (c .operator) (read (mostPolicies f) (c .message))) nobody
 
 unfoldable pub isOf : (form : ℕ) → Subject → Call → Bool
 isOf f who c = sameSubject (subject f c) who
@@ -92,7 +93,7 @@ LastTable = (t : Table) (before : List Call) (c : Call) → (run t (before ++ (c
 -- WHAT A CALL BRINGS AND WHAT IT IS TOLD, whatever stands in its rooms: a caller may lend the same two rooms to all calls, and
 -- then what stands in them depends on the calls before.
 
--- What a call brings; of the two rooms only whether they are large enough, by the numbers 3 and 4.
+-- What a call brings to a table of the form; of the two rooms only whether they are large enough, by the numbers 3 and 4.
 pub record Brought : Type 0 where
   pub operator : ℕ
   pub message : List ℕ
@@ -102,47 +103,53 @@ pub record Brought : Type 0 where
   pub noticeFits : Bool
   pub wag : Bool
 
-unfoldable pub brought : Call → Brought
-brought c =
+unfoldable pub brought : (form : ℕ) → Call → Brought
+brought f c =
     record {
       operator = c .operator;
       message = c .message;
       host = c .host;
       realm = c .realm;
       answerFits = leb answerLeast (length (c .answer));
-      noticeFits = leb noticeLength (length (c .notice));
+      noticeFits = leb (noticeLength f) (length (c .notice));
       wag = c .wag;
     }
 
--- What a reply tells: the result, the bytes of the answer, and those of the cut notice, none without a cut.
+-- What a reply tells: the result, the bytes of the answer, and those of a cut notice of the form, none without a cut.
 pub record Told : Type 0 where
   pub result : Result
   pub answer : List ℕ
   pub notice : List ℕ
 
-unfoldable pub told : Reply → Told
-told r =
+unfoldable pub told : (form : ℕ) → Reply → Told
+told f r =
     record {
       result = r .result;
       answer = take (r .result .length) (r .answer);
-      notice = pick (eqb (r .result .cut) 1) (take noticeLength (r .notice)) [];
+      notice = pick (eqb (r .result .cut) 1) (take (noticeLength f) (r .notice)) [];
     }
 
 -- The table after a call, and what it is told, depend on the call only by what it brings.
-pub record SameLeft (l k : Left) : Type 0 where
+pub record SameLeft (form : ℕ) (l k : Left) : Type 0 where
   pub table : l .table ≡ k .table
-  pub reply : told (l .reply) ≡ told (k .reply)
+  pub reply : told form (l .reply) ≡ told form (k .reply)
 
 abbrev pub BroughtDecides : Type 0
-BroughtDecides = (t : Table) (c d : Call) → brought c ≡ brought d → SameLeft (handle t c) (handle t d)
+BroughtDecides = (t : Table) (c d : Call) → brought (t .form) c ≡ brought (t .form) d → SameLeft (t .form) (handle t c) (handle t d)
 
 -- Each room afterwards is as it stood, but for what is told, which is written from its first byte on.
-pub record RoomsOf (c : Call) (r : Reply) : Type 0 where
-  pub answer : r .answer ≡ put (c .answer) 0 ((told r) .answer)
-  pub notice : r .notice ≡ put (c .notice) 0 ((told r) .notice)
+pub record RoomsOf (form : ℕ) (c : Call) (r : Reply) : Type 0 where
+  pub answer : r .answer ≡ put (c .answer) 0 ((told form r) .answer)
+  pub notice : r .notice ≡ put (c .notice) 0 ((told form r) .notice)
 
 abbrev pub RoomsAfter : Type 0
-RoomsAfter = (t : Table) (c : Call) → RoomsOf c ((handle t c) .reply)
+RoomsAfter = (t : Table) (c : Call) → RoomsOf (t .form) c ((handle t c) .reply)
+
+-- Of a cut the whole notice is told: the two texts of form 1, the three of form 2.
+abbrev pub NoticeTold : Type 0
+NoticeTold =
+    (t : Table) (c : Call) (a : Access) → succeeds t c ≡ true → cutFor ((requestIn c) .ask) (said t c) ≡ a ∷ []
+    → (told (t .form) ((handle t c) .reply)) .notice ≡ noticeBytes (t .form) a
 
 -- DEMAND 3. The table is any list of numbers of any form, one that number 1 refuses too. The calls are any, each with its own names,
 -- rooms and word from the WAG.
@@ -164,7 +171,7 @@ LookupStays = (t : Table) (cs : List Call) (a : Account) → lookup ((run t cs) 
 -- Two lists in which a subject's calls bring the same, in the same order. Where all rooms are large enough that is: the same
 -- operator, message, own names and word from the WAG.
 abbrev pub SameBrought : (form : ℕ) → Subject → List Call → List Call → Type 0
-SameBrought f who cs ds = map brought (callsOf f who cs) ≡ map brought (callsOf f who ds)
+SameBrought f who cs ds = map (brought f) (callsOf f who cs) ≡ map (brought f) (callsOf f who ds)
 
 -- If each subscriber's calls bring the same, both lists end with the same table, byte for byte.
 abbrev pub SameTable : Type 0
@@ -176,7 +183,7 @@ SameTable =
 abbrev pub SameReplies : Type 0
 SameReplies =
     (t : Table) (cs ds : List Call) (who : Subject) → SameBrought (t .form) who cs ds
-    → map told (repliesOf (t .form) who cs ((run t cs) .replies)) ≡ map told (repliesOf (t .form) who ds ((run t ds) .replies))
+    → map (told (t .form)) (repliesOf (t .form) who cs ((run t cs) .replies)) ≡ map (told (t .form)) (repliesOf (t .form) who ds ((run t ds) .replies))
 
 abbrev pub SameRecord : Type 0
 SameRecord =
@@ -211,7 +218,7 @@ nameRead most m =
     eqb (firstOf (headerCode m ∷ walkCode m ∷ require (startsWith sessionId (avps m)) 5005 ∷ take 8 (map (fieldCode (avps m)) (fields most (command m) (avps m))))) 0
 
 unfoldable pub sender : (form : ℕ) → Call → Subject
-sender f c = pick (eqb (ownNumber c) 0 && nameRead (mostPolicies f) (c .message)) (subscriber (record { operator = c .operator; name = valueOf userName (avps (c .message)) })) nobody
+sender f c = pick (eqb (ownNumber f c) 0 && nameRead (mostPolicies f) (c .message)) (subscriber (record { operator = c .operator; name = valueOf userName (avps (c .message)) })) nobody
 
 unfoldable pub isBy : (Call → Subject) → Subject → Call → Bool
 isBy owner who c = sameSubject (owner c) who
@@ -247,20 +254,20 @@ RecordAloneBy =
     → recordOf a ((run t cs) .table) ≡ recordOf a ((run t (callsBy owner (subscriber a) cs)) .table)
 
 -- Two lists in which a subject's calls by this counting bring the same.
-abbrev pub SameBroughtBy : (Call → Subject) → Subject → List Call → List Call → Type 0
-SameBroughtBy owner who cs ds = map brought (callsBy owner who cs) ≡ map brought (callsBy owner who ds)
+abbrev pub SameBroughtBy : (form : ℕ) → (Call → Subject) → Subject → List Call → List Call → Type 0
+SameBroughtBy f owner who cs ds = map (brought f) (callsBy owner who cs) ≡ map (brought f) (callsBy owner who ds)
 
 abbrev pub SameTableBy : Type 0
 SameTableBy =
     (t : Table) (owner : Call → Subject) → Counting (t .form) owner → (cs ds : List Call)
-    → ((a : Account) → SameBroughtBy owner (subscriber a) cs ds) → (run t cs) .table ≡ (run t ds) .table
+    → ((a : Account) → SameBroughtBy (t .form) owner (subscriber a) cs ds) → (run t cs) .table ≡ (run t ds) .table
 
 abbrev pub SameRepliesBy : Type 0
 SameRepliesBy =
-    (t : Table) (owner : Call → Subject) → Counting (t .form) owner → (cs ds : List Call) (a : Account) → SameBroughtBy owner (subscriber a) cs ds
-    → map told (repliesBy owner (subscriber a) cs ((run t cs) .replies)) ≡ map told (repliesBy owner (subscriber a) ds ((run t ds) .replies))
+    (t : Table) (owner : Call → Subject) → Counting (t .form) owner → (cs ds : List Call) (a : Account) → SameBroughtBy (t .form) owner (subscriber a) cs ds
+    → map (told (t .form)) (repliesBy owner (subscriber a) cs ((run t cs) .replies)) ≡ map (told (t .form)) (repliesBy owner (subscriber a) ds ((run t ds) .replies))
 
 abbrev pub SameRecordBy : Type 0
 SameRecordBy =
-    (t : Table) (owner : Call → Subject) → Counting (t .form) owner → (cs ds : List Call) (a : Account) → SameBroughtBy owner (subscriber a) cs ds
+    (t : Table) (owner : Call → Subject) → Counting (t .form) owner → (cs ds : List Call) (a : Account) → SameBroughtBy (t .form) owner (subscriber a) cs ds
     → recordOf a ((run t cs) .table) ≡ recordOf a ((run t ds) .table)

@@ -12,15 +12,18 @@ use Rattle.octets.specs.Texts.{same}
 use Rattle.message.specs.ReadingAMessage.{Ask, tunnel, policy, termination}
 use Rattle.table.specs.TheTable.{Account, Entry, Access, Subscriber, Table, row, lookup, isRowOf, rowAt, readRow}
 use Rattle.table.specs.Soundness.{sound, sameLabel}
+use Rattle.changes.specs.Changes.{keptIn}
 use Rattle.rules.specs.Deciding.{entryAt}
 use Rattle.rules.specs.Calls.{Call, Reply, handle, run}
 use Rattle.order.specs.Demand2.{requestIn}
 use Rattle.order.specs.Demand3.{subscriber, subject, isOf}
 
--- A tunnel as the calls show it: its Session-Id, its gateway host, and its W-APN's label as it is entered.
+-- A tunnel as the calls show it: its Session-Id, its gateway's host and realm, the realm as a table of the form keeps it, and its W-APN's label
+-- as it is entered.
 pub record Tunnel : Type 0 where
   pub session : List ℕ
   pub host : List ℕ
+  pub realm : List ℕ
   pub label : List ℕ
 
 -- THE HISTORY
@@ -40,12 +43,12 @@ without session line = keep (λ (x : Tunnel). not (same (x .session) session)) l
 
 -- A request that is answered 2001. Type 0: if there was a cut, the tunnel that the notice names is taken away; then the new
 -- tunnel stands at the end. Type 1: the line stays. Termination: the tunnel with its Session-Id is taken away.
-unfoldable pub lineAfter : List Entry → Ask → Reply → List Tunnel → List Tunnel
-lineAfter es (tunnel session host realm label visited) r line =
+unfoldable pub lineAfter : (form : ℕ) → List Entry → Ask → Reply → List Tunnel → List Tunnel
+lineAfter f es (tunnel session host realm label visited) r line =
     pick (eqb (r .result .cut) 1) (without (sessionCut r) line) line
-    ++ (record { session = session; host = host; label = labelIn es label } ∷ [])
-lineAfter es (policy session first second third) r line = line
-lineAfter es (termination session label) r line = without session line
+    ++ (record { session = session; host = host; realm = keptIn f realm; label = labelIn es label } ∷ [])
+lineAfter f es (policy session first second third) r line = line
+lineAfter f es (termination session label) r line = without session line
 
 -- The subscriber's line after a list of calls, of whomever, from the line before it: each of the subscriber's calls that is
 -- answered 2001 changes it, and no other call does. `rs` holds a reply for each call of `cs`, and `es` are the row's entries; the form is
@@ -55,13 +58,13 @@ history f a es [] rs line = line
 history f a es (c ∷ cs) [] line = line
 history f a es (c ∷ cs) (r ∷ rs) line =
     let own : Bool = isOf f (subscriber a) c && eqb (r .result .code) 2001 in
-    history f a es cs rs (pick own (lineAfter es ((requestIn c) .ask) r line) line)
+    history f a es cs rs (pick own (lineAfter f es ((requestIn c) .ask) r line) line)
 
 -- THE ORDER LINE
 
--- What the order line of row i says, first opened first: of each access its Session-Id, its host and its entry's label.
+-- What the order line of row i says, first opened first: of each access its Session-Id, its host, its realm and its entry's label.
 unfoldable pub tunnelOf : Subscriber → Access → Tunnel
-tunnelOf s a = record { session = a .session; host = a .host; label = (entryAt (a .entry) s) .label }
+tunnelOf s a = record { session = a .session; host = a .host; realm = a .realm; label = (entryAt (a .entry) s) .label }
 
 unfoldable pub tunnels : Subscriber → List Tunnel
 tunnels s = map (tunnelOf s) (s .accesses)
@@ -82,7 +85,7 @@ LineIsHistory =
     → lineOf ((run t cs) .table) i ≡ history (t .form) a (entriesOf t i) cs ((run t cs) .replies) (lineOf t i)
 
 -- The label that is asked for; no bytes where a policy is. The tunnels on a label, in their order. The tunnel that a cut notice
--- names, on that label.
+-- names, on that label, by the three lengths: in form 1 that of the realm is 0.
 unfoldable pub labelAsked : Ask → List ℕ
 labelAsked (tunnel session host realm label visited) = label
 labelAsked (policy session first second third) = []
@@ -92,7 +95,13 @@ unfoldable pub onLabel : (label : List ℕ) → List Tunnel → List Tunnel
 onLabel label line = keep (λ (x : Tunnel). same (x .label) label) line
 
 unfoldable pub tunnelCut : (label : List ℕ) → Reply → Tunnel
-tunnelCut label r = record { session = sessionCut r; host = take (r .result .cutHost) (drop 128 (r .notice)); label = label }
+tunnelCut label r =
+    record {
+      session = sessionCut r;
+      host = take (r .result .cutHost) (drop 128 (r .notice));
+      realm = take (r .result .cutRealm) (drop 256 (r .notice));
+      label = label;
+    }
 
 -- What a call of a subscriber cuts was opened first: of the tunnels on the label that it asks for, as the history of the calls
 -- `before` it has them, the first is the one that its notice names.

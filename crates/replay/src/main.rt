@@ -24,26 +24,27 @@ fn say_field(field: usize) {
         5 => say(b"cut"),
         6 => say(b"cut session"),
         7 => say(b"cut host"),
-        8 => say(b"answer byte "),
-        9 => say(b"answer room, written behind the answer at or after byte "),
-        10 => say(b"notice byte "),
-        11 => say(b"notice room, written behind the notice at or after byte "),
-        12 => say(b"table all zero"),
-        13 => say(b"table byte "),
-        14 => say(b"first digest of the table"),
+        8 => say(b"cut realm"),
+        9 => say(b"answer byte "),
+        10 => say(b"answer room, written behind the answer at or after byte "),
+        11 => say(b"notice byte "),
+        12 => say(b"notice room, written behind the notice at or after byte "),
+        13 => say(b"table all zero"),
+        14 => say(b"table byte "),
+        15 => say(b"first digest of the table"),
         _ => say(b"second digest of the table"),
     }
 }
 
 // The fields that are bytes at a place.
 fn is_placed(field: usize) -> bool {
-    if field < 8 {
+    if field < 9 {
         return false;
     }
-    if field == 12 {
+    if field == 13 {
         return false;
     }
-    field < 14
+    field < 15
 }
 
 fn say_note(call: usize, field: usize, at: usize, expected: usize, got: usize) {
@@ -183,7 +184,7 @@ fn run(
     }
 }
 
-// The rooms besides the table. That for answers is the target of a move too.
+// The rooms besides the table. That for answers is the target of a move and the room of a disconnection too.
 fn run_on(fd: i32, table: &mut [u8], answer: &mut [u8; 65536]) {
     let mut room = [0u8; 65536];
     let mut notice = [0u8; 1024];

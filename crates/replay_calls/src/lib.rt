@@ -1,4 +1,5 @@
 // A call that a record asks for, made on the proved server. `r` is the record's body, `table` the table as long as it is now.
+use abort::Written;
 use effects::Cut;
 use message::Kind;
 use replay_verdict::Got;
@@ -10,7 +11,7 @@ ghost use mathlib.Core.Path.{_≡_};
 ghost use Prim.Native.Nat.{_+_, _*_, _≤_};
 ghost use lib.ListN.{length};
 
-// A set-up operation and a move return their number.
+// A set-up operation and a move return their number, and reading an answer yes or no.
 fn set_up(code: u32) -> Got {
     Got {
         code,
@@ -20,6 +21,21 @@ fn set_up(code: u32) -> Got {
         cut: 0,
         cut_session: 0,
         cut_host: 0,
+        cut_realm: 0,
+    }
+}
+
+// What writing a disconnection returns: its number, and how long the request is.
+fn written(w: Written) -> Got {
+    Got {
+        code: w.number,
+        kind: 0,
+        length: w.length,
+        place: 0,
+        cut: 0,
+        cut_session: 0,
+        cut_host: 0,
+        cut_realm: 0,
     }
 }
 
@@ -44,8 +60,9 @@ fn outcome(o: decision::Outcome) -> Got {
             cut: 0,
             cut_session: 0,
             cut_host: 0,
+            cut_realm: 0,
         },
-        Cut::Lengths(session, host) => Got {
+        Cut::Lengths(session, host, realm) => Got {
             code: o.code,
             kind: kind_number(kind),
             length: o.length,
@@ -53,6 +70,7 @@ fn outcome(o: decision::Outcome) -> Got {
             cut: 1,
             cut_session: session,
             cut_host: host,
+            cut_realm: realm,
         },
     }
 }
@@ -305,4 +323,101 @@ fn move_into(table: &[u8], r: &[u8], target: &mut [u8]) -> Verdict
 {
     let got = set_up(moving::move_table(table, target, octets::read32(r, 0)));
     judged(r, 9, got, table, target, r[8], &r[0..0], 0)
+}
+
+// The three lengths, the two identifiers and the room, then the own names and the notice. The table is neither read nor written.
+pub fn play_abort(table: &[u8], r: &[u8], room: &mut [u8]) -> Verdict
+    requires { ⌜ (length (now r) ≤ 65536) × (length (now room) ≤ 65536) ⌝ }
+{
+    if r.len() < 25 {
+        return Verdict::Damaged;
+    }
+    let host = text_end(r, 25);
+    if r.len() < host {
+        return Verdict::Damaged;
+    }
+    let realm = text_end(r, host);
+    if r.len() < realm {
+        return Verdict::Damaged;
+    }
+    let notice = text_end(r, realm);
+    if r.len() < notice {
+        return Verdict::Damaged;
+    }
+    let n = number(r, 20);
+    if room.len() < n {
+        return Verdict::Damaged;
+    }
+    abort_filled(table, r, host, realm, notice, &mut room[0..n])
+}
+
+// The room is filled before the request is written.
+fn abort_filled(
+    table: &[u8],
+    r: &[u8],
+    host: usize,
+    realm: usize,
+    notice: usize,
+    room: &mut [u8],
+) -> Verdict
+    requires { ⌜ (29 ≤ host) × (host + 4 ≤ realm) × (realm + 4 ≤ notice) × (notice ≤ length (now r)) × (length (now r) ≤ 65536)
+        × (length (now room) ≤ 65536) ⌝ }
+{
+    let seed = r[24];
+    replay_script::fill(room, seed);
+    let got = written(abort_into(r, host, realm, notice, room));
+    judged(r, notice, got, table, room, seed, &r[0..0], 0)
+}
+
+// The request itself.
+fn abort_into(r: &[u8], host: usize, realm: usize, notice: usize, room: &mut [u8]) -> Written
+    requires { ⌜ (29 ≤ host) × (host + 4 ≤ realm) × (realm + 4 ≤ notice) × (notice ≤ length (now r)) × (length (now r) ≤ 65536) ⌝ }
+{
+    let from_realm = host + 4;
+    let from_notice = realm + 4;
+    abort::write(
+        &r[29..host],
+        &r[from_realm..realm],
+        &r[from_notice..notice],
+        number(r, 0),
+        number(r, 4),
+        number(r, 8),
+        octets::read32(r, 12),
+        octets::read32(r, 16),
+        room,
+    )
+}
+
+// Yes is 1.
+fn yes(belongs: bool) -> u32 {
+    if belongs {
+        return 1;
+    }
+    0
+}
+
+// The two identifiers, the Session-Id and the answer.
+pub fn play_answered(table: &[u8], r: &[u8]) -> Verdict
+    requires { ⌜ length (now r) ≤ 65536 ⌝ }
+{
+    if r.len() < 8 {
+        return Verdict::Damaged;
+    }
+    let session = text_end(r, 8);
+    if r.len() < session {
+        return Verdict::Damaged;
+    }
+    let answer = text_end(r, session);
+    if r.len() < answer {
+        return Verdict::Damaged;
+    }
+    let from = session + 4;
+    let belongs = abort::answered(
+        &r[from..answer],
+        &r[12..session],
+        octets::read32(r, 0),
+        octets::read32(r, 4),
+    );
+    let got = set_up(yes(belongs));
+    judged(r, answer, got, table, &r[0..0], 0, &r[0..0], 0)
 }

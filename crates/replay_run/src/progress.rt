@@ -3,7 +3,9 @@ use crate::records::Told;
 use crate::records::announced;
 use crate::records::is_patched;
 use crate::records::only_number;
+use replay_calls::play_abort;
 use replay_calls::play_add;
+use replay_calls::play_answered;
 use replay_calls::play_clear;
 use replay_calls::play_enter;
 use replay_calls::play_handle;
@@ -116,7 +118,7 @@ fn on_end(r: &[u8], p: Progress) -> Turn {
     Turn::End(p)
 }
 
-// The call of a record of type 4 to 7 or 9, on the table as long as it is now.
+// The call of a record of type 4 to 7 or 9 to 11, on the table as long as it is now.
 fn play(kind: u8, table: &mut [u8], r: &[u8], answer: &mut [u8], notice: &mut [u8]) -> Verdict
     requires { ⌜ (length (now r) ≤ 65536) × (length (now answer) ≤ 65536) × (length (now notice) ≤ 65536) ⌝ }
 {
@@ -131,6 +133,12 @@ fn play(kind: u8, table: &mut [u8], r: &[u8], answer: &mut [u8], notice: &mut [u
     }
     if kind == 9 {
         return play_move(table, r, answer);
+    }
+    if kind == 10 {
+        return play_abort(table, r, answer);
+    }
+    if kind == 11 {
+        return play_answered(table, r);
     }
     play_handle(table, r, answer, notice)
 }
@@ -213,7 +221,7 @@ pub fn on_record(
     if kind < 4 {
         return Turn::Broken(Damage::Kind);
     }
-    if 9 < kind {
+    if 11 < kind {
         return Turn::Broken(Damage::Kind);
     }
     let v = play(kind, &mut table[0..n], r, answer, notice);

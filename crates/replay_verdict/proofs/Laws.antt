@@ -145,14 +145,14 @@ changes-lent n m k j table s e f = rw (e, f)
 
 -- THE WHOLE
 
-pub notice-ends : (r : List ℕ) (at e f : ℕ) → e ≡ textEnd r (at + 28) → f ≡ textEnd r e → f ≡ noticeEnd r at
+pub notice-ends : (r : List ℕ) (at e f : ℕ) → e ≡ textEnd r (at + 32) → f ≡ textEnd r e → f ≡ noticeEnd r at
 unfolding noticeEnd answerEnd
 notice-ends r at e f p q = q ∙ ap (textEnd r) p
 
 -- both texts are behind the numbers
-pub behind : (r : List ℕ) (at : ℕ) → (at + 32 ≤ answerEnd r at) × (answerEnd r at + 4 ≤ noticeEnd r at)
+pub behind : (r : List ℕ) (at : ℕ) → (at + 36 ≤ answerEnd r at) × (answerEnd r at + 4 ≤ noticeEnd r at)
 unfolding noticeEnd answerEnd
-behind r at = let first : at + 28 + 4 ≤ textEnd r (at + 28) = after r (at + 28) in (omega arith, after r (textEnd r (at + 28)))
+behind r at = let first : at + 32 + 4 ≤ textEnd r (at + 32) = after r (at + 32) in (omega arith, after r (textEnd r (at + 32)))
 
 module _ (r : List ℕ) (at : ℕ) (g : Got) (table answer : List ℕ) (answerSeed : ℕ) (notice : List ℕ) (noticeSeed : ℕ) where
   pub no-form : length r < noticeEnd r at + 14 → asExpected r at g table answer answerSeed notice noticeSeed ≡ false
@@ -162,7 +162,7 @@ module _ (r : List ℕ) (at : ℕ) (g : Got) (table answer : List ℕ) (answerSe
   pub in-form : noticeEnd r at + 14 ≤ length r
       → asExpected r at g table answer answerSeed notice noticeSeed
       ≡ (answerNumbers r at g && cutNumbers r (at + 16) g)
-      && ((roomAs answerSeed answer (textAt r (at + 28)) && roomAs noticeSeed notice (textAt r (answerEnd r at)))
+      && ((roomAs answerSeed answer (textAt r (at + 32)) && roomAs noticeSeed notice (textAt r (answerEnd r at)))
       && tableAs table (drop (noticeEnd r at) r))
   unfolding asExpected
   in-form h = rw (le-leb (noticeEnd r at + 14) (length r) h)

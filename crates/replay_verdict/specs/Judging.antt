@@ -26,7 +26,7 @@ textEnd r a = pick (ltb (length r) (a + 4)) (a + 4) (a + 4 + net32 r a)
 unfoldable pub textAt : List ℕ → ℕ → List ℕ
 textAt r a = part r (a + 4) (textEnd r a - (a + 4))
 
--- The four numbers from byte a on are those got on the answer, and the three those got on the cut.
+-- The four numbers from byte a on are those got on the answer, and those got on the cut.
 unfoldable pub answerNumbers : List ℕ → ℕ → Got → Bool
 answerNumbers r a g =
     eqb (net32 r a) (g .code)
@@ -38,7 +38,8 @@ unfoldable pub cutNumbers : List ℕ → ℕ → Got → Bool
 cutNumbers r a g =
     eqb (net32 r a) (g .cut)
     && (eqb (net32 r (a + 4)) (g .«cut_session»)
-    && eqb (net32 r (a + 8)) (g .«cut_host»))
+    && (eqb (net32 r (a + 8)) (g .«cut_host»)
+    && eqb (net32 r (a + 12)) (g .«cut_realm»)))
 
 -- A room has the text at its front, and is as before the call behind it.
 unfoldable pub roomAs : (seed : ℕ) (room text : List ℕ) → Bool
@@ -76,19 +77,19 @@ tableAs table s =
     && (changesFrom (net32 s 1) table (part s 5 (length s - 14)) 0
     && digestsAs table (part s (length s - 9) 9))
 
--- Behind seven numbers stands the answer, then the notice, then what is expected of the table.
+-- Behind eight numbers stands the answer, then the notice, then what is expected of the table.
 unfoldable pub answerEnd : List ℕ → ℕ → ℕ
-answerEnd r at = textEnd r (at + 28)
+answerEnd r at = textEnd r (at + 32)
 
 unfoldable pub noticeEnd : List ℕ → ℕ → ℕ
 noticeEnd r at = textEnd r (answerEnd r at)
 
 -- All is as the record expects from its byte `at` on: the record holds both texts and the 14 bytes that are always there,
--- the seven numbers are those got, each room has its text and is otherwise as before the call, and the table is as expected.
+-- the eight numbers are those got, each room has its text and is otherwise as before the call, and the table is as expected.
 unfoldable pub asExpected :
     (r : List ℕ) (at : ℕ) (g : Got) (table answer : List ℕ) (answerSeed : ℕ) (notice : List ℕ) (noticeSeed : ℕ) → Bool
 asExpected r at g table answer answerSeed notice noticeSeed =
     leb (noticeEnd r at + 14) (length r)
     && ((answerNumbers r at g && cutNumbers r (at + 16) g)
-    && ((roomAs answerSeed answer (textAt r (at + 28)) && roomAs noticeSeed notice (textAt r (answerEnd r at)))
+    && ((roomAs answerSeed answer (textAt r (at + 32)) && roomAs noticeSeed notice (textAt r (answerEnd r at)))
     && tableAs table (drop (noticeEnd r at) r)))

@@ -30,6 +30,7 @@ pub struct Got {
     pub cut: u32,
     pub cut_session: usize,
     pub cut_host: usize,
+    pub cut_realm: usize,
 }
 
 fn agrees(v: Verdict) -> bool
@@ -93,15 +94,16 @@ fn answered(r: &[u8], at: usize, g: Got) -> Verdict
     both(code, both(kind, both(length, place)))
 }
 
-// The three numbers at `at`, on the cut.
+// The four numbers at `at`, on the cut.
 fn cut(r: &[u8], at: usize, g: Got) -> Verdict
-    requires { ⌜ (at + 12 ≤ length (now r)) × (length (now r) ≤ 65536) ⌝ }
+    requires { ⌜ (at + 16 ≤ length (now r)) × (length (now r) ≤ 65536) ⌝ }
     ensures { λ x. ⌜ agreed x ≡ cutNumbers (now (r .entry)) at g ⌝ }
 {
     let made = unless(5, number(r, at), g.cut as usize);
     let session = unless(6, number(r, at + 4), g.cut_session);
     let host = unless(7, number(r, at + 8), g.cut_host);
-    both(made, both(session, host))
+    let realm = unless(8, number(r, at + 12), g.cut_realm);
+    both(made, both(session, both(host, realm)))
 }
 
 // The text stands in front of the room; behind it the room is as before the call.
@@ -137,7 +139,7 @@ fn change(table: &[u8], from: usize, text: &[u8]) -> Verdict
     let i = first_unlike(&table[from..to], text);
     if i < n {
         return Verdict::Differs(
-            13,
+            14,
             from + i,
             octets::long(text[i]),
             octets::long(table[from + i]),
@@ -183,8 +185,8 @@ fn digests(table: &[u8], s: &[u8]) -> Verdict
     if s[0] == 0 {
         return Verdict::Agrees;
     }
-    let first = unless(14, number(s, 1), digest(table, 1103515245) as usize);
-    let second = unless(15, number(s, 5), digest(table, 1664525) as usize);
+    let first = unless(15, number(s, 1), digest(table, 1103515245) as usize);
+    let second = unless(16, number(s, 5), digest(table, 1664525) as usize);
     both(first, second)
 }
 
@@ -198,7 +200,7 @@ fn cleared(table: &[u8], mark: u8) -> Verdict
     if octets::all_zero(table) {
         return Verdict::Agrees;
     }
-    Verdict::Differs(12, 0, 1, 0)
+    Verdict::Differs(13, 0, 1, 0)
 }
 
 // What is expected of the table.
@@ -228,7 +230,7 @@ pub fn judged(
     ensures { λ x. ⌜ agreed x ≡ asExpected (now (r .entry)) at g (now (table .entry)) (now (answer .entry)) «answer_seed» (now (notice .entry)) «notice_seed» ⌝ }
 {
     let n = r.len();
-    let a = at + 28;
+    let a = at + 32;
     if n < a {
         return Verdict::Damaged;
     }
@@ -243,8 +245,8 @@ pub fn judged(
     let from_answer = a + 4;
     let from_notice = e + 4;
     let numbers = both(answered(r, at, g), cut(r, at + 16, g));
-    let in_answer = room(8, answer, answer_seed, &r[from_answer..e]);
-    let in_notice = room(10, notice, notice_seed, &r[from_notice..f]);
+    let in_answer = room(9, answer, answer_seed, &r[from_answer..e]);
+    let in_notice = room(11, notice, notice_seed, &r[from_notice..f]);
     let rooms = both(in_answer, in_notice);
     both(numbers, both(rooms, on_table(table, &r[f..n])))
 }

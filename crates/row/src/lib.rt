@@ -185,6 +185,14 @@ pub fn realm(c: &[u8]) -> &[u8]
     &c[8..end]
 }
 
+// Its room, where there is a block, as a cut notice of form 2 has it.
+pub fn realm_room(c: &[u8]) -> &[u8]
+    requires { ⌜ length (now c) ≡ 512 ⌝ }
+    ensures { λ t. ⌜ now t ≡ part (now (c .entry)) 8 128 ⌝ }
+{
+    &c[8..136]
+}
+
 // The second policy.
 pub fn second_policy(c: &[u8]) -> &[u8]
     requires { ⌜ length (now c) % 512 ≡ 0 ⌝ }

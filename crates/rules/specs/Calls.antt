@@ -27,9 +27,9 @@ pub record Call : Type 0 where
   pub notice : List ℕ
   pub wag : Bool
 
--- The result, as seven numbers: how long the answer is; the code, and its kind, 0 for no answer, 1 for a Result-Code and 2 for an
--- Experimental-Result; where a new access stands, 0 if there is none; and of a cut 1 with the lengths of the two texts that the
--- notice holds, all 0 if there was none.
+-- The result, as eight numbers: how long the answer is; the code, and its kind, 0 for no answer, 1 for a Result-Code and 2 for an
+-- Experimental-Result; where a new access stands, 0 if there is none; and of a cut 1 with the lengths of the texts that the notice
+-- holds, all 0 if there was none. The realm's is 0 in form 1 too, where no access has one.
 pub record Result : Type 0 where
   pub length : ℕ
   pub code : ℕ
@@ -38,6 +38,7 @@ pub record Result : Type 0 where
   pub cut : ℕ
   pub cutSession : ℕ
   pub cutHost : ℕ
+  pub cutRealm : ℕ
 
 -- The reply: the result, and all that stands in the two rooms afterwards.
 pub record Reply : Type 0 where
@@ -55,30 +56,31 @@ pub record Left : Type 0 where
 abbrev pub answerLeast : ℕ
 answerLeast = 5120
 
-abbrev pub noticeLength : ℕ
-noticeLength = 256
+-- How long a notice is: two texts of 128 bytes in form 1, three in form 2.
+unfoldable pub noticeLength : (form : ℕ) → ℕ
+noticeLength f = pick (eqb f 2) 384 256
 
 -- The tests that do not look at the table, in order: 33, the operator is over 15; 2, the own host or realm is not 1 to 128 bytes; 3, the answer
--- room is under 5,120 bytes; 4, the notice room is under 256; then the message's own, 5 to 8.
-abbrev pub ownTests : Call → List ℕ
-ownTests c =
+-- room is under 5,120 bytes; 4, the notice room is shorter than a notice of the form; then the message's own, 5 to 8.
+abbrev pub ownTests : (form : ℕ) → Call → List ℕ
+ownTests f c =
     require (leb (c .operator) 15) 33
     ∷ require (within 1 128 (length (c .host)) && within 1 128 (length (c .realm))) 2
     ∷ require (leb answerLeast (length (c .answer))) 3
-    ∷ require (leb noticeLength (length (c .notice))) 4
+    ∷ require (leb (noticeLength f) (length (c .notice))) 4
     ∷ messageNumber (c .message)
     ∷ []
 
 -- Before them 1, the table is not 1 to 1,024 rows. 0 where none fails.
 unfoldable pub callNumber : Table → Call → ℕ
-callNumber t c = firstOf (tableNumber t ∷ ownTests c)
+callNumber t c = firstOf (tableNumber t ∷ ownTests (t .form) c)
 
 -- What such a call leaves: its number as the code, of kind 0, and 0 for everything else; rooms and table as they were.
 unfoldable pub silent : Table → Call → ℕ → Left
 silent t c n =
     record {
       reply = record {
-        result = record { length = 0; code = n; kind = kindOf (none n); place = 0; cut = 0; cutSession = 0; cutHost = 0 };
+        result = record { length = 0; code = n; kind = kindOf (none n); place = 0; cut = 0; cutSession = 0; cutHost = 0; cutRealm = 0 };
         answer = c .answer;
         notice = c .notice;
       };
@@ -87,31 +89,43 @@ silent t c n =
 
 -- THE CUT NOTICE
 
--- The cut access's Session-Id and the host of its gateway, each in 128 bytes with zeros behind it; what the room has past these 256
--- bytes stays, and all of it where nothing is cut.
-unfoldable pub noticeRoom : List Access → List ℕ → List ℕ
-noticeRoom [] room = room
-noticeRoom (a ∷ as') room = filled (a .session) 128 ++ (filled (a .host) 128 ++ drop noticeLength room)
+-- The cut access's Session-Id, the host of its gateway and, in form 2, the gateway's realm, each in 128 bytes with zeros behind it.
+unfoldable pub noticeBytes : (form : ℕ) → Access → List ℕ
+noticeBytes f a = filled (a .session) 128 ++ (filled (a .host) 128 ++ pick (eqb f 2) (filled (a .realm) 128) [])
+
+-- What the room has past these bytes stays, and all of it where nothing is cut.
+unfoldable pub noticeRoom : (form : ℕ) → List Access → List ℕ → List ℕ
+noticeRoom f [] room = room
+noticeRoom f (a ∷ as') room = noticeBytes f a ++ drop (noticeLength f) room
 
 unfoldable pub resultOf : (length place : ℕ) → Code → List Access → Result
 resultOf n place c [] =
-    record { length = n; code = numberOf c; kind = kindOf c; place = place; cut = 0; cutSession = 0; cutHost = 0 }
+    record { length = n; code = numberOf c; kind = kindOf c; place = place; cut = 0; cutSession = 0; cutHost = 0; cutRealm = 0 }
 resultOf n place c (a ∷ as') =
-    record { length = n; code = numberOf c; kind = kindOf c; place = place; cut = 1; cutSession = length (a .session); cutHost = length (a .host) }
+    record {
+      length = n;
+      code = numberOf c;
+      kind = kindOf c;
+      place = place;
+      cut = 1;
+      cutSession = length (a .session);
+      cutHost = length (a .host);
+      cutRealm = length (a .realm);
+    }
 
 -- A CALL THAT IS ANSWERED
 
-unfoldable pub reply : Call → Code → (place : ℕ) → (cut : List Access) → Reply
-reply c code place cut =
+unfoldable pub reply : (form : ℕ) → Call → Code → (place : ℕ) → (cut : List Access) → Reply
+reply f c code place cut =
     record {
       result = resultOf (length (answer (c .message) (c .host) (c .realm) code)) place code cut;
       answer = answerRoom (c .message) (c .host) (c .realm) code (c .answer);
-      notice = noticeRoom cut (c .notice);
+      notice = noticeRoom f cut (c .notice);
     }
 
 -- A refusal: the code, no place, no cut, and the table as it was.
 unfoldable pub refusal : Table → Call → Code → Left
-refusal t c code = record { reply = reply c code 0 []; table = t }
+refusal t c code = record { reply = reply (t .form) c code 0 []; table = t }
 
 -- The table that a verdict on row i leaves: that row is the bytes of what it says then; every code but 2001 leaves the table as it was.
 unfoldable pub tableAfter : Table → ℕ → Verdict → Table
@@ -120,7 +134,7 @@ tableAfter t i v = pick (eqb (numberOf (v .code)) 2001) (withRow t i (rowBytes (
 unfoldable pub settled : Table → Call → ℕ → Verdict → Left
 settled t c i v =
     record {
-      reply = reply c (v .code) (v .place) (v .cut);
+      reply = reply (t .form) c (v .code) (v .place) (v .cut);
       table = tableAfter t i v;
     }
 

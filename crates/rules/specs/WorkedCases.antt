@@ -1,9 +1,9 @@
 -- The worked cases: the twelve with a star as one list, and others that shut out what the twelve let pass.
 use mathlib.Core.Bool.{Bool, true, false, _&&_}
-use mathlib.Core.List.{List, [], _∷_}
+use mathlib.Core.List.{List, [], _∷_, _++_}
 use Prim.Native.Nat.{ℕ, _*_}
 use lib.Dec.{eqb}
-use lib.ListN.{take, drop, replicate}
+use lib.ListN.{length, take, drop, replicate}
 use Rattle.setup.specs.SetUp.{add, clear, enter}
 use Rattle.message.specs.WorkedCases.{board, capitalBoard, case10, case9, endAt, gate, gateway, gatewayRealm, name, openAt, openVisited, ownHost, ownRealm, routeBy, routeByAll, session, yard}
 use Rattle.octets.specs.Lists.{counted}
@@ -34,14 +34,17 @@ startIn f = withLabel (withLabel ((enter ((clear (blank f 1)) .table) oneShare (
 unfoldable pub start : Table
 start = startIn 1
 
--- A call: the server's own names, an answer room of zeros, a notice room in which something stands (each byte once), and
+-- A call: the server's own names, an answer room of zeros, a notice room longer than any notice in which something stands, and
 -- yes from the WAG.
 unfoldable pub noticeBefore : List ℕ
-noticeBefore = counted 0 256
+noticeBefore = counted 0 256 ++ counted 0 144
+
+unfoldable pub askWith : (notice : List ℕ) → (operator : ℕ) → Table → List ℕ → Left
+askWith room o t message =
+    handle t (record { operator = o; message = message; host = ownHost; realm = ownRealm; answer = zeros 5120; notice = room; wag = true })
 
 unfoldable pub askFrom : (operator : ℕ) → Table → List ℕ → Left
-askFrom o t message =
-    handle t (record { operator = o; message = message; host = ownHost; realm = ownRealm; answer = zeros 5120; notice = noticeBefore; wag = true })
+askFrom o t message = askWith noticeBefore o t message
 
 unfoldable pub ask : Table → List ℕ → Left
 ask t message = askFrom 0 t message
@@ -52,13 +55,23 @@ ask t message = askFrom 0 t message
 unfoldable pub noCut : Left → Bool
 noCut l =
     eqb (l .reply .result .cut) 0 && (eqb (l .reply .result .cutSession) 0 && (eqb (l .reply .result .cutHost) 0
-    && same (l .reply .notice) noticeBefore))
+    && (eqb (l .reply .result .cutRealm) 0 && same (l .reply .notice) noticeBefore)))
 
--- The cut of the access of that letter: its texts' lengths, and the notice.
+-- The cut of the access of that letter: its texts' lengths, and the texts at the head of the notice.
+unfoldable pub cutOfBoth : ℕ → Left → Bool
+cutOfBoth letter l =
+    eqb (l .reply .result .cut) 1 && (eqb (l .reply .result .cutSession) 3 && (eqb (l .reply .result .cutHost) 2
+    && (same (take 128 (l .reply .notice)) (filled (session letter) 128) && same (part (l .reply .notice) 128 128) (filled gateway 128))))
+
+-- In form 1 the rest of the room stays; in form 2 the realm comes next, and what is behind it stays.
 unfoldable pub cutOf : ℕ → Left → Bool
 cutOf letter l =
-    eqb (l .reply .result .cut) 1 && (eqb (l .reply .result .cutSession) 3 && (eqb (l .reply .result .cutHost) 2
-    && (same (take 128 (l .reply .notice)) (filled (session letter) 128) && same (drop 128 (l .reply .notice)) (filled gateway 128))))
+    cutOfBoth letter l && (eqb (l .reply .result .cutRealm) 0 && same (drop 256 (l .reply .notice)) (drop 256 noticeBefore))
+
+unfoldable pub cutOf2 : ℕ → Left → Bool
+cutOf2 letter l =
+    cutOfBoth letter l && (eqb (l .reply .result .cutRealm) (length gatewayRealm)
+    && (same (part (l .reply .notice) 256 128) (filled gatewayRealm 128) && same (drop 384 (l .reply .notice)) (drop 384 noticeBefore)))
 
 -- Success: 2001, the place, what is said of a cut, and the order line afterwards.
 unfoldable pub granted : Left → (place : ℕ) → (cut : Left → Bool) → (line : List ℕ) → Bool
@@ -212,7 +225,11 @@ accessSays (a ∷ others) realm first second third =
 unfoldable pub firstSays : Left → (realm first second third : List ℕ) → Bool
 firstSays l realm first second third = accessSays ((readRow (l .table .bytes)) .accesses) realm first second third
 
--- What a table of form 1 may not do, a table of form 2 does: the realm is kept, and up to three policies.
+-- The code of an opening that brings a notice room of so many bytes.
+unfoldable pub inRoom : ℕ → Table → ℕ
+inRoom n t = (askWith (zeros n) 0 t (openAt (session 97) board)) .reply .result .code
+
+-- What a table of form 1 may not do, a table of form 2 does: the realm is kept and told on a cut, and up to three policies are kept.
 unfoldable pub inForm2 : List Bool
 inForm2 =
     let t : Table = startIn 2 in
@@ -234,7 +251,12 @@ inForm2 =
     ∷ eqb ((ask start (routeByAll (session 97) (policyOf 112 1 ∷ policyOf 113 1 ∷ []))) .reply .result .code) 5009
     -- the cut: a goes, c takes its place, and the second block of the place is that of c
     ∷ granted b 2 noCut (1 ∷ 2 ∷ [])
-    ∷ granted c 1 (cutOf 97) (2 ∷ 1 ∷ [])
+    ∷ granted c 1 (cutOf2 97) (2 ∷ 1 ∷ [])
+    -- 4: a notice room must hold a notice of the form
+    ∷ eqb (inRoom 383 t) 4
+    ∷ eqb (inRoom 384 t) 2001
+    ∷ eqb (inRoom 255 start) 4
+    ∷ eqb (inRoom 256 start) 2001
     -- a place that is freed is zero in both blocks
     ∷ allZero (part ((ask (b .table) (endAt (session 97) board)) .table .bytes) 512 1024)
     -- a row of the other length is no row of this form

@@ -55,7 +55,7 @@ fn place_of(n: usize) -> u32 {
 fn cut_of(cut: Cut) -> usize {
     match cut {
         Cut::NoCut => 0,
-        Cut::Lengths(session, _) => session,
+        Cut::Lengths(session, _, _) => session,
     }
 }
 
@@ -94,7 +94,7 @@ fn feed_notice(k: usize, screens: &mut [[u8; 140]], session: &[u8]) -> bool {
 }
 
 // The notice of a cut, of which the Session-Id has n bytes; nothing where there was none.
-fn feed_cut(k: usize, screens: &mut [[u8; 140]], notice: &[u8; 256], n: usize) -> bool {
+fn feed_cut(k: usize, screens: &mut [[u8; 140]], notice: &[u8; 384], n: usize) -> bool {
     let all: &[u8] = notice;
     if n == 0 {
         return true;
@@ -116,7 +116,7 @@ fn serve(
     session: &[u8],
 ) -> bool {
     let mut answer = [0u8; 5120];
-    let mut notice = [0u8; 256];
+    let mut notice = [0u8; 384];
     if !feed_request(k, screens, which, session) {
         return false;
     }

@@ -1,5 +1,6 @@
 // The command that says what messages a file has, as far as it can be followed, or what notices.
 use reader::Step;
+use tool_operator::Number;
 use tool_streams::Source;
 use tool_streams::Way;
 
@@ -58,12 +59,15 @@ fn group(m: &[u8], at: usize) {
     inner(&m[0..end], from);
 }
 
-// What comes of the AVP at a place, where the message is a request and it is not known. Those inside a group are not asked about.
+// What comes of the AVP at a place, where the message is a request to the server and it is not known. Those inside a group are not asked about.
 fn unknown(m: &[u8], at: usize) {
     if m.len() < 20 {
         return;
     }
     if m[4] < 128 {
+        return;
+    }
+    if tool_message_line::is_abort(m) {
         return;
     }
     let step = reader::avp_at(m, at);
@@ -178,26 +182,45 @@ fn decode_hex(path: &[u8]) {
     }
 }
 
-fn decode_notices(path: &[u8]) {
+// The notices of that form, or of the one that the file's length tells where none was said.
+fn decode_notices(path: &[u8], said: u32) {
     let fd = open(path);
-    if 0 <= fd {
-        tool_notices::list(fd, path);
+    if fd < 0 {
+        return;
     }
+    let form = tool_notices::form_of(fd, path, said);
+    if form != 0 {
+        tool_notices::list(fd, path, form);
+    }
+}
+
+fn read_notices(path: &[u8]) {
+    let said = tool_form::only(4);
+    let Number::Is(form) = said else {
+        return;
+    };
+    decode_notices(path, form);
 }
 
 // The word behind the file says what it has, if that is not messages back to back.
 fn decode_as(path: &[u8], word: &[u8]) {
+    if octets::same_bytes(word, b"notices") {
+        read_notices(path);
+        return;
+    }
+    if 4 < os::arg_count() {
+        tool_files::refuse(
+            b"behind FILE there may stand hex, or notices and their form, and nothing else",
+        );
+        return;
+    }
     if octets::same_bytes(word, b"hex") {
         decode_hex(path);
         return;
     }
-    if octets::same_bytes(word, b"notices") {
-        decode_notices(path);
-        return;
-    }
     tool_files::refuse_word(
         word,
-        b": behind FILE there may stand hex or notices, and nothing else",
+        b": behind FILE there may stand hex, or notices and their form, and nothing else",
     );
 }
 

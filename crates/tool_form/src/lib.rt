@@ -75,6 +75,16 @@ pub fn row_length(form: u32) -> usize
     table::row_length(1)
 }
 
+// The bytes of a notice.
+pub fn notice_length(form: u32) -> usize
+    ensures { λ r. ⌜ (1 ≤ r) × (r ≤ 384) ⌝ }
+{
+    if form == 2 {
+        return 384;
+    }
+    256
+}
+
 // The bytes of so many rows.
 pub fn length_of(form: u32, rows: usize) -> usize
     requires { ⌜ rows ≤ 1024 ⌝ }

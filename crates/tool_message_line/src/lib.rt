@@ -124,8 +124,22 @@ fn refusal(out: &mut [u8; 4096], m: &[u8]) -> usize {
     refused(out, b, plain, reasons::reading_failed(m, 1), 1)
 }
 
-// The first test that a message fails: nothing where it passes, or is an answer.
+// Whether a message is one that the server sends and is not sent: an Abort-Session-Request.
+pub fn is_abort(m: &[u8]) -> bool {
+    if m.len() < 20 {
+        return false;
+    }
+    if m[4] < 128 {
+        return false;
+    }
+    octets::read24(m, 5) == 274
+}
+
+// The first test that a message fails: nothing where it passes, or is not for the server.
 pub fn verdict(out: &mut [u8; 4096], m: &[u8]) -> usize {
+    if is_abort(m) {
+        return 0;
+    }
     let n = message::number(m);
     if n == 8 {
         return 0;

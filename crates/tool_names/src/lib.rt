@@ -6,10 +6,12 @@ pub fn result(out: &mut [u8; 4096], at: usize, code: u32) -> usize {
     match code {
         2001 => say(out, at, b"DIAMETER_SUCCESS"),
         3001 => say(out, at, b"DIAMETER_COMMAND_UNSUPPORTED"),
+        3002 => say(out, at, b"DIAMETER_UNABLE_TO_DELIVER"),
         3007 => say(out, at, b"DIAMETER_APPLICATION_UNSUPPORTED"),
         3008 => say(out, at, b"DIAMETER_INVALID_HDR_BITS"),
         3009 => say(out, at, b"DIAMETER_INVALID_AVP_BITS"),
         5001 => say(out, at, b"DIAMETER_AVP_UNSUPPORTED"),
+        5002 => say(out, at, b"DIAMETER_UNKNOWN_SESSION_ID"),
         5003 => say(out, at, b"DIAMETER_AUTHORIZATION_REJECTED"),
         5004 => say(out, at, b"DIAMETER_INVALID_AVP_VALUE"),
         5005 => say(out, at, b"DIAMETER_MISSING_AVP"),
@@ -38,7 +40,7 @@ pub fn no_answer(out: &mut [u8; 4096], at: usize, number: u32) -> usize {
         1 => say(out, at, b"the table is not 1 to 1,024 rows of its form"),
         2 => say(out, at, b"own host or realm is not 1 to 128 bytes"),
         3 => say(out, at, b"the answer room is under 5,120 bytes"),
-        4 => say(out, at, b"the notice room is under 256 bytes"),
+        4 => say(out, at, b"the notice room is shorter than a notice"),
         5 => say(out, at, b"the message is under 20 or over 4,096 bytes"),
         6 => say(out, at, b"the version is not 1"),
         7 => say(
@@ -72,6 +74,21 @@ pub fn set_up(out: &mut [u8; 4096], at: usize, number: u32) -> usize {
         ),
         27 => say(out, at, b"the operator's rows fill its share"),
         33 => say(out, at, b"the operator is over 15"),
+        _ => say(out, at, b"a number without a meaning here"),
+    }
+}
+
+// The number of a disconnection that was not written.
+pub fn not_written(out: &mut [u8; 4096], at: usize, number: u32) -> usize {
+    match number {
+        2 => say(out, at, b"own host or realm is not 1 to 128 bytes"),
+        4 => say(out, at, b"the notice is under 384 bytes"),
+        22 => say(
+            out,
+            at,
+            b"the tunnel's Session-Id, host or realm is not 1 to 128 bytes",
+        ),
+        23 => say(out, at, b"the room is under 1,024 bytes"),
         _ => say(out, at, b"a number without a meaning here"),
     }
 }

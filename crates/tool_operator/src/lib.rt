@@ -46,6 +46,14 @@ fn number_in(text: &[u8], from: usize, end: usize) -> Number {
     Number::Is(n as u32)
 }
 
+// The number that stands behind the first `skip` bytes of word i.
+pub fn number_behind(i: usize, skip: usize) -> Number {
+    let mut word = io::buffer();
+    let n = os::arg(i, &mut word);
+    let all: &[u8] = &word[..n];
+    number_in(all, skip, all.len())
+}
+
 // THE OPERATOR
 
 // What word i says, operator 0 where there is no such word. One that says no number gets its line.

@@ -22,27 +22,28 @@ pub struct Sheets {
     pub notices: i32,
 }
 
-// The answer and, where there was a cut, its notice; whether both are written.
+// The answer and, where there was a cut, its notice, as long as the form has it; whether both are written.
 pub fn keep(
     s: Sheets,
     answers: &[u8],
     notices: &[u8],
+    form: u32,
     o: Outcome,
     answer: &[u8; 5120],
-    notice: &[u8; 256],
+    notice: &[u8; 384],
 ) -> bool {
     if !put(s.answers, answers, answer, o.length) {
         return false;
     }
     let cut = o.cut;
     if tool_totals::is_cut(cut) {
-        return put(s.notices, notices, notice, 256);
+        return put(s.notices, notices, notice, tool_form::notice_length(form));
     }
     true
 }
 
 // The line of a message: what it asks of a table of that form, what came of it, and why; whether it could be said.
-fn tell(k: usize, m: &[u8], form: u32, o: Outcome, why: Why, notice: &[u8; 256]) -> bool {
+fn tell(k: usize, m: &[u8], form: u32, o: Outcome, why: Why, notice: &[u8; 384]) -> bool {
     let mut out = [0u8; 4096];
     let a = number(&mut out, 0, k as u64);
     let b = say(&mut out, a, b". ");
@@ -62,7 +63,7 @@ pub fn tell_unless_quiet(
     form: u32,
     o: Outcome,
     why: Why,
-    notice: &[u8; 256],
+    notice: &[u8; 384],
 ) -> bool {
     if tool_expected::is_expected(o, expected) {
         if quiet {

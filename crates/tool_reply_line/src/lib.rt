@@ -3,6 +3,7 @@ use decision::Outcome;
 use effects::Cut;
 use message::Kind;
 use reasons::Why;
+use tool_notice_line::Lengths;
 use tool_words::number;
 use tool_words::say;
 use tool_words::text;
@@ -78,21 +79,9 @@ fn place(out: &mut [u8; 4096], at: usize, k: usize) -> usize {
 }
 
 // The access that was cut, as the notice has it.
-fn cut(out: &mut [u8; 4096], at: usize, notice: &[u8], session: usize, host: usize) -> usize {
-    if notice.len() < 256 {
-        return at;
-    }
-    if 128 < session {
-        return at;
-    }
-    if 128 < host {
-        return at;
-    }
-    let e = 128 + host;
+fn cut(out: &mut [u8; 4096], at: usize, form: u32, notice: &[u8], l: Lengths) -> usize {
     let a = say(out, at, b", cut ");
-    let b = text(out, a, &notice[0..session]);
-    let c = say(out, b, b" of ");
-    text(out, c, &notice[128..e])
+    tool_notice_line::tunnel(out, a, form, notice, l)
 }
 
 // The code and its name, why it is no success on a table of that form, the place, who was cut.
@@ -102,7 +91,7 @@ pub fn outcome(
     form: u32,
     o: Outcome,
     why: Why,
-    notice: &[u8; 256],
+    notice: &[u8],
 ) -> usize {
     let kind = o.kind;
     let a = code(out, at, kind, o.code);
@@ -111,7 +100,14 @@ pub fn outcome(
     let what = o.cut;
     match what {
         Cut::NoCut => c,
-        Cut::Lengths(session, host) => cut(out, c, notice, session, host),
+        Cut::Lengths(session, host, realm) => {
+            let l = Lengths {
+                session,
+                host,
+                realm,
+            };
+            cut(out, c, form, notice, l)
+        }
     }
 }
 

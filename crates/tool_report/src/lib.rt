@@ -126,7 +126,7 @@ fn kind_of(kind: Kind) -> u32 {
 fn cut_of(cut: Cut) -> u32 {
     match cut {
         Cut::NoCut => 0,
-        Cut::Lengths(_, _) => 1,
+        Cut::Lengths(_, _, _) => 1,
     }
 }
 
@@ -218,7 +218,7 @@ fn count_message(
     path: &[u8],
 ) -> bool {
     let mut answer = [0u8; 5120];
-    let mut notice = [0u8; 256];
+    let mut notice = [0u8; 384];
     let o = decision::handle(
         table,
         d.form,

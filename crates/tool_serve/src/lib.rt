@@ -48,10 +48,10 @@ fn report(
     o: Outcome,
     why: Why,
     answer: &[u8; 5120],
-    notice: &[u8; 256],
+    notice: &[u8; 384],
     t: Totals,
 ) -> Totals {
-    if !tool_outcomes::keep(written_to(d), answers, notices, o, answer, notice) {
+    if !tool_outcomes::keep(written_to(d), answers, notices, d.form, o, answer, notice) {
         return tool_totals::broken(t);
     }
     let u = tool_totals::counted(t, o, tool_expected::is_expected(o, b.expected));
@@ -83,7 +83,7 @@ fn serve_one(
     t: Totals,
 ) -> Totals {
     let mut answer = [0u8; 5120];
-    let mut notice = [0u8; 256];
+    let mut notice = [0u8; 384];
     let wag = b.wag == tool_expected::YES;
     let why = reasons::first_failed(table, d.form, d.op, host, realm, m, wag, &answer, &notice);
     let o = decision::handle(

@@ -1,4 +1,4 @@
-// The two files that `handle` writes, ANSWERS and NOTICES: opened as they are, emptied only once both are known to be files of their own.
+// The files that a command writes, as ANSWERS and NOTICES of `handle`: opened as they are, emptied only once they are known to be files of their own.
 use tool_hold::Held;
 use tool_inputs::Inputs;
 
@@ -74,6 +74,14 @@ fn is_none_of(fd: i32, i: Inputs) -> bool {
     is_apart(fd, i.codes)
 }
 
+// Whether a file is none that the lines go to.
+fn is_unheard(fd: i32) -> bool {
+    if is_apart(fd, libc::STDOUT_FILENO) {
+        return is_apart(fd, libc::STDERR_FILENO);
+    }
+    false
+}
+
 // Whether a file is none of those that are in use otherwise: the table, its lock, the new table, what is read, and what the lines go to.
 fn is_own(fd: i32, h: Held, i: Inputs) -> bool {
     if !is_apart(fd, h.table) {
@@ -88,10 +96,20 @@ fn is_own(fd: i32, h: Held, i: Inputs) -> bool {
     if !is_none_of(fd, i) {
         return false;
     }
-    if is_apart(fd, libc::STDOUT_FILENO) {
-        return is_apart(fd, libc::STDERR_FILENO);
+    is_unheard(fd)
+}
+
+// Whether the mode of a file lets it be written; if not, that is said.
+fn check_mode(fd: i32, path: &[u8]) -> bool {
+    let s = tool_status::of(fd);
+    if !tool_status::is_plain(s) {
+        return true;
     }
-    false
+    if !tool_status::is_writable(s) {
+        tool_files::refuse_word(path, b": its mode does not let it be written");
+        return false;
+    }
+    true
 }
 
 // Whether a file may be written: it is none of the others, and its mode lets it be written. Why not is said.
@@ -103,15 +121,7 @@ fn check_free(fd: i32, path: &[u8], h: Held, i: Inputs) -> bool {
         );
         return false;
     }
-    let s = tool_status::of(fd);
-    if !tool_status::is_plain(s) {
-        return true;
-    }
-    if !tool_status::is_writable(s) {
-        tool_files::refuse_word(path, b": its mode does not let it be written");
-        return false;
-    }
-    true
+    check_mode(fd, path)
 }
 
 // Whether a file is empty from here on; what is no plain file has nothing that could be lost.
@@ -196,4 +206,36 @@ pub fn open(h: Held, i: Inputs, answers: &[u8], notices: &[u8]) -> Sheets {
     give_up(n, notices);
     give_up(a, answers);
     bad()
+}
+
+// ONE FILE
+
+// Whether a file may be written beside one that is read; why not is said.
+fn check_beside(fd: i32, path: &[u8], read: i32) -> bool {
+    if is_apart(fd, read) {
+        if is_unheard(fd) {
+            return check_mode(fd, path);
+        }
+    }
+    tool_files::refuse_word(
+        path,
+        b": in use here already: what is written has to be a file of its own",
+    );
+    false
+}
+
+// A file to be written beside one that is read, open and empty; -1 where nothing is made and nothing changed, which is then said.
+pub fn open_beside(path: &[u8], read: i32) -> i32 {
+    let s = open_one(path);
+    if s.fd < 0 {
+        return -1;
+    }
+    if !check_beside(s.fd, path, read) {
+        give_up(s, path);
+        return -1;
+    }
+    if empty(s.fd, path) {
+        return s.fd;
+    }
+    -1
 }

@@ -52,7 +52,7 @@ fn is_silent(kind: Kind) -> bool {
 pub fn is_cut(cut: Cut) -> bool {
     match cut {
         Cut::NoCut => false,
-        Cut::Lengths(_, _) => true,
+        Cut::Lengths(_, _, _) => true,
     }
 }
 

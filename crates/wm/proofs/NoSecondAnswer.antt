@@ -18,6 +18,7 @@ givenBack l =
         cut = r .cut;
         session = r .cutSession;
         host = r .cutHost;
+        realm = r .cutRealm;
       };
       table = l .table .bytes;
       answer = l .reply .answer;

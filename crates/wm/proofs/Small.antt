@@ -2,12 +2,12 @@
 use mathlib.Core.Path.{_≡_, refl, sym, ap}
 use mathlib.Core.Bool.{Bool, true, _&&_}
 use mathlib.Core.List.{List, [], _∷_}
-use Prim.Native.Nat.{ℕ, _≤_}
+use Prim.Native.Nat.{ℕ, _-_, _*_, _≤_}
 use native.Mathlib.Omega.{arith}
 use borrow.Author.Tests.{eqb-true, eqb-false, leb-true, le-leb}
 use lib.Dec.{eqb, leb}
 use lib.ListN.{length}
-use Rattle.octets.specs.Choice.{within}
+use Rattle.octets.specs.Choice.{pick, within}
 use Rattle.octets.specs.Lists.{every, firstOr, keep}
 use Rattle.octets.proofs.Choice.{by-pick}
 use Rattle.octets.proofs.Lists.{and-left, and-right, both, by-test, every-imp, every-keep, within-high}
@@ -19,29 +19,34 @@ use Rattle.message.proofs.Lengths.{user-length, passing}
 use Rattle.answers.proofs.Writing.{answer-fits}
 use Rattle.table.specs.TheTable.{Access, Subscriber, Found, Table, formOf, row, nothing, lookup, places, readRow, rowAt}
 use Rattle.table.specs.Soundness.{sound}
-use Rattle.table.proofs.Good.{Good, goodAccess, places-eight, standing}
+use Rattle.table.proofs.Good.{Good, goodAccess, places-eight, spare, standing}
+use Rattle.table.proofs.Rows.{form-most}
 use Rattle.table.proofs.Sound.{says-good}
 use Rattle.changes.specs.Changes.{Opening, lowestFree, vacant}
 use Rattle.rules.specs.Deciding.{Verdict, admit, atLimit, atPlace, decide, entryNamed, grant, heldAlready, openOn, refuse, terminate, type0, type1}
 use Rattle.rules.specs.Calls.{account, Call, Left, callNumber, handle, mostPolicies, onReading, onRow, refusal, reply, resultOf, settled, silent}
 use Rattle.decision.specs.Outcomes.{callOf}
+use Rattle.abort.specs.TheDisconnection.{Cut, abortNumber, writeAbort}
+use Rattle.abort.proofs.TheDisconnectionsRules.{true-length}
 use Rattle.wm.specs.InC.{In32}
 use Rattle.decision.proofs.Numbers.{Ready, handled, is-ready, unanswered}
 
 -- texts that a notice has room for
 unfoldable short : Access → Bool
-short a = leb (length (a .session)) 128 && leb (length (a .host)) 128
+short a = leb (length (a .session)) 128 && (leb (length (a .host)) 128 && leb (length (a .realm)) 128)
 
 result-small : (n place : ℕ) (c : Code) (cut : List Access) → n ≤ 5120 → place ≤ 8 → every short cut ≡ true → In32 (resultOf n place c cut)
 unfolding resultOf every short
-result-small n p c [] hn hp hc = record { length-fits = omega arith; place-fits = omega arith; session-fits = omega arith; host-fits = omega arith }
+result-small n p c [] hn hp hc = record { length-fits = omega arith; place-fits = omega arith; session-fits = omega arith; host-fits = omega arith; realm-fits = omega arith }
 result-small n p c (a ∷ others) hn hp hc =
     let here : short a ≡ true = and-left (short a) (every short others) hc in
+    let behind : leb (length (a .host)) 128 && leb (length (a .realm)) 128 ≡ true = and-right (leb (length (a .session)) 128) _ here in
     record {
       length-fits = omega arith;
       place-fits = omega arith;
-      session-fits = omega (arith, leb-true (length (a .session)) 128 (and-left (leb (length (a .session)) 128) (leb (length (a .host)) 128) here));
-      host-fits = omega (arith, leb-true (length (a .host)) 128 (and-right (leb (length (a .session)) 128) (leb (length (a .host)) 128) here));
+      session-fits = omega (arith, leb-true (length (a .session)) 128 (and-left (leb (length (a .session)) 128) _ here));
+      host-fits = omega (arith, leb-true (length (a .host)) 128 (and-left (leb (length (a .host)) 128) (leb (length (a .realm)) 128) behind));
+      realm-fits = omega (arith, leb-true (length (a .realm)) 128 (and-right (leb (length (a .host)) 128) (leb (length (a .realm)) 128) behind));
     }
 
 -- WHAT IS DECIDED ON A SOUND ROW
@@ -56,11 +61,12 @@ unfolding lowestFree
 lowest-most a = first-most (keep (vacant a) places) (every-keep (within 1 8) (vacant a) places (places-eight .1))
 
 all-short : (fm : ℕ) (s : Subscriber) → Good fm s → every short (s .accesses) ≡ true
-unfolding short
+unfolding short spare
 all-short fm s g =
     every-imp (goodAccess fm (length (s .entries))) short
     (λ (x : Access) t. let st = standing (length (s .entries)) x t in
-    both (le-leb _ 128 (within-high 1 128 _ (st .sid-fits))) (le-leb _ 128 (within-high 1 128 _ (st .host-fits))))
+    both (le-leb _ 128 (within-high 1 128 _ (st .sid-fits))) (both (le-leb _ 128 (within-high 1 128 _ (st .host-fits)))
+    (le-leb (length (x .realm)) 128 (omega (arith, leb-true (length (x .realm)) (128 * (fm - 1)) (st .realm-fits), form-most fm (g .form-good))))))
     (s .accesses) (g .accesses-good .each)
 
 abbrev SmallVerdict : Verdict → Type 0
@@ -132,4 +138,13 @@ small t o m host realm room notice wag =
     (λ e. let z : callNumber t c ≡ 0 = eqb-true (callNumber t c) 0 e in
     rw (handled t c z) (reading-small t c (is-ready t o m host realm room notice wag z) (mostPolicies (t .form)) (read (mostPolicies (t .form)) m) refl))
     (λ e. rw (sym (unanswered t c (callNumber t c) refl (eqb-false (callNumber t c) 0 e)))
-    (record { length-fits = omega arith; place-fits = omega arith; session-fits = omega arith; host-fits = omega arith }))
+    (record { length-fits = omega arith; place-fits = omega arith; session-fits = omega arith; host-fits = omega arith; realm-fits = omega arith }))
+
+-- A REQUEST TO A GATEWAY has at most 712 bytes.
+
+pub abort-small : (host realm : List ℕ) (c : Cut) (hop end : ℕ) (room : List ℕ) → (writeAbort host realm c hop end room) .size ≤ 712
+unfolding writeAbort pick
+abort-small host realm c hop end room =
+    by-test (eqb (abortNumber host realm c room) 0)
+    (λ e. true-length host realm c hop end room (eqb-true (abortNumber host realm c room) 0 e) .3)
+    (λ e. rw e (omega arith))

@@ -1,4 +1,4 @@
-// The server for C: its operations under their C names (include/wm.h), and those of the report and of the screen board.
+// The server for C: its operations under their C names (include/wm.h), and those of the disconnection, of the report and of the screen board.
 use decision::Outcome;
 use effects::Cut;
 use message::Kind;
@@ -6,19 +6,22 @@ use report::Ratio;
 use screen::Count;
 ghost use mathlib.Core.Path.{_≡_};
 ghost use Prim.Native.Nat.{ℕ, _<_};
+ghost use Rattle.octets.specs.Choice.{pick};
 ghost use Rattle.message.specs.Codes.{kindOf};
 ghost use Rattle.message.specs.Kinds.{codeFrom};
 ghost use Rattle.table.specs.Answers.{lent};
 ghost use Rattle.setup.specs.SetUp.{left, clear, enter, add};
 ghost use Rattle.moving.specs.Moving.{move};
 ghost use Rattle.rules.specs.Calls.{handle};
-ghost use Rattle.decision.specs.Outcomes.{callOf, cutHost, cutMade, cutSession, resultSaid};
+ghost use Rattle.decision.specs.Outcomes.{callOf, cutHost, cutMade, cutRealm, cutSession, resultSaid};
+ghost use Rattle.abort.specs.TheDisconnection.{belongs, writeAbort};
+ghost use Rattle.abort.specs.Code.{cutOf};
 ghost use Rattle.report.specs.TheReport.{count, add as addReport};
 ghost use Rattle.report.specs.Rates.{rate};
 ghost use Rattle.report.specs.Code.{toldBy, leaves, ratioSaid};
 ghost use Rattle.screen.specs.TheBoard.{feedRequest, feedResult, feedNotice, countConnected};
 ghost use Rattle.screen.specs.Code.{boardOf, leaves as leavesBoard, countSaid};
-ghost use Rattle.wm.specs.InC.{leavesInC, saidInC, In32};
+ghost use Rattle.wm.specs.InC.{leavesInC, saidInC, writtenInC, In32};
 
 // SET-UP: 0 on success, else the number
 
@@ -77,6 +80,7 @@ pub struct WmOutcome {
     pub cut: u32,
     pub session: u32,
     pub host: u32,
+    pub realm: u32,
 }
 
 fn narrow(n: usize) -> u32
@@ -101,7 +105,7 @@ fn cut_in_c(cut: Cut) -> u32
 {
     match cut {
         Cut::NoCut => 0,
-        Cut::Lengths(session, host) => 1,
+        Cut::Lengths(session, host, realm) => 1,
     }
 }
 
@@ -111,7 +115,7 @@ fn session_in_c(cut: Cut) -> u32
 {
     match cut {
         Cut::NoCut => 0,
-        Cut::Lengths(session, host) => narrow(session),
+        Cut::Lengths(session, host, realm) => narrow(session),
     }
 }
 
@@ -121,7 +125,17 @@ fn host_in_c(cut: Cut) -> u32
 {
     match cut {
         Cut::NoCut => 0,
-        Cut::Lengths(session, host) => narrow(host),
+        Cut::Lengths(session, host, realm) => narrow(host),
+    }
+}
+
+fn realm_in_c(cut: Cut) -> u32
+    requires { ⌜ cutRealm cut < 4294967296 ⌝ }
+    ensures { λ r. ⌜ r ≡ cutRealm cut ⌝ }
+{
+    match cut {
+        Cut::NoCut => 0,
+        Cut::Lengths(session, host, realm) => narrow(realm),
     }
 }
 
@@ -139,6 +153,7 @@ fn outcome_in_c(o: Outcome) -> WmOutcome
         cut: cut_in_c(cut),
         session: session_in_c(cut),
         host: host_in_c(cut),
+        realm: realm_in_c(cut),
     }
 }
 
@@ -159,6 +174,60 @@ pub extern "C" fn wm_handle(
         ≡ handle (lent form (now (table .entry))) (callOf op (now (message .entry)) (now (host .entry)) (now (realm .entry)) (now (answer .entry)) (now (notice .entry)) wag) ⌝ }
 {
     outcome_in_c(decision::handle(table, form, op, host, realm, message, wag, answer, notice))
+}
+
+// THE DISCONNECTION: 0, or 2, 4, 22 and 23, with which the room is as it was
+
+// What was written, in C's numbers.
+#[repr(C)]
+pub struct WmWritten {
+    pub number: u32,
+    pub length: u32,
+}
+
+// The request that asks a gateway to end the access of a notice, with the lengths that came with it.
+#[no_mangle]
+pub extern "C" fn wm_abort(
+    host: &[u8],
+    realm: &[u8],
+    notice: &[u8],
+    cut_session: u32,
+    cut_host: u32,
+    cut_realm: u32,
+    hop: u32,
+    end: u32,
+    room: &mut [u8],
+) -> WmWritten
+    ensures { λ r. ⌜ writtenInC r (now (room .exit))
+        ≡ writeAbort (now (host .entry)) (now (realm .entry)) (cutOf (now (notice .entry)) «cut_session» «cut_host» «cut_realm») hop end (now (room .entry)) ⌝ }
+{
+    let w = abort::write(
+        host,
+        realm,
+        notice,
+        cut_session as usize,
+        cut_host as usize,
+        cut_realm as usize,
+        hop,
+        end,
+        room,
+    );
+    let length = narrow(w.length);
+    WmWritten {
+        number: w.number,
+        length: length,
+    }
+}
+
+// Whether an answer belongs to the request with this Session-Id and these identifiers: 1, else 0.
+#[no_mangle]
+pub extern "C" fn wm_abort_answered(answer: &[u8], session: &[u8], hop: u32, end: u32) -> u32
+    ensures { λ r. ⌜ r ≡ pick (belongs (now (answer .entry)) (now (session .entry)) hop end) 1 0 ⌝ }
+{
+    if abort::answered(answer, session, hop, end) {
+        return 1;
+    }
+    0
 }
 
 // THE YEAR BY HOUR: 0, or 29 and 30, with which the report is as it was

@@ -73,6 +73,26 @@ fn expecting() {
     line(b"play decode FILE notices          the notices of a file: Session-Id and gateway\n");
 }
 
+// The commands on the disconnection of what was cut.
+fn disconnecting() {
+    line(b"play abort NOTICES REQUESTS HOST REALM [first=N]\n");
+    line(
+        b"                                  a request to disconnect (Abort-Session-Request) for each notice of a table of\n",
+    );
+    line(
+        b"                                  form 2, written to REQUESTS; HOST and REALM are the server's own names, and\n",
+    );
+    line(
+        b"                                  both identifiers count from N, otherwise from 1. Notices hold no lengths: a\n",
+    );
+    line(b"                                  text is taken without the zeros behind it\n");
+    line(b"play abort-answers REQUESTS ANSWERS\n");
+    line(
+        b"                                  which answers belong to which requests, and which requests have none; the\n",
+    );
+    line(b"                                  status is 1 if an answer belongs to none\n");
+}
+
 // The commands on reports, and the board.
 fn reports() {
     line(b"play report new REPORT            a report by hour, nothing counted\n");
@@ -105,8 +125,9 @@ fn forms() {
         b"4,608 bytes, or of 8,704, which hold the gateway's realm and up to three policies too. Without the word the\n",
     );
     line(
-        b"length of the file tells it; where that fits both forms, as 17 rows of form 1 and 9 of form 2, say it.\n",
+        b"length of the file tells it; where that fits both forms, as 17 rows of form 1 and 9 of form 2, say it. The same\n",
     );
+    line(b"holds of a file of notices: 3 of form 1 are as long as 2 of form 2.\n");
 }
 
 // What else there is, and how files are read.
@@ -120,7 +141,9 @@ fn rest() {
     line(
         b"Messages stand back to back in their files, if it is not said that they are lines of hex; notices\n",
     );
-    line(b"too, of 256 bytes each. The operator is 0 where it is not said.\n");
+    line(
+        b"too, of 256 bytes each on a table of form 1 and of 384 on one of form 2. The operator is 0 where it is not said.\n",
+    );
     forms();
 }
 
@@ -128,6 +151,7 @@ pub fn say() {
     tables();
     serving();
     expecting();
+    disconnecting();
     reports();
     rest();
 }
@@ -181,7 +205,11 @@ fn is_other(word: &[u8]) -> bool {
     ) {
         return true;
     }
-    if is_used(word, b"decode", b"usage: play decode FILE [hex|notices]") {
+    if is_used(
+        word,
+        b"decode",
+        b"usage: play decode FILE [hex|notices [form=1|form=2]]",
+    ) {
         return true;
     }
     if is_used(
@@ -198,9 +226,28 @@ fn is_other(word: &[u8]) -> bool {
     )
 }
 
+// Likewise, on the disconnection.
+fn is_told(word: &[u8]) -> bool {
+    if is_used(
+        word,
+        b"abort",
+        b"usage: play abort NOTICES REQUESTS HOST REALM [first=N] [form=1|form=2]",
+    ) {
+        return true;
+    }
+    is_used(
+        word,
+        b"abort-answers",
+        b"usage: play abort-answers REQUESTS ANSWERS",
+    )
+}
+
 // What was meant can not be done with these words.
 pub fn refuse(word: &[u8]) {
     if is_set_up(word) {
+        return;
+    }
+    if is_told(word) {
         return;
     }
     if is_other(word) {

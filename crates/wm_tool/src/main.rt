@@ -43,6 +43,35 @@ fn is_set_up(word: &[u8], table: &mut [u8]) -> bool {
     false
 }
 
+// The commands on the disconnection of what was cut; whether it is one of them. The requests that were sent stand in the room.
+fn is_told(word: &[u8], room: &mut [u8]) -> bool {
+    if is_called(word, b"abort", 6, 8) {
+        tool_abort::run();
+        return true;
+    }
+    if is_called(word, b"abort-answers", 4, 4) {
+        tool_abort_answers::run(room);
+        return true;
+    }
+    false
+}
+
+// The commands of the products above the server: the disconnection, the report and the board.
+fn run_above(word: &[u8], table: &mut [u8]) {
+    if is_told(word, table) {
+        return;
+    }
+    if is_called(word, b"report", 4, 9) {
+        tool_report::run(table);
+        return;
+    }
+    if is_called(word, b"board", 5, 6) {
+        tool_board::run(table);
+        return;
+    }
+    help::refuse(word);
+}
+
 // A command, with a room for its table, and one to spare for a command that makes a second.
 fn run(word: &[u8], table: &mut [u8], spare: &mut [u8]) {
     if is_set_up(word, table) {
@@ -60,19 +89,11 @@ fn run(word: &[u8], table: &mut [u8], spare: &mut [u8]) {
         tool_handle::handle(table);
         return;
     }
-    if is_called(word, b"decode", 3, 4) {
+    if is_called(word, b"decode", 3, 5) {
         tool_decode::decode();
         return;
     }
-    if is_called(word, b"report", 4, 9) {
-        tool_report::run(table);
-        return;
-    }
-    if is_called(word, b"board", 5, 6) {
-        tool_board::run(table);
-        return;
-    }
-    help::refuse(word);
+    run_above(word, table);
 }
 
 // THE ROOMS. They are on the stack. A room has one byte more than the longest table in it, by which a longer file is told.

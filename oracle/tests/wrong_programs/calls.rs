@@ -69,6 +69,11 @@ pub fn rewritten(rules: &Rules, call: Call, change: fn(&mut [u8])) -> Outcome {
     outcome
 }
 
+/// How long a notice room has to be, by the form that is said.
+fn least_notice(call: &Call) -> usize {
+    Form::numbered(call.form).map_or(0, Form::notice)
+}
+
 pub fn programs() -> Vec<Wrong> {
     let mut all = wrong! {
         "answers 5012 to all": handle = |r, call| same_code_for_all(r, call, plain(5012));
@@ -81,7 +86,7 @@ pub fn programs() -> Vec<Wrong> {
             o.length = o.length.saturating_sub(20)
         });
         "no lengths of the cut texts": handle = |r, call| then(r, call, |o| {
-            o.cut = o.cut.map(|_| (0, 0))
+            o.cut = o.cut.map(|_| [0; 3])
         });
         "takes every failure for a Result-Code": handle = |r, call| then(r, call, |o| {
             if let Code::Experimental(n) = o.code { o.code = plain(n) }
@@ -106,7 +111,7 @@ pub fn programs() -> Vec<Wrong> {
         };
         "tests the notice room before the answer room": no_answer = |r, call| {
             match no_answer(r, call) {
-                3 if call.notice_room.len() < 256 => 4,
+                3 if call.notice_room.len() < least_notice(call) => 4,
                 number => number,
             }
         };
@@ -116,7 +121,7 @@ pub fn programs() -> Vec<Wrong> {
         };
         "rooms have to be larger": no_answer = |r, call| match no_answer(r, call) {
             0 if call.answer_room.len() == 5_120 => 3,
-            0 if call.notice_room.len() == 256 => 4,
+            0 if call.notice_room.len() == least_notice(call) => 4,
             number => number,
         };
         "does not limit own names": no_answer = |r, call| match no_answer(r, call) {

@@ -3,14 +3,12 @@
 
 use oracle::Code;
 use oracle::deciding::*;
-use oracle::handling::no_answer;
 use oracle::moving::*;
 use oracle::plain;
 use oracle::reading_a_message::*;
 use oracle::rules::Rules;
 use oracle::set_up::{shares_fit, table_fits};
 use oracle::the_table::*;
-use oracle::writing_the_answer::notice;
 
 use crate::{RIGHT, Wrong};
 
@@ -50,14 +48,6 @@ fn said() -> Vec<Wrong> {
         "looks for rows of form 1 in form 2": find = |_, form, table, operator, name| {
             let index = find(Form::One, table, operator, name)?;
             Some(index).filter(|i| (i + 1) * form.row() <= table.len())
-        };
-        "wants a notice room of 384 bytes in form 2": no_answer = |r, call| match no_answer(r, call) {
-            0 if call.form == 2 && call.notice_room.len() < 384 => 4,
-            number => number,
-        };
-        "writes the realm into the notice": notice = |room, cut| {
-            notice(room, cut);
-            put(room, 256, &cut.realm);
         };
     }
 }

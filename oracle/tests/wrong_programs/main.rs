@@ -8,6 +8,7 @@ macro_rules! wrong {
     };
 }
 
+mod aborts;
 mod calls;
 mod deciding;
 mod forms;
@@ -18,9 +19,10 @@ mod reading;
 mod table;
 mod writing;
 
+use oracle::disconnecting::{ANSWER_TESTS, Abort, Sent, Written};
 use oracle::generator::generate;
 use oracle::handling::{Call, no_answer};
-use oracle::program::Program;
+use oracle::program::{Operation, Program};
 use oracle::reading_a_message::{Name, is, walk};
 use oracle::rules::{DOCUMENT_01, Rules};
 use oracle::script::{Record, judge};
@@ -45,9 +47,10 @@ fn the_right_program_is_not_told_apart() {
 
 #[test]
 fn every_wrong_program_is_told_apart() {
-    let records = generate(12, 15_000).records;
+    let records = generate(12, 18_000).records;
     let mut unnoticed: Vec<String> = Vec::new();
     let mut programs = [
+        aborts::notices(),
         calls::programs(),
         reading::programs(),
         lists::programs(),
@@ -60,7 +63,7 @@ fn every_wrong_program_is_told_apart() {
         writing::programs(),
     ]
     .concat();
-    assert!(programs.len() > 260);
+    assert!(programs.len() > 275);
     for (name, rules) in &mut programs {
         if told_apart(rules, &records).is_none() {
             unnoticed.push(name.to_string());
@@ -74,6 +77,41 @@ fn every_wrong_program_is_told_apart() {
     }
     if told_apart(&mut Echo::default(), &records).is_none() {
         unnoticed.push("echoes success after the first message".to_string());
+    }
+    assert!(unnoticed.is_empty(), "not told apart: {unnoticed:#?}");
+}
+
+/// The programs that differ in nothing but what is written and judged for a
+/// disconnection: the calls of that alone have to tell.
+#[test]
+fn every_wrong_disconnection_is_told_apart() {
+    let mut records = generate(13, 12_000).records;
+    records.retain(|record| {
+        matches!(
+            record,
+            Record::Call(Operation::Abort(_) | Operation::Answered(_), _)
+        )
+    });
+    assert!(records.len() > 400);
+    for record in &mut records {
+        if let Record::Call(_, expected) = record {
+            expected.digests = None;
+        }
+    }
+    assert_eq!(told_apart(&mut DOCUMENT_01.clone(), &records), None);
+    let mut unnoticed: Vec<String> = Vec::new();
+    let mut programs = aborts::programs();
+    assert!(programs.len() > 110);
+    for (name, rules) in &mut programs {
+        if told_apart(rules, &records).is_none() {
+            unnoticed.push(name.to_string());
+        }
+    }
+    for left_out in 0..ANSWER_TESTS.len() {
+        let mut rules = without_answer_test(left_out);
+        if told_apart(&mut rules, &records).is_none() {
+            unnoticed.push(format!("does not make test {left_out} of an answer"));
+        }
     }
     assert!(unnoticed.is_empty(), "not told apart: {unnoticed:#?}");
 }
@@ -103,6 +141,14 @@ impl Program for Echo {
         RIGHT.clone().move_table(source, target, form)
     }
 
+    fn abort(&mut self, abort: &Abort, room: &mut [u8]) -> Written {
+        RIGHT.clone().abort(abort, room)
+    }
+
+    fn belongs(&mut self, sent: &Sent, answer: &[u8]) -> bool {
+        RIGHT.clone().belongs(sent, answer)
+    }
+
     fn handle(&mut self, call: Call) -> Outcome {
         if no_answer(&RIGHT, &call) != 0 || !self.handled {
             self.handled = true;
@@ -124,6 +170,16 @@ fn without_condition(left_out: usize) -> Rules {
     kept.remove(left_out);
     Rules {
         conditions: kept.leak(),
+        ..RIGHT
+    }
+}
+
+/// A program for which one test of an answer (W6) does not count.
+fn without_answer_test(left_out: usize) -> Rules {
+    let mut kept = ANSWER_TESTS.to_vec();
+    kept.remove(left_out);
+    Rules {
+        answer_tests: kept.leak(),
         ..RIGHT
     }
 }

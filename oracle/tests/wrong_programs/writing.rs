@@ -148,17 +148,18 @@ pub fn programs() -> Vec<Wrong> {
         "exchanges the two identifiers": handle = |r, call| rewritten(r, call, |answer| {
             if let Some(both) = answer.get_mut(12..20) { both.rotate_left(4) }
         });
-        "writes no notice": notice = |_, _| ();
-        "leaves old bytes behind the notice's texts": notice = |room, cut| {
+        "writes no notice": notice = |_, _, _| ();
+        "leaves old bytes behind the notice's texts": notice = |form, room, cut| {
             put(room, 0, &cut.session);
             put(room, 128, &cut.host);
+            if form == Form::Two { put(room, 256, &cut.realm) }
         };
-        "clears the room behind the notice": notice = |room, cut| {
+        "clears the room behind the notice": notice = |form, room, cut| {
             room.fill(0);
-            notice(room, cut);
+            notice(form, room, cut);
         };
-        "writes the host right behind the session": notice = |room, cut| {
-            notice(room, &Access { host: Vec::new(), ..cut.clone() });
+        "writes the host right behind the session": notice = |form, room, cut| {
+            notice(form, room, &Access { host: Vec::new(), ..cut.clone() });
             put(room, cut.session.len(), &cut.host);
         };
         "clears the rest of the answer room": handle = |r, call| {

@@ -1,4 +1,4 @@
--- Three numbers in their order.
+-- Four numbers in their order.
 use mathlib.Core.Path.{refl}
 use Rattle.replay_verdict.specs.Judging.{cutNumbers}
 use Rattle.replay_verdict.proofs.Laws.{two, numbers}
@@ -33,18 +33,31 @@ number-requires-3 c κs = search needs
 unless-requires-3 : tie.Need-unless-requires-3
 unless-requires-3 c κs = search needs
 
+add-number-3 : tie.Need-add-number-3
+add-number-3 c = search needs
+
+number-requires-4 : tie.Need-number-requires-4
+number-requires-4 c κs = search needs
+
+unless-requires-4 : tie.Need-unless-requires-4
+unless-requires-4 c κs = search needs
+
 both-requires : tie.Need-both-requires
 both-requires c κs = search needs
 
 both-requires-2 : tie.Need-both-requires-2
 both-requires-2 c κs = search needs
 
+both-requires-3 : tie.Need-both-requires-3
+both-requires-3 c κs = search needs
+
 returns : tie.Need-returns
 unfolding cutNumbers
 returns c =
-    two (c .both2 .ensures) (numbers (c .before .before .before .before .before .before .unless .ensures) (c .before .before .before .before .before .before .before .before .number .ensures .0) refl)
-    (two (c .before .both .ensures) (numbers (c .before .before .before .before .unless2 .ensures) (c .before .before .before .before .before .number2 .ensures .0) refl)
-    (numbers (c .before .before .unless3 .ensures) (c .before .before .before .number3 .ensures .0) refl))
+    two (c .both3 .ensures) (numbers (c .before .before .before .before .before .before .before .before .before .unless .ensures) (c .before .before .before .before .before .before .before .before .before .before .before .number .ensures .0) refl)
+    (two (c .before .both2 .ensures) (numbers (c .before .before .before .before .before .before .before .unless2 .ensures) (c .before .before .before .before .before .before .before .before .number2 .ensures .0) refl)
+    (two (c .before .before .both .ensures) (numbers (c .before .before .before .before .before .unless3 .ensures) (c .before .before .before .before .before .before .number3 .ensures .0) refl)
+    (numbers (c .before .before .before .unless4 .ensures) (c .before .before .before .before .number4 .ensures .0) refl)))
 
 pub cut-spec : {M : Type 1} → statement M
 cut-spec =
@@ -59,6 +72,10 @@ cut-spec =
     add-number-2
     number-requires-3
     unless-requires-3
+    add-number-3
+    number-requires-4
+    unless-requires-4
     both-requires
     both-requires-2
+    both-requires-3
     returns)

@@ -115,7 +115,7 @@ returns-4 c =
     let e = c .before .before .before .before .before .before .before .before .before .before .before .before .before .before .before .text-end in
     let f = c .before .before .before .before .before .before .before .before .before .before .before .before .before .text-end2 in
     let ends = notice-ends r (a .at) (e .result) (f .result) (e .ensures .0) (f .ensures .0) in
-    let in-answer = c .before .before .before .before .before .before .before .room .ensures ∙ ap (roomAs (a .answer-seed) (a .answer .now)) (text-lent r (a .at + 28) (a .at + 28 + 4) (e .result) (omega arith) (e .ensures .0)) in
+    let in-answer = c .before .before .before .before .before .before .before .room .ensures ∙ ap (roomAs (a .answer-seed) (a .answer .now)) (text-lent r (a .at + 32) (a .at + 32 + 4) (e .result) (omega arith) (e .ensures .0)) in
     let in-notice = c .before .before .before .before .before .room2 .ensures
     ∙ ap (roomAs (a .notice-seed) (a .notice .now)) (text-lent r (e .result) (e .result + 4) (f .result) (omega arith) (f .ensures .0))
     ∙ ap (λ (k : ℕ). roomAs (a .notice-seed) (a .notice .now) (textAt r k)) (e .ensures .0) in

@@ -5,10 +5,10 @@ use Rattle.tool_notices.proofs.list.Statement.{statement}
 use Rattle.tool_notices.proofs.list.Tie as tie
 
 abbrev Inv-loop : tie.InvT-loop
-Inv-loop fd path k₀ k = k ≤ 4294967296
+Inv-loop fd path form k₀ k = k ≤ 4294967296
 
 abbrev μ-loop : tie.MeasureT-loop
-μ-loop fd path k₀ k = 4294967296 - k
+μ-loop fd path form k₀ k = 4294967296 - k
 
 loop-holds : tie.Need-loop-holds Inv-loop μ-loop
 loop-holds c = search needs

@@ -9,8 +9,8 @@ use Rattle.wm.proofs.outcome_in_c.Tie as tie
 returns : tie.Need-returns
 unfolding saidInC resultSaid
 returns c =
-    let start = c .before .before .before .before .before .before in
-    rw (c .host-in-c .ensures, c .before .session-in-c .ensures, c .before .before .cut-in-c .ensures, c .before .before .before .narrow2 .ensures, c .before .before .before .before .narrow .ensures, c .before .before .before .before .before .kind-in-c .ensures (start .args .o .code))
+    let start = c .before .before .before .before .before .before .before in
+    rw (c .realm-in-c .ensures, c .before .host-in-c .ensures, c .before .before .session-in-c .ensures, c .before .before .before .cut-in-c .ensures, c .before .before .before .before .narrow2 .ensures, c .before .before .before .before .before .narrow .ensures, c .before .before .before .before .before .before .kind-in-c .ensures (start .args .o .code))
 
 kind-in-c-requires : tie.Need-kind-in-c-requires
 kind-in-c-requires c κs = search needs
@@ -34,6 +34,10 @@ host-in-c-requires : tie.Need-host-in-c-requires
 unfolding resultSaid
 host-in-c-requires c κs = c .before .before .before .before .before .pre .host-fits
 
+realm-in-c-requires : tie.Need-realm-in-c-requires
+unfolding resultSaid
+realm-in-c-requires c κs = c .before .before .before .before .before .before .pre .realm-fits
+
 pub outcome-in-c-spec : {M : Type 1} → statement M
 outcome-in-c-spec =
     tie.close
@@ -44,4 +48,5 @@ outcome-in-c-spec =
     cut-in-c-requires
     session-in-c-requires
     host-in-c-requires
+    realm-in-c-requires
     returns)

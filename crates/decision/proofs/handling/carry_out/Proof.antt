@@ -101,7 +101,7 @@ returns c =
     let b : broughtIn (given .form) (text-was .result .now) (text2-was .result .now) (text3-was .result .now) (text4-was .result .now) (text5-was .result .now) (text6-was .result .now) ≡ brought (given .form) (given .m .now) (given .t) =
     λ i. broughtIn (given .form) (text-was .ensures i) (text2-was .ensures i) (text3-was .ensures i) (text4-was .ensures i) (text5-was .ensures i) (text6-was .ensures i) in (
       carry-was .ensures .0 ∙ ap (λ (x : Brought). tableAfter t (given .i) (planned x (given .plan) s)) b,
-      carry-was .ensures .1 ∙ ap (λ (x : Brought). noticeRoom ((planned x (given .plan) s) .cut) (given .notice .now)) b,
+      carry-was .ensures .1 ∙ ap (λ (x : Brought). noticeRoom (given .form) ((planned x (given .plan) s) .cut) (given .notice .now)) b,
       carry-was .ensures .2 ∙ ap (λ (x : Brought). doneFor (planned x (given .plan) s)) b,
     )
 

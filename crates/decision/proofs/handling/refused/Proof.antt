@@ -11,7 +11,7 @@ returns : tie.Need-returns
 unfolding refusal noticeRoom cutFor
 returns c =
     let a = c .args in
-    (refl, λ o m host realm room table notice wag. answered-is (a .kind) (a .code) (record { at = 0; len = 0 }) o m host realm room notice wag 0 [] table notice refl)
+    (refl, λ o m host realm room table notice wag. answered-is (table .form) (a .kind) (a .code) (record { at = 0; len = 0 }) o m host realm room notice wag 0 [] table notice refl)
 
 pub refused-spec : {M : Type 1} → statement M
 refused-spec = tie.close (tie.spec returns)

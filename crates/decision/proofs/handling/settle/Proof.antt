@@ -100,7 +100,7 @@ returns c =
       },
       λ o host realm room.
           settled-is t (given .i) o m host realm room (given .notice .now) (given .wag) v (kind-of-was .result) (code-of-was .result) (given .user) (carry-out-was .result) _ _
-          coded (carried .0 ∙ ap (tableAfter t (given .i)) is) (carried .1 ∙ ap (λ (x : Verdict). noticeRoom (x .cut) (given .notice .now)) is) (carried .2 ∙ ap doneFor is),
+          coded (carried .0 ∙ ap (tableAfter t (given .i)) is) (carried .1 ∙ ap (λ (x : Verdict). noticeRoom fm (x .cut) (given .notice .now)) is) (carried .2 ∙ ap doneFor is),
     )
 
 pub settle-spec : {M : Type 1} → statement M

@@ -1,0 +1,5 @@
+pub mod Requests
+pub mod Answers
+pub mod WorkedCases
+pub mod Laid
+pub mod TheDisconnectionsRules

@@ -1,0 +1,4 @@
+pub mod TheDisconnection
+pub mod Code
+pub mod TheDisconnectionsRules
+pub mod WorkedCases

@@ -1,0 +1,285 @@
+// The disconnection: asking a gateway to end an access that was cut, and recognizing its answer. It stands above the server and knows
+// of it only how its notice of a cut is laid out.
+use reader::Seen;
+use reader::Step;
+ghost use mathlib.Core.Path.{_≡_};
+ghost use mathlib.Core.Bool.{false, _&&_, _||_};
+ghost use mathlib.Core.List.{List};
+ghost use Prim.Native.Nat.{ℕ, _+_, _≤_, _<_};
+ghost use lib.ListN.{length, drop};
+ghost use Rattle.octets.specs.Choice.{within};
+ghost use Rattle.octets.specs.Texts.{part, put, same};
+ghost use Rattle.message.specs.ReadingAMessage.{base, sameName, sessionId, walk};
+ghost use Rattle.reader.specs.Steps.{seenName};
+ghost use Rattle.abort.specs.TheDisconnection.{abortNumber, header, writeAbort, resultCode, answersTo, answersFor, belongs};
+ghost use Rattle.abort.specs.Code.{cutOf, saying, leaves, Short, Sent, restAnswers, spoilt};
+
+// WRITING THE REQUEST
+
+// A number, 0 where the request was written, and its length.
+pub struct Written {
+    pub number: u32,
+    pub length: usize,
+}
+
+fn is_text(n: usize) -> bool
+    ensures { λ r. ⌜ r ≡ within 1 128 n ⌝ }
+{
+    if n < 1 {
+        return false;
+    }
+    n <= 128
+}
+
+// The number of the first test that fails, for a room of so many bytes.
+fn number(
+    host: &[u8],
+    realm: &[u8],
+    notice: &[u8],
+    cut_session: usize,
+    cut_host: usize,
+    cut_realm: usize,
+    size: usize,
+) -> u32
+    ensures { λ r. ⌜ ((room : List ℕ) → length room ≡ size → r ≡ abortNumber (now (host .entry)) (now (realm .entry)) (cutOf (now (notice .entry)) «cut_session» «cut_host» «cut_realm») room) ⌝ }
+{
+    if !is_text(host.len()) {
+        return 2;
+    }
+    if !is_text(realm.len()) {
+        return 2;
+    }
+    if notice.len() < 384 {
+        return 4;
+    }
+    if !is_text(cut_session) {
+        return 22;
+    }
+    if !is_text(cut_host) {
+        return 22;
+    }
+    if !is_text(cut_realm) {
+        return 22;
+    }
+    if size < 1024 {
+        return 23;
+    }
+    0
+}
+
+// The header of a request of n bytes, which two bytes hold.
+fn put_header(room: &mut [u8], n: usize, hop: u32, end: u32)
+    requires { ⌜ (20 ≤ length (now room)) × (n < 65536) ⌝ }
+    ensures { λ _. ⌜ now (room .exit) ≡ put (now (room .entry)) 0 (header n 192 274 hop end) ⌝ }
+{
+    let head = [
+        1,
+        0,
+        (n / 256 % 256) as u8,
+        (n % 256) as u8,
+        192,
+        0,
+        1,
+        18,
+        0,
+        0,
+        0,
+        1,
+        (hop / 16777216 % 256) as u8,
+        (hop / 65536 % 256) as u8,
+        (hop / 256 % 256) as u8,
+        (hop % 256) as u8,
+        (end / 16777216 % 256) as u8,
+        (end / 65536 % 256) as u8,
+        (end / 256 % 256) as u8,
+        (end % 256) as u8,
+    ];
+    octets::put_bytes(room, 0, &head);
+}
+
+// The request at the start of the room: its length. The AVPs are written first, since the header has the length of all.
+fn put_request(
+    host: &[u8],
+    realm: &[u8],
+    session: &[u8],
+    gateway_host: &[u8],
+    gateway_realm: &[u8],
+    hop: u32,
+    end: u32,
+    room: &mut [u8],
+) -> usize
+    requires { ⌜ Short (saying (now host) (now realm) (now session) (now «gateway_host») (now «gateway_realm») hop end) × (1024 ≤ length (now room)) ⌝ }
+    ensures { λ r. ⌜ Sent (saying (now (host .entry)) (now (realm .entry)) (now (session .entry)) (now («gateway_host» .entry)) (now («gateway_realm» .entry)) hop end) r (now (room .entry)) (now (room .exit)) ⌝ }
+{
+    let a = answers::put_avp(room, 20, 263, session);
+    let b = answers::put_avp(room, a, 264, host);
+    let c = answers::put_avp(room, b, 296, realm);
+    let d = answers::put_avp(room, c, 283, gateway_realm);
+    let e = answers::put_avp(room, d, 293, gateway_host);
+    let size = answers::put_number(room, e, 258, 1);
+    put_header(room, size, hop, end);
+    size
+}
+
+// The Abort-Session-Request for a notice of form 2 and the lengths of its three texts, with the own names and the two identifiers: number
+// 0 and its length, or 2, 4, 22, 23 with nothing written. What stands in the room behind it stays.
+pub fn write(
+    host: &[u8],
+    realm: &[u8],
+    notice: &[u8],
+    cut_session: usize,
+    cut_host: usize,
+    cut_realm: usize,
+    hop: u32,
+    end: u32,
+    room: &mut [u8],
+) -> Written
+    ensures { λ r. ⌜ leaves r (now (room .exit)) ≡ writeAbort (now (host .entry)) (now (realm .entry)) (cutOf (now (notice .entry)) «cut_session» «cut_host» «cut_realm») hop end (now (room .entry)) ⌝ }
+{
+    let n = number(
+        host,
+        realm,
+        notice,
+        cut_session,
+        cut_host,
+        cut_realm,
+        room.len(),
+    );
+    if n != 0 {
+        return Written {
+            number: n,
+            length: 0,
+        };
+    }
+    let host_end = 128 + cut_host;
+    let realm_end = 256 + cut_realm;
+    let session = &notice[0..cut_session];
+    let gateway_host = &notice[128..host_end];
+    let gateway_realm = &notice[256..realm_end];
+    let length = put_request(
+        host,
+        realm,
+        session,
+        gateway_host,
+        gateway_realm,
+        hop,
+        end,
+        room,
+    );
+    Written { number: 0, length }
+}
+
+// RECOGNIZING THE ANSWER
+
+// An answer by its header: to the request with these identifiers.
+fn answers_to(answer: &[u8], hop: u32, end: u32) -> bool
+    ensures { λ r. ⌜ r ≡ answersTo hop end (now (answer .entry)) ⌝ }
+{
+    if message::number(answer) != 8 {
+        return false;
+    }
+    if octets::read24(answer, 5) != 274 {
+        return false;
+    }
+    if octets::read32(answer, 12) != hop {
+        return false;
+    }
+    octets::read32(answer, 16) == end
+}
+
+// Whether an AVP has this code, without V.
+fn is_base(a: Seen, code: u32) -> bool
+    ensures { λ r. ⌜ r ≡ sameName (base code) (seenName a) ⌝ }
+{
+    if 128 <= a.flags {
+        return false;
+    }
+    code == a.code
+}
+
+// Whether an AVP of the answer is the Session-Id sent.
+fn is_session(answer: &[u8], a: Seen, session: &[u8]) -> bool
+    requires { ⌜ a .value + a .len ≤ length (now answer) ⌝ }
+    ensures { λ r. ⌜ r ≡ sameName sessionId (seenName a) && same (part (now (answer .entry)) (a .value) (a .len)) (now (session .entry)) ⌝ }
+{
+    if !is_base(a, 263) {
+        return false;
+    }
+    let from = a.value;
+    let end = from + a.len;
+    octets::same_bytes(&answer[from..end], session)
+}
+
+// Whether an AVP behind the Session-Id shows that the answer does not belong.
+fn is_spoilt(found: bool, a: Seen) -> bool
+    ensures { λ r. ⌜ r ≡ spoilt found a ⌝ }
+{
+    if is_base(a, 263) {
+        return true; // a second Session-Id
+    }
+    if !is_base(a, 268) {
+        return false;
+    }
+    if found {
+        return true; // a second Result-Code
+    }
+    a.len != 4
+}
+
+// Whether a Result-Code is there now: one that was there before, or this AVP.
+fn is_found(found: bool, a: Seen) -> bool
+    ensures { λ r. ⌜ r ≡ found || sameName resultCode (seenName a) ⌝ }
+{
+    if found {
+        return true;
+    }
+    is_base(a, 268)
+}
+
+// The AVPs behind the Session-Id, to the end or to the first for which the answer does not belong.
+fn rest_answers(answer: &[u8], from: usize) -> bool
+    requires { ⌜ from ≤ length (now answer) ⌝ }
+    ensures { λ r. ⌜ r ≡ restAnswers false (walk (drop from (now (answer .entry)))) ⌝ }
+{
+    let mut at: usize = from;
+    let mut found: bool = false;
+    loop {
+        let step = reader::avp_at(answer, at);
+        match step {
+            Step::End => return found,
+            Step::Bad(_) => return false,
+            Step::One(a) => {
+                if is_spoilt(found, a) {
+                    return false;
+                }
+                found = is_found(found, a);
+                at = a.next;
+            }
+        }
+    }
+}
+
+// An answer by its AVPs: for this Session-Id.
+fn answers_for(answer: &[u8], session: &[u8]) -> bool
+    requires { ⌜ 20 ≤ length (now answer) ⌝ }
+    ensures { λ r. ⌜ r ≡ answersFor (now (session .entry)) (walk (drop 20 (now (answer .entry)))) ⌝ }
+{
+    let step = reader::avp_at(answer, 20);
+    let Step::One(a) = step else {
+        return false;
+    };
+    if !is_session(answer, a, session) {
+        return false;
+    }
+    rest_answers(answer, a.next)
+}
+
+// Whether an answer belongs to the request that was sent with this Session-Id and these identifiers.
+pub fn answered(answer: &[u8], session: &[u8], hop: u32, end: u32) -> bool
+    ensures { λ r. ⌜ r ≡ belongs (now (answer .entry)) (now (session .entry)) hop end ⌝ }
+{
+    if !answers_to(answer, hop, end) {
+        return false;
+    }
+    answers_for(answer, session)
+}
