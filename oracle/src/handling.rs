@@ -22,19 +22,45 @@ pub struct Call<'a> {
     pub notice_room: &'a mut [u8],
 }
 
+/// What a call brings besides messages and rooms.
+pub struct Lent<'a> {
+    pub form: u32,
+    pub table: &'a [u8],
+    pub operator: u32,
+    pub host: &'a [u8],
+    pub realm: &'a [u8],
+}
+
+/// The form of the table, or number 1, then 33, then 2: these a burst gives too (W2).
+pub fn lent_form(rules: &Rules, lent: &Lent) -> Result<Form, u16> {
+    let fits = |name: &[u8]| (1..=128).contains(&name.len());
+    let form = form_lent(rules, lent.form, lent.table).ok_or(1u16)?;
+    if !(rules.operator_fits)(lent.operator) {
+        return Err(33);
+    }
+    if !fits(lent.host) || !fits(lent.realm) {
+        return Err(2);
+    }
+    Ok(form)
+}
+
+/// An answer is never longer.
+pub const ANSWER_ROOM: usize = 5_120;
+
 /// Number 1, then 33, then 2 to 8, in this order; 0 for a call that gets an answer.
 pub fn no_answer(rules: &Rules, call: &Call) -> u16 {
-    let fits = |name: &[u8]| (1..=128).contains(&name.len());
-    let Some(form) = form_lent(rules, call.form, call.table) else {
-        return 1;
+    let lent = Lent {
+        form: call.form,
+        table: call.table,
+        operator: call.operator,
+        host: call.host,
+        realm: call.realm,
     };
-    if !(rules.operator_fits)(call.operator) {
-        return 33;
-    }
-    if !fits(call.host) || !fits(call.realm) {
-        return 2;
-    }
-    if call.answer_room.len() < 5_120 {
+    let form = match lent_form(rules, &lent) {
+        Ok(form) => form,
+        Err(number) => return number,
+    };
+    if call.answer_room.len() < ANSWER_ROOM {
         return 3;
     }
     if call.notice_room.len() < form.notice() {

@@ -4,6 +4,7 @@
 //! The first modules bear the names of the paper's headings; the others make calls
 //! and write them down as a script.
 
+pub mod burst;
 pub mod deciding;
 pub mod disconnecting;
 pub mod handling;
@@ -21,6 +22,7 @@ pub mod abort_calls;
 pub mod abort_signs;
 pub mod board_calls;
 pub mod board_report;
+pub mod burst_calls;
 pub mod cases;
 pub mod damages;
 pub mod drafts;
@@ -92,6 +94,21 @@ pub struct Outcome {
 }
 
 impl Outcome {
+    /// Code, kind, length, place, cut, and the lengths of the cut texts.
+    pub fn numbers(&self) -> [u32; 8] {
+        let [session, host, realm] = self.cut.unwrap_or_default();
+        [
+            u32::from(self.code.number()),
+            u32::from(self.code.kind()),
+            self.length as u32,
+            u32::from(self.place),
+            u32::from(self.cut.is_some()),
+            session as u32,
+            host as u32,
+            realm as u32,
+        ]
+    }
+
     pub fn no_answer(number: u16) -> Outcome {
         Outcome {
             code: Code::NoAnswer(number),

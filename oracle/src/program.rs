@@ -253,19 +253,8 @@ fn perform_handle(program: &mut dyn Program, asked: &Asked, table: &mut [u8]) ->
         answer_room: &mut answer_room,
         notice_room: &mut notice_room,
     });
-    let [session, host, realm] = outcome.cut.unwrap_or_default();
-    let numbers = [
-        u32::from(outcome.code.number()),
-        u32::from(outcome.code.kind()),
-        outcome.length as u32,
-        u32::from(outcome.place),
-        u32::from(outcome.cut.is_some()),
-        session as u32,
-        host as u32,
-        realm as u32,
-    ];
     Seen {
-        numbers,
+        numbers: outcome.numbers(),
         answer_room,
         notice_room,
     }

@@ -2,6 +2,7 @@
 //! field. `DOCUMENT_01` holds the right one everywhere, and the program proper knows
 //! no other. The tests build wrong programs by exchanging a single field.
 
+use crate::burst::{Burst, Taken, burst, burst_number, message_length, room_for_one, take};
 use crate::disconnecting::{
     ANSWER_TESTS, Abort, AnswerTest, Sent, Written, abort_avps, abort_header, abort_number,
     abort_texts, belongs, write_abort,
@@ -32,8 +33,8 @@ type AbortTexts = for<'a> fn(&Abort<'a>) -> [&'a [u8]; 3];
 
 #[derive(Clone, Copy)]
 pub struct Rules {
-    // The seven operations. The first four are told by a number which form is lent, the
-    // fifth one to which form the table goes; the last two have no table (W6).
+    // The seven operations that a script has. The first four are told by a number which form
+    // is lent, the fifth one to which form the table goes; the last two have no table (W6).
     pub clear: fn(&Rules, u32, &mut [u8]) -> u8,
     pub enter: fn(&Rules, u32, &mut [u8], &NewRow) -> u8,
     pub add: fn(&Rules, u32, &mut [u8], &Account, &NewEntry) -> u8,
@@ -50,6 +51,12 @@ pub struct Rules {
     pub share_is_full: fn(&Rules, Form, &[u8], &NewRow) -> bool,
     pub row_is_free: fn(&[u8]) -> bool,
     pub may_add: fn(&Row, &NewEntry) -> u8,
+    // A burst (W2).
+    pub burst: fn(&Rules, &mut Burst) -> Taken,
+    pub burst_number: fn(&Rules, &Burst) -> u16,
+    pub message_length: fn(&[u8]) -> Option<usize>,
+    pub room_for_one: fn(Form, usize, usize) -> bool,
+    pub take: fn(&Rules, Form, &mut Burst, &mut Taken, &[u8]),
     // Moving.
     pub row_may_move: fn(&Rules, Form, &[u8]) -> bool,
     pub says_form_1: fn(&Row) -> bool,
@@ -111,6 +118,11 @@ pub const DOCUMENT_01: Rules = Rules {
     share_is_full: |_, form, table, new| share_is_full(form, table, new),
     row_is_free,
     may_add,
+    burst,
+    burst_number,
+    message_length,
+    room_for_one,
+    take,
     row_may_move,
     says_form_1,
     header_tests,

@@ -1,11 +1,13 @@
 //! What one operator may learn of another (W8): searched for counterexamples on pairs of
-//! histories of one operator's calls among those of others.
+//! histories of one operator's calls among those of others, bursts too.
 
+use oracle::burst::{self, Taken, take, whole_messages};
+use oracle::burst_calls::{BurstCall, Written};
 use oracle::deciding::USER_UNKNOWN;
 use oracle::drafts::Draft;
 use oracle::generator::{add, enter, generate, request};
 use oracle::operators::all_rows;
-use oracle::program::{Operation, Seen, perform};
+use oracle::program::{Operation, Room, Seen, perform};
 use oracle::random::Random;
 use oracle::rules::{DOCUMENT_01, Rules};
 use oracle::script::{Record, judge};
@@ -19,6 +21,15 @@ use oracle::the_table::{
 enum Step {
     Enter(Vec<u8>),
     Other(Operation),
+    /// Its table is that of the history.
+    Burst(BurstCall),
+}
+
+/// What a call told; of a burst what it wrote besides the table.
+#[derive(PartialEq)]
+enum Told {
+    Call(Seen),
+    Burst(Taken, Written),
 }
 
 /// Two histories: the same calls of one operator, each among other calls of others.
@@ -31,23 +42,78 @@ struct Pair {
 }
 
 const NAMES: [&[u8]; 4] = [b"1", b"12", b"001010123456789", b"12a"];
+const LABELS: [&[u8]; 2] = [b"board", b"yard"];
 
 /// A call of this operator by chance, on few names, labels and sessions.
 fn step(form: Form, operator: u32, random: &mut Random) -> Step {
-    let name = *random.pick(&NAMES);
-    let label: &[u8] = if random.once_in(2) { b"board" } else { b"yard" };
-    let session = [*random.pick(b"abc")];
-    let draft = match random.below(9) {
-        0..3 => return Step::Enter(name.to_vec()),
+    match random.below(10) {
+        0..3 => Step::Enter(random.pick(&NAMES).to_vec()),
         3 | 4 => {
+            let (name, label) = (*random.pick(&NAMES), *random.pick(&LABELS));
             let limit = 1 + random.below(2) as u8;
-            return Step::Other(add(form, operator, name, label, limit, 2));
+            Step::Other(add(form, operator, name, label, limit, 2))
         }
-        5 => Draft::policy(name, &session, b"pdg", b"permit"),
-        6 => Draft::termination(name, &session, b"pdg", label),
+        5..9 => {
+            let name = *random.pick(&NAMES);
+            let draft = some_request(name, random);
+            Step::Other(request(form, operator, &draft, random.once_in(2), random))
+        }
+        _ => {
+            let name = *random.pick(&NAMES);
+            Step::Burst(some_burst(form, operator, name, random))
+        }
+    }
+}
+
+fn some_request(name: &[u8], random: &mut Random) -> Draft {
+    let label = *random.pick(&LABELS);
+    let session = [*random.pick(b"abc")];
+    match random.below(4) {
+        0 => Draft::policy(name, &session, b"pdg", b"permit"),
+        1 => Draft::termination(name, &session, b"pdg", label),
         _ => Draft::open(name, &session, b"pdg", label),
-    };
-    Step::Other(request(form, operator, &draft, random.once_in(2), random))
+    }
+}
+
+/// Some requests in one call, most for one subscriber, now and then with too little room
+/// or a place too few.
+fn some_burst(form: Form, operator: u32, usual: &[u8], random: &mut Random) -> BurstCall {
+    let count = random.from_to(0, 4);
+    let mut messages = Vec::new();
+    for _ in 0..count {
+        let mut draft = match random.below(4) {
+            0 => some_request(NAMES[random.below(4)], random),
+            1 => some_request(usual, random),
+            _ => Draft::open(usual, &[*random.pick(b"abc")], b"pdg", LABELS[0]),
+        };
+        draft.version += u8::from(random.once_in(9));
+        messages.extend(draft.bytes());
+    }
+    // The last one is cut off now and then.
+    if random.once_in(3) {
+        messages.pop();
+    }
+    let (answer, notice) = (5_120, form.notice());
+    let few = random.below(700);
+    let seed = random.byte();
+    BurstCall {
+        form: form.number(),
+        table: Vec::new(),
+        operator,
+        host: b"aaa.home.example".to_vec(),
+        realm: b"home.example".to_vec(),
+        messages,
+        wags: (0..count).map(|_| random.byte() % 3).collect(),
+        answer_room: Room {
+            length: *random.pick(&[answer * count, answer * count, answer + few]) as u32,
+            seed,
+        },
+        notice_room: Room {
+            length: *random.pick(&[notice * count, notice * count, notice]) as u32,
+            seed,
+        },
+        places: count - usize::from(count > 0 && random.once_in(8)),
+    }
 }
 
 /// Shares that have this one for the operator and this sum.
@@ -85,9 +151,16 @@ fn pair(random: &mut Random) -> Pair {
     let sum = random.from_to(0, rows + over) as u32;
     let half = sum as usize / 2 * random.below(3).min(1);
     let own = random.from_to(half, sum as usize) as u32;
-    let mine: Vec<Step> = (0..random.from_to(1, 20))
+    let mut mine: Vec<Step> = (0..random.from_to(1, 20))
         .map(|_| step(form, operator, random))
         .collect();
+    // Half the time there is somebody whose accesses can be cut.
+    if random.once_in(2) {
+        let name = *random.pick(&NAMES);
+        let board = add(form, operator, name, LABELS[0], 1, 2);
+        mine.splice(0..0, [Step::Enter(name.to_vec()), Step::Other(board)]);
+        mine.push(Step::Burst(some_burst(form, operator, name, random)));
+    }
     Pair {
         form,
         operator,
@@ -98,7 +171,30 @@ fn pair(random: &mut Random) -> Pair {
 }
 
 /// What the operator is told, and its rows in order.
-type Known = (Vec<Seen>, Vec<Vec<u8>>);
+type Known = (Vec<Told>, Vec<Vec<u8>>);
+
+/// Makes one call of a history on its table.
+fn call(
+    rules: &Rules,
+    pair: &Pair,
+    which: usize,
+    table: &mut Vec<u8>,
+    by: u32,
+    step: &Step,
+) -> Told {
+    let operation = match step {
+        Step::Enter(name) => enter(pair.form, by, &pair.shares[which], name),
+        Step::Other(operation) => operation.clone(),
+        Step::Burst(call) => {
+            let mut written = call.fresh();
+            written.table = std::mem::take(table);
+            let taken = call.go_on(rules, &mut written, &Taken::default(), &call.ends());
+            *table = std::mem::take(&mut written.table);
+            return Told::Burst(taken, written);
+        }
+    };
+    Told::Call(perform(&mut rules.clone(), &operation, table))
+}
 
 /// Plays one history of a pair on a cleared table. The error says what a table that is
 /// reached from a cleared one must not show.
@@ -107,12 +203,9 @@ fn play(rules: &Rules, pair: &Pair, which: usize) -> Result<Known, &'static str>
     let mut table = vec![0; pair.rows * form.row()];
     let mut told = Vec::new();
     for (operator, step) in &pair.histories[which] {
-        let operation = match step {
-            Step::Enter(name) => enter(form, *operator, shares, name),
-            Step::Other(operation) => operation.clone(),
-        };
-        let seen = perform(&mut rules.clone(), &operation, &mut table);
-        if matches!(step, Step::Enter(_)) && seen.numbers[0] == 11 {
+        let now = call(rules, pair, which, &mut table, *operator, step);
+        let entered = matches!(step, Step::Enter(_));
+        if matches!(&now, Told::Call(seen) if entered && seen.numbers[0] == 11) {
             return Err("number 11");
         }
         let over =
@@ -121,7 +214,7 @@ fn play(rules: &Rules, pair: &Pair, which: usize) -> Result<Known, &'static str>
             return Err("rows over a share");
         }
         if *operator == pair.operator {
-            told.push(seen);
+            told.push(now);
         }
     }
     let own = |row: &&[u8]| row[0] == 1 && is_of(row, pair.operator);
@@ -156,6 +249,31 @@ fn programs_that_tell_of_others_are_found() {
         ..DOCUMENT_01
     };
     assert!(leak(&by_name, 62, 2_000).is_some());
+    let by_name_in_bursts = Rules {
+        take: |rules, form, lent, taken, message| {
+            let by_name = Rules {
+                find: |_, form, table, _, name| rows(form, table).position(|row| bears(row, name)),
+                ..*rules
+            };
+            let rules = if taken.messages > 0 { &by_name } else { rules };
+            take(rules, form, lent, taken, message);
+        },
+        ..DOCUMENT_01
+    };
+    assert!(leak(&by_name_in_bursts, 62, 2_000).is_some());
+    let stops_by_rows = Rules {
+        burst: |rules, lent| {
+            let form = Form::numbered(lent.form).unwrap_or(Form::One);
+            let used = rows(form, lent.table).filter(|row| row[0] == 1).count();
+            let whole = whole_messages(rules, lent.messages);
+            if whole.len() > 2 && used > 2 && (rules.burst_number)(rules, lent) == 0 {
+                lent.messages = &lent.messages[..whole[0].len()];
+            }
+            burst::burst(rules, lent)
+        },
+        ..DOCUMENT_01
+    };
+    assert!(leak(&stops_by_rows, 62, 2_000).is_some());
     let all_rows_count = Rules {
         share_is_full: |_, form, table, new| {
             let used = rows(form, table).filter(|row| row[0] == 1).count();
@@ -189,13 +307,26 @@ fn programs_that_tell_of_others_are_found() {
 fn pairs_tell_of_many_things() {
     let mut random = Random::new(63);
     let mut numbers = std::collections::BTreeSet::new();
-    let (mut differ, mut several) = (0, 0);
+    let mut in_bursts = std::collections::BTreeSet::new();
+    let (mut differ, mut several, mut cuts) = (0, 0, 0);
     for _ in 0..600 {
         let pair = pair(&mut random);
         differ += usize::from(pair.shares[0] != pair.shares[1]);
         let (told, rows) = play(&DOCUMENT_01, &pair, 0).unwrap();
         several += usize::from(rows.len() > 1);
-        numbers.extend(told.iter().map(|seen| (seen.numbers[0], seen.numbers[1])));
+        for told in &told {
+            match told {
+                Told::Call(seen) => {
+                    numbers.insert((seen.numbers[0], seen.numbers[1]));
+                }
+                Told::Burst(taken, written) => {
+                    let results = &written.results[..taken.messages];
+                    in_bursts.extend(results.iter().map(|place| (place[0], place[1])));
+                    in_bursts.insert((u32::from(taken.number), 0));
+                    cuts += taken.notices;
+                }
+            }
+        }
     }
     assert!(differ > 100 && several > 60, "{differ} {several}");
     for number in [0, 9, 10, 12, 15, 26, 27] {
@@ -203,7 +334,14 @@ fn pairs_tell_of_many_things() {
     }
     for code in [(2001, 1), (5012, 1), (5001, 2), (5042, 2), (5044, 2)] {
         assert!(numbers.contains(&code), "{code:?}");
+        assert!(in_bursts.contains(&code), "{code:?} in a burst");
     }
+    assert!(
+        [0, 6, 18]
+            .iter()
+            .all(|number| in_bursts.contains(&(*number, 0)))
+    );
+    assert!(cuts > 10, "{cuts}");
 }
 
 fn run(operation: &Operation, table: &mut [u8]) -> Seen {

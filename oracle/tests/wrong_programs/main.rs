@@ -9,6 +9,7 @@ macro_rules! wrong {
 }
 
 mod aborts;
+mod bursts;
 mod calls;
 mod deciding;
 mod forms;
@@ -19,6 +20,7 @@ mod reading;
 mod table;
 mod writing;
 
+use oracle::burst_calls::{burst_calls, given};
 use oracle::disconnecting::{ANSWER_TESTS, Abort, Sent, Written};
 use oracle::generator::generate;
 use oracle::handling::{Call, no_answer};
@@ -113,6 +115,24 @@ fn every_wrong_disconnection_is_told_apart() {
             unnoticed.push(format!("does not make test {left_out} of an answer"));
         }
     }
+    assert!(unnoticed.is_empty(), "not told apart: {unnoticed:#?}");
+}
+
+/// The programs that handle each message alone rightly: only bursts tell.
+#[test]
+fn every_wrong_burst_is_told_apart() {
+    let calls = burst_calls(14, 2_000);
+    let expected: Vec<_> = calls.iter().map(|call| given(&RIGHT, call)).collect();
+    let programs = bursts::programs();
+    assert!(programs.len() > 110);
+    let unnoticed: Vec<&str> = programs
+        .iter()
+        .filter(|(_, rules)| {
+            let mut each = calls.iter().zip(&expected);
+            each.all(|(call, expected)| given(rules, call) == *expected)
+        })
+        .map(|(name, _)| *name)
+        .collect();
     assert!(unnoticed.is_empty(), "not told apart: {unnoticed:#?}");
 }
 
