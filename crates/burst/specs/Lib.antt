@@ -1,0 +1,4 @@
+pub mod TheBurst
+pub mod BurstsRules
+pub mod Code
+pub mod WorkedCases
