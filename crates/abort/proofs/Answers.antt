@@ -1,34 +1,25 @@
 -- Recognizing an answer, AVP by AVP: what the AVP in front decides, and what it leaves to those behind it.
-use mathlib.Core.Path.{_≡_, refl, sym, ap, _∙_}
+use mathlib.Core.Path.{_≡_, sym, ap, _∙_}
 use mathlib.Core.Bool.{Bool, true, false, _&&_, _||_, not, and-false}
-use mathlib.Core.List.{List, [], _∷_}
-use mathlib.Core.Logic.{⊎-elim}
-use types.Run.{OneOf}
-use denote.Enum.Declared.{tagOf}
-use Prim.Native.Nat.{ℕ, suc, _≤_, _<_}
+use mathlib.Core.List.{List}
+use Prim.Native.Nat.{ℕ, suc, _+_, _-_, _*_, _%_, _≤_, _<_}
 use native.Mathlib.Omega.{arith}
 use borrow.Author.Tests.{eqb-true, eqb-false, eq-eqb, ne-eqb, le-leb, lt-leb, leb-true, leb-false, not-true, not-false}
 use lib.Dec.{eqb, leb}
-use lib.ListN.{length, drop}
+use lib.ListN.{length, getD, drop, length-drop}
+use lib.Seq.{getD-drop, drop-drop}
 use Rattle.octets.specs.Choice.{pick}
 use Rattle.octets.specs.Lists.{keep}
-use Rattle.octets.specs.Numbers.{net32}
+use Rattle.octets.specs.Numbers.{net24, net32, up4}
 use Rattle.octets.specs.Texts.{part, same}
-use Rattle.octets.proofs.Lists.{by-test, and-left, and-right}
+use Rattle.octets.proofs.Lists.{by-test, and-left, eqb-comm}
 use Rattle.octets.proofs.Texts.{length-part}
 use Rattle.message.specs.CallsThatGetNoAnswer.{messageNumber}
-use Rattle.message.specs.ReadingAMessage.{Name, base, vendor, sameName, sessionId, Avp, Walk, behind, walk, command, having, firstValue, valueOf, startsWith}
-use Rattle.message.proofs.Heads.{number-short}
-use Rattle.reader.specs.Steps.{stepAt, seenName, seenAvp, faultCode, onward}
-use Rattle.reader.specs.declared.Seen.{Seen}
-use Rattle.reader.specs.declared.Fault.{Fault}
-use Rattle.reader.specs.declared.Fault.the-variants.{Few, Bits, Short, Past}
-use Rattle.reader.specs.declared.Step.{Step}
-use Rattle.reader.specs.declared.Step.the-variants.{One, End, Bad}
-use Rattle.reader.proofs.Step.{the-type}
-use Rattle.reader.proofs.Laws.{walk-steps, placed}
+use Rattle.message.specs.ReadingAMessage.{Name, base, vendor, sameName, sessionId, Avp, headLength, avpLength, avpCode, avpOf, Walk, behind, walk, command, having, firstValue, valueOf, startsWith}
+use Rattle.message.proofs.Heads.{number-short, number-long, net24-drop, net32-drop, head-v, head-base, name-v, name-base, code-few, code-none}
+use Rattle.message.proofs.Walks.{Passed, passes, head-least, up4-least, walk-end, walk-bad, walk-one}
 use Rattle.abort.specs.TheDisconnection.{resultCode, answersTo, once, answersFor}
-use Rattle.abort.specs.Code.{restAnswers, spoilt}
+use Rattle.abort.specs.Code.{passedLength, plainCode, firstLength, restAnswers, spoilt}
 
 -- THE HEADER
 
@@ -44,6 +35,12 @@ module _ (hop end : ℕ) (m : List ℕ) where
       (λ t. leb-true 20 (length m) t)
       (λ t. let z = number-short m (leb-false 20 (length m) t) in absurd (omega arith))
 
+  pub has-end : messageNumber m ≡ 8 → length m ≤ 4096
+  has-end h =
+      by-test (leb (length m) 4096)
+      (λ t. leb-true (length m) 4096 t)
+      (λ t. let z = number-long m (has-header h) (leb-false (length m) 4096 t) in absurd (omega arith))
+
   module _ (h : messageNumber m ≡ 8) where
     pub to-command : (command m ≡ 274 → ⊥) → answersTo hop end m ≡ false
     unfolding answersTo
@@ -58,27 +55,31 @@ module _ (hop end : ℕ) (m : List ℕ) where
       unfolding answersTo
       to-end p = rw (eq-eqb (messageNumber m) 8 h, eq-eqb (command m) 274 c, eq-eqb (net32 m 12) hop p)
 
-  pub to-header : answersTo hop end m ≡ true → 20 ≤ length m
+  pub to-size : answersTo hop end m ≡ true → length m ≤ 4096
   unfolding answersTo
-  to-header e = has-header (eqb-true (messageNumber m) 8 (and-left (eqb (messageNumber m) 8) _ e))
+  to-size e = has-end (eqb-true (messageNumber m) 8 (and-left (eqb (messageNumber m) 8) _ e))
 
--- AN AVP BY ITS NAME
+-- the command's three bytes: a zero, and two that are read the lower first
+pub command-is : (m : List ℕ) → getD m 5 0 ≡ 0 → getD m 6 0 < 256 → getD m 7 0 < 256 → eqb (getD m 6 0 + getD m 7 0 * 256) 4609 ≡ eqb (command m) 274
+unfolding net24
+command-is m z b c =
+    by-test (eqb (getD m 6 0 + getD m 7 0 * 256) 4609)
+    (λ t. let e : getD m 6 0 + getD m 7 0 * 256 ≡ 4609 = eqb-true (getD m 6 0 + getD m 7 0 * 256) 4609 t in
+    t ∙ sym (eq-eqb (getD m 5 0 * 65536 + getD m 6 0 * 256 + getD m 7 0) 274 (omega arith)))
+    (λ t. let e : getD m 6 0 + getD m 7 0 * 256 ≡ 4609 → ⊥ = eqb-false (getD m 6 0 + getD m 7 0 * 256) 4609 t in
+    t ∙ sym (ne-eqb (getD m 5 0 * 65536 + getD m 6 0 * 256 + getD m 7 0) 274 (λ y. e (omega arith))))
 
-pub seen-v : (a : Seen) (code : ℕ) → 128 ≤ a .flags → sameName (base code) (seenName a) ≡ false
-unfolding seenName pick sameName
-seen-v a code h = rw (le-leb 128 (a .flags) h)
+pub command-not : (m : List ℕ) → (getD m 5 0 ≡ 0 → ⊥) → eqb (command m) 274 ≡ false
+unfolding net24
+command-not m z = ne-eqb (getD m 5 0 * 65536 + getD m 6 0 * 256 + getD m 7 0) 274 (λ y. z (omega arith))
 
-pub seen-base : (a : Seen) (code : ℕ) → a .flags < 128 → sameName (base code) (seenName a) ≡ eqb code (a .code)
-unfolding seenName pick sameName
-seen-base a code h = rw (lt-leb 128 (a .flags) h)
+-- ONE MORE
 
 -- a Session-Id is no Result-Code
 apart : (n : Name) → sameName sessionId n ≡ true → sameName resultCode n ≡ false
 unfolding sameName
 apart (base d) e = ne-eqb 268 d (λ z. let y : 263 ≡ d = eqb-true 263 d e in absurd (omega arith))
 apart (vendor v d) e = cc
-
--- ONE MORE
 
 one-more : (k : ℕ) → eqb (suc k) 1 ≡ eqb k 0
 one-more k =
@@ -156,70 +157,291 @@ module _ (a : Avp) (w : Walk) where
       rw (s, v, and-false (eqb (suc (length (having sessionId (w .avps)))) 1)) (and-false (eqb (w .code) 0)))
       (λ s. rw s (and-false (eqb (w .code) 0)))
 
+-- ONE AVP BY ITS BYTES
+
+module _ (s : List ℕ) where
+  -- one that fails a test has no length, and one that passes has its own
+  no-length : (Passed s → ⊥) → passedLength s ≡ 0
+  unfolding passedLength pick
+  no-length h = by-test (eqb (avpCode s) 0) (λ e. absurd (h (passes s (eqb-true (avpCode s) 0 e)))) (λ e. rw e)
+
+  its-length : avpCode s ≡ 0 → passedLength s ≡ avpLength s
+  unfolding passedLength pick
+  its-length e = rw (eq-eqb (avpCode s) 0 e)
+
+  fails : passedLength s ≡ 0 → 0 < avpCode s
+  fails h =
+      by-test (eqb (avpCode s) 0)
+      (λ e. let k : avpCode s ≡ 0 = eqb-true (avpCode s) 0 e in
+      let p : Passed s = passes s k in
+      let z : avpLength s ≡ 0 = sym (its-length k) ∙ h in
+      absurd (omega (arith, p .head, head-least s, z)))
+      (λ e. let d : avpCode s ≡ 0 → ⊥ = eqb-false (avpCode s) 0 e in omega arith)
+
+  pub has-passed : (passedLength s ≡ 0 → ⊥) → avpCode s ≡ 0
+  has-passed h =
+      by-test (eqb (avpCode s) 0)
+      (λ e. eqb-true (avpCode s) 0 e)
+      (λ e. absurd (h (no-length (λ p. eqb-false (avpCode s) 0 e (code-none s (p .eight) (p .clear) (p .head) (p .whole))))))
+
+  plain-v : 128 ≤ getD s 4 0 → plainCode s ≡ 0
+  unfolding plainCode pick
+  plain-v v = rw (le-leb 128 (getD s 4 0) v)
+
+  plain-base : getD s 4 0 < 128 → plainCode s ≡ net32 s 0
+  unfolding plainCode pick
+  plain-base v = rw (lt-leb 128 (getD s 4 0) v)
+
+  -- the name by the code
+  name-is : (code : ℕ) → 0 < code → sameName (base code) ((avpOf s) .name) ≡ eqb (plainCode s) code
+  unfolding sameName
+  name-is code h =
+      by-test (leb 128 (getD s 4 0))
+      (λ e. let v : 128 ≤ getD s 4 0 = leb-true 128 (getD s 4 0) e in rw (name-v s v, plain-v v) (sym (ne-eqb 0 code (λ z. omega arith))))
+      (λ e. let v : getD s 4 0 < 128 = leb-false 128 (getD s 4 0) e in rw (name-base s v, plain-base v) (eqb-comm code (net32 s 0)))
+
+  -- one with a code that is looked for has no V
+  no-v : (code : ℕ) → 0 < code → eqb (plainCode s) code ≡ true → getD s 4 0 < 128
+  no-v code h t =
+      by-test (leb 128 (getD s 4 0))
+      (λ e. let z : plainCode s ≡ 0 = plain-v (leb-true 128 (getD s 4 0) e) in let y : plainCode s ≡ code = eqb-true (plainCode s) code t in absurd (omega arith))
+      (λ e. leb-false 128 (getD s 4 0) e)
+
+  -- the value of one that passes
+  value-size : avpCode s ≡ 0 → length ((avpOf s) .value) ≡ avpLength s - headLength s
+  unfolding avpOf
+  value-size k =
+      let p : Passed s = passes s k in
+      length-part s (headLength s) (avpLength s - headLength s) (omega (arith, p .head, p .whole, up4-least (avpLength s)))
+
+-- AN AVP AT A PLACE
+
+-- three bytes, of which the first is zero
+pub two-bytes : (m : List ℕ) (at : ℕ) → getD m (at + 5) 0 ≡ 0 → net24 m (at + 5) ≡ getD m (at + 6) 0 * 256 + getD m (at + 7) 0
+unfolding net24
+two-bytes m at z =
+    let b : at + 5 + 1 ≡ at + 6 = omega arith in
+    let c : at + 5 + 2 ≡ at + 7 = omega arith in
+    rw (b, c, z) (omega arith)
+
+module _ (m : List ℕ) (at left : ℕ) (h : at + left ≡ length m) where
+  size : length (drop at m) ≡ left
+  size = rw length-drop (omega arith)
+
+  pub at-few : left < 8 → passedLength (drop at m) ≡ 0
+  at-few f = no-length (drop at m) (λ p. omega (arith, size, p .eight))
+
+  pub at-bits : (getD m (at + 4) 0 % 32 ≡ 0 → ⊥) → passedLength (drop at m) ≡ 0
+  at-bits f = no-length (drop at m) (λ p. f (rw getD-drop at (p .clear)))
+
+  pub at-high : left ≤ 4096 → (getD m (at + 5) 0 ≡ 0 → ⊥) → passedLength (drop at m) ≡ 0
+  unfolding net24
+  at-high l f =
+      no-length (drop at m)
+      (λ p. let n : net24 (drop at m) 5 ≡ net24 m (at + 5) = net24-drop at 5 m in
+      let w : net24 m (at + 5) ≤ left = omega (arith, p .whole, up4-least (avpLength (drop at m)), size, n) in
+      let v : getD m (at + 5) 0 * 65536 + getD m (at + 5 + 1) 0 * 256 + getD m (at + 5 + 2) 0 ≤ left = w in
+      f (omega (arith, v, l)))
+
+  module _ (n : ℕ) (e : net24 m (at + 5) ≡ n) where
+    field : avpLength (drop at m) ≡ n
+    field = net24-drop at 5 m ∙ e
+
+    pub at-past : left < up4 n → passedLength (drop at m) ≡ 0
+    at-past f =
+        no-length (drop at m)
+        (λ p. let w : up4 n ≤ left = rw (field, size) at (p .whole) in omega arith)
+
+    pub at-short : n < 8 → passedLength (drop at m) ≡ 0
+    at-short f = no-length (drop at m) (λ p. omega (arith, p .head, head-least (drop at m), field))
+
+    module _ (b : getD m (at + 4) 0 % 32 ≡ 0) (w : up4 n ≤ left) where
+      pub at-short-v : 128 ≤ getD m (at + 4) 0 → n < 12 → passedLength (drop at m) ≡ 0
+      at-short-v v f =
+          let k : headLength (drop at m) ≡ 12 = head-v (drop at m) (rw getD-drop v) in
+          no-length (drop at m) (λ p. omega (arith, p .head, k, field))
+
+      passed : 8 ≤ left → headLength (drop at m) ≤ n → passedLength (drop at m) ≡ n
+      passed l k =
+          its-length (drop at m)
+          (code-none (drop at m) (omega (arith, size)) (rw getD-drop b) (omega (arith, field, k)) (rw (field, size) w))
+          ∙ field
+
+      pub at-v : 8 ≤ left → 128 ≤ getD m (at + 4) 0 → 12 ≤ n → passedLength (drop at m) ≡ n
+      at-v l v f = passed l (let k : headLength (drop at m) ≡ 12 = head-v (drop at m) (rw getD-drop v) in omega arith)
+
+      pub at-base : 8 ≤ left → getD m (at + 4) 0 < 128 → 8 ≤ n → passedLength (drop at m) ≡ n
+      at-base l v f = passed l (let k : headLength (drop at m) ≡ 8 = head-base (drop at m) (rw getD-drop v) in omega arith)
+
+pub code-v : (m : List ℕ) (at : ℕ) → 128 ≤ getD m (at + 4) 0 → plainCode (drop at m) ≡ 0
+code-v m at v = plain-v (drop at m) (rw getD-drop v)
+
+pub code-base : (m : List ℕ) (at : ℕ) → getD m (at + 4) 0 < 128 → plainCode (drop at m) ≡ net32 m at
+code-base m at v =
+    let z : at + 0 ≡ at = omega arith in
+    plain-base (drop at m) (rw getD-drop v) ∙ rw (net32-drop at 0 m, z)
+
+-- with another code it has another name, or V
+pub other-code : (m : List ℕ) (at : ℕ) → (net32 m at ≡ 263 → ⊥) → plainCode (drop at m) ≡ 263 → ⊥
+other-code m at f e =
+    by-test (leb 128 (getD m (at + 4) 0))
+    (λ t. let z : plainCode (drop at m) ≡ 0 = code-v m at (leb-true 128 (getD m (at + 4) 0) t) in absurd (omega (arith, z, e)))
+    (λ t. let z : plainCode (drop at m) ≡ net32 m at = code-base m at (leb-false 128 (getD m (at + 4) 0) t) in f (sym z ∙ e))
+
+-- THE FIRST AVP
+
+module _ (s : List ℕ) where
+  pub first-none : passedLength s ≡ 0 → firstLength s ≡ 0
+  unfolding firstLength pick
+  first-none e = by-test (eqb (plainCode s) 263) (λ t. rw (t, e)) (λ t. rw t)
+
+  pub first-other-code : (plainCode s ≡ 263 → ⊥) → firstLength s ≡ 0
+  unfolding firstLength pick
+  first-other-code f = rw (ne-eqb (plainCode s) 263 f)
+
+  pub first-its : plainCode s ≡ 263 → firstLength s ≡ passedLength s
+  unfolding firstLength pick
+  first-its e = rw (eq-eqb (plainCode s) 263 e)
+
 -- AN ANSWER FROM A PLACE ON
 
-bad : (f : Fault) → eqb (faultCode f) 0 ≡ false
-unfolding faultCode
-bad Few = refl
-bad Bits = refl
-bad Short = refl
-bad Past = refl
+module _ (s : List ℕ) where
+  pub rest-end : (found : Bool) → length s ≡ 0 → restAnswers found (walk s) ≡ found
+  unfolding restAnswers once valueOf firstValue having keep pick
+  rest-end true e = rw (walk-end avpCode (λ s e. e) s e)
+  rest-end false e = rw (walk-end avpCode (λ s e. e) s e)
 
-module _ (m : List ℕ) (at : ℕ) where
-  pub rest-end : (found : Bool) → stepAt m at ≡ End → restAnswers found (walk (drop at m)) ≡ found
-  unfolding onward restAnswers once valueOf firstValue having keep pick
-  rest-end true e = rw (walk-steps m at, e)
-  rest-end false e = rw (walk-steps m at, e)
+  module _ (l : 0 < length s) where
+    pub rest-bad : (found : Bool) → passedLength s ≡ 0 → restAnswers found (walk s) ≡ false
+    unfolding restAnswers
+    rest-bad found e = rw (walk-bad avpCode (λ s e. e) s l (fails s e), ne-eqb (avpCode s) 0 (λ z. omega (arith, fails s e)))
 
-  pub rest-bad : (found : Bool) (f : Fault) → stepAt m at ≡ Bad f → restAnswers found (walk (drop at m)) ≡ false
-  unfolding onward restAnswers
-  rest-bad found f e = rw (walk-steps m at, e, bad f)
+    walk-fails : (session : List ℕ) → 0 < avpCode s → answersFor session (walk s) ≡ false
+    unfolding answersFor
+    walk-fails session e = rw (walk-bad avpCode (λ s e. e) s l e, ne-eqb (avpCode s) 0 (λ z. omega arith))
 
-  pub first-end : (session : List ℕ) → stepAt m at ≡ End → answersFor session (walk (drop at m)) ≡ false
-  unfolding onward answersFor startsWith
-  first-end session e = rw (walk-steps m at, e)
-
-  pub first-bad : (session : List ℕ) (f : Fault) → stepAt m at ≡ Bad f → answersFor session (walk (drop at m)) ≡ false
-  unfolding onward answersFor
-  first-bad session f e = rw (walk-steps m at, e, bad f)
-
-  -- no AVP stands there
-  pub first-none : (session : List ℕ) (s : Step) → stepAt m at ≡ s → OneOf (1 ∷ 2 ∷ []) (tagOf the-type s) → answersFor session (walk (drop at m)) ≡ false
-  first-none session (One a) e o = ⊎-elim (λ (z : _≡_ {A = ℕ} 0 1). absurd (omega arith)) (λ (z : _≡_ {A = ℕ} 0 2). absurd (omega arith)) o
-  first-none session End e o = first-end session e
-  first-none session (Bad f) e o = first-bad session f e
-
-  module _ (a : Seen) (e : stepAt m at ≡ One a) where
-    here : walk (drop at m) ≡ behind (seenAvp m at a) (walk (drop (a .next) m))
-    unfolding onward
-    here = walk-steps m at ∙ ap (onward m at) e
-
-    size : length (part m (a .value) (a .len)) ≡ a .len
-    size = let p = placed m at a e in length-part m (a .value) (a .len) (omega (arith, p .value, p .inside))
+  module _ (k : avpCode s ≡ 0) where
+    here : walk s ≡ behind (avpOf s) (walk (drop (up4 (avpLength s)) s))
+    here = walk-one avpCode (λ s e. e) s k
 
     -- the test of the definition, of the AVP that stands there
     test : (found : Bool)
-        → sameName sessionId (seenName a) || (sameName resultCode (seenName a) && (found || not (eqb (length (part m (a .value) (a .len))) 4))) ≡ spoilt found a
+        → sameName sessionId ((avpOf s) .name) || (sameName resultCode ((avpOf s) .name) && (found || not (eqb (length ((avpOf s) .value)) 4)))
+        ≡ spoilt found (plainCode s) (avpLength s)
     unfolding spoilt
-    test found = rw size
+    test found =
+        rw (name-is s 263 (omega arith), name-is s 268 (omega arith))
+        (by-test (eqb (plainCode s) 268)
+        (λ t. let v : headLength s ≡ 8 = head-base s (no-v s 268 (omega arith) t) in
+        let z : length ((avpOf s) .value) ≡ avpLength s - headLength s = value-size s k in
+        let y : eqb (length ((avpOf s) .value)) 4 ≡ eqb (avpLength s) 12 =
+        by-test (eqb (avpLength s) 12)
+        (λ t. let w : avpLength s ≡ 12 = eqb-true (avpLength s) 12 t in eq-eqb (length ((avpOf s) .value)) 4 (omega arith) ∙ sym t)
+        (λ t. let w : avpLength s ≡ 12 → ⊥ = eqb-false (avpLength s) 12 t in
+        ne-eqb (length ((avpOf s) .value)) 4 (λ u. w (omega (arith, u, z, v, (passes s k) .head))) ∙ sym t) in
+        rw (t, y))
+        (λ t. rw t))
 
-    pub rest-spoilt : (found : Bool) → spoilt found a ≡ true → restAnswers found (walk (drop at m)) ≡ false
-    unfolding seenAvp
-    rest-spoilt found h = ap (restAnswers found) here ∙ spoils (seenAvp m at a) (walk (drop (a .next) m)) found (test found ∙ h)
+    pub rest-spoilt : (found : Bool) → spoilt found (plainCode s) (avpLength s) ≡ true → restAnswers found (walk s) ≡ false
+    rest-spoilt found h = ap (restAnswers found) here ∙ spoils (avpOf s) (walk (drop (up4 (avpLength s)) s)) found (test found ∙ h)
 
-    pub rest-goes : (found : Bool) → spoilt found a ≡ false
-        → restAnswers (found || sameName resultCode (seenName a)) (walk (drop (a .next) m)) ≡ restAnswers found (walk (drop at m))
-    unfolding seenAvp
-    rest-goes found h = goes (seenAvp m at a) (walk (drop (a .next) m)) found (test found ∙ h) ∙ ap (restAnswers found) (sym here)
+    pub rest-goes : (found : Bool) → spoilt found (plainCode s) (avpLength s) ≡ false
+        → restAnswers (found || eqb (plainCode s) 268) (walk (drop (up4 (avpLength s)) s)) ≡ restAnswers found (walk s)
+    rest-goes found h =
+        ap (λ (b : Bool). restAnswers (found || b) (walk (drop (up4 (avpLength s)) s))) (sym (name-is s 268 (omega arith)))
+        ∙ goes (avpOf s) (walk (drop (up4 (avpLength s)) s)) found (test found ∙ h)
+        ∙ ap (restAnswers found) (sym here)
 
-    pub first-other : (session : List ℕ) → sameName sessionId (seenName a) && same (part m (a .value) (a .len)) session ≡ false
-        → answersFor session (walk (drop at m)) ≡ false
-    unfolding seenAvp
-    first-other session h = ap (answersFor session) here ∙ first-not (seenAvp m at a) (walk (drop (a .next) m)) session h
+  -- the first AVP is no Session-Id, or fails
+  pub first-no : (session : List ℕ) → 0 < length s → firstLength s ≡ 0 → answersFor session (walk s) ≡ false
+  first-no session l e =
+      by-test (eqb (avpCode s) 0)
+      (λ t. let k : avpCode s ≡ 0 = eqb-true (avpCode s) 0 t in
+      let p : Passed s = passes s k in
+      let c : plainCode s ≡ 263 → ⊥ = λ y. let z : avpLength s ≡ 0 = sym (its-length s k) ∙ sym (first-its s y) ∙ e in omega (arith, p .head, head-least s, z) in
+      let n : sameName sessionId ((avpOf s) .name) ≡ false = name-is s 263 (omega arith) ∙ ne-eqb (plainCode s) 263 c in
+      ap (answersFor session) (here k) ∙ first-not (avpOf s) (walk (drop (up4 (avpLength s)) s)) session (rw n))
+      (λ t. let d : avpCode s ≡ 0 → ⊥ = eqb-false (avpCode s) 0 t in walk-fails l session (omega arith))
 
-    pub first-ours : (session : List ℕ) → sameName sessionId (seenName a) && same (part m (a .value) (a .len)) session ≡ true
-        → answersFor session (walk (drop at m)) ≡ restAnswers false (walk (drop (a .next) m))
-    unfolding seenAvp
-    first-ours session h =
-        ap (answersFor session) here
-        ∙ first-is (seenAvp m at a) (walk (drop (a .next) m)) session (and-left (sameName sessionId (seenName a)) _ h) (and-right (sameName sessionId (seenName a)) _ h)
+-- BEHIND THE SESSION-ID
+
+-- an AVP with a length passes, and with its padding lies within what is left
+pub record There (m : List ℕ) (at left n : ℕ) : Type 0 where
+  pub passed : avpCode (drop at m) ≡ 0
+  pub length-is : avpLength (drop at m) ≡ n
+  pub eight : 8 ≤ left
+  pub least : 8 ≤ n
+  pub whole : up4 n ≤ left
+
+pub there : (m : List ℕ) (at left n : ℕ) → at + left ≡ length m → passedLength (drop at m) ≡ n → (n ≡ 0 → ⊥) → There m at left n
+there m at left n h e f =
+    let k : avpCode (drop at m) ≡ 0 = has-passed (drop at m) (λ z. f (sym e ∙ z)) in
+    let l : avpLength (drop at m) ≡ n = sym (its-length (drop at m) k) ∙ e in
+    let p : Passed (drop at m) = passes (drop at m) k in
+    let w : up4 n ≤ left = rw (l, size m at left h) at (p .whole) in
+    record {
+      passed = k;
+      length-is = l;
+      eight = omega (arith, p .eight, size m at left h);
+      least = omega (arith, p .head, head-least (drop at m), l);
+      whole = w;
+    }
+
+module _ (m : List ℕ) (at left n : ℕ) (t : There m at left n) (code : ℕ) (c : code ≡ plainCode (drop at m)) (found : Bool) where
+  same-test : spoilt found (plainCode (drop at m)) (avpLength (drop at m)) ≡ spoilt found code n
+  same-test = rw (t .length-is, c)
+
+  pub place-spoilt : spoilt found code n ≡ true → restAnswers found (walk (drop at m)) ≡ false
+  place-spoilt h = rest-spoilt (drop at m) (t .passed) found (same-test ∙ h)
+
+  pub place-goes : spoilt found code n ≡ false → restAnswers (found || eqb code 268) (walk (drop (at + up4 n) m)) ≡ restAnswers found (walk (drop at m))
+  place-goes h =
+      let g = rest-goes (drop at m) (t .passed) found (same-test ∙ h) in
+      let d : drop (up4 (avpLength (drop at m))) (drop at m) ≡ drop (at + up4 n) m = rw (t .length-is) (drop-drop (up4 n) at m) in
+      rw (c, ← d) g
+
+-- THE SESSION-ID
+
+module _ (m : List ℕ) (n : ℕ) (h : 28 ≤ length m) (e : firstLength (drop 20 m) ≡ n) (f : n ≡ 0 → ⊥) where
+  code-is : plainCode (drop 20 m) ≡ 263
+  code-is =
+      by-test (eqb (plainCode (drop 20 m)) 263)
+      (λ t. eqb-true (plainCode (drop 20 m)) 263 t)
+      (λ t. let z : firstLength (drop 20 m) ≡ 0 = first-other-code (drop 20 m) (eqb-false (plainCode (drop 20 m)) 263 t) in absurd (f (sym e ∙ z)))
+
+  pub first-there : There m 20 (length m - 20) n
+  first-there = there m 20 (length m - 20) n (omega arith) (sym (first-its (drop 20 m) code-is) ∙ e) f
+
+  named : sameName sessionId ((avpOf (drop 20 m)) .name) ≡ true
+  named = name-is (drop 20 m) 263 (omega arith) ∙ eq-eqb (plainCode (drop 20 m)) 263 code-is
+
+  text : (avpOf (drop 20 m)) .value ≡ part m 28 (20 + n - 28)
+  unfolding avpOf
+  text =
+      let v : getD (drop 20 m) 4 0 < 128 = no-v (drop 20 m) 263 (omega arith) (eq-eqb (plainCode (drop 20 m)) 263 code-is) in
+      let q : n - 8 ≡ 20 + n - 28 = omega arith in
+      rw (head-base (drop 20 m) v, first-there .length-is, drop-drop 8 20 m, q)
+
+  pub first-other : (session : List ℕ) → same (part m 28 (20 + n - 28)) session ≡ false → answersFor session (walk (drop 20 m)) ≡ false
+  first-other session d =
+      let b : sameName sessionId ((avpOf (drop 20 m)) .name) && same ((avpOf (drop 20 m)) .value) session ≡ false = rw (named, text) d in
+      ap (answersFor session) (here (drop 20 m) (first-there .passed)) ∙ first-not (avpOf (drop 20 m)) (walk (drop (up4 (avpLength (drop 20 m))) (drop 20 m))) session b
+
+  pub first-ours : (session : List ℕ) → same (part m 28 (20 + n - 28)) session ≡ true
+      → answersFor session (walk (drop 20 m)) ≡ restAnswers false (walk (drop (20 + up4 n) m))
+  first-ours session d =
+      let b : same ((avpOf (drop 20 m)) .value) session ≡ true = rw text d in
+      let g : drop (up4 (avpLength (drop 20 m))) (drop 20 m) ≡ drop (20 + up4 n) m = rw (first-there .length-is) (drop-drop (up4 n) 20 m) in
+      ap (answersFor session) (here (drop 20 m) (first-there .passed))
+      ∙ first-is (avpOf (drop 20 m)) (walk (drop (up4 (avpLength (drop 20 m))) (drop 20 m))) session named b
+      ∙ ap (λ (l : List ℕ). restAnswers false (walk l)) g
+
+-- an answer that is too short for an AVP
+pub first-few : (m session : List ℕ) → length m < 28 → answersFor session (walk (drop 20 m)) ≡ false
+unfolding answersFor startsWith
+first-few m session h =
+    by-test (eqb (length (drop 20 m)) 0)
+    (λ t. rw (walk-end avpCode (λ s e. e) (drop 20 m) (eqb-true (length (drop 20 m)) 0 t)))
+    (λ t. let d : length (drop 20 m) ≡ 0 → ⊥ = eqb-false (length (drop 20 m)) 0 t in
+    let c : avpCode (drop 20 m) ≡ 5014 = code-few (drop 20 m) (rw length-drop (omega arith)) in
+    walk-fails (drop 20 m) (omega arith) session (omega arith))

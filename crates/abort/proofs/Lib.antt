@@ -3,3 +3,4 @@ pub mod Answers
 pub mod WorkedCases
 pub mod Laid
 pub mod TheDisconnectionsRules
+pub mod Ensured

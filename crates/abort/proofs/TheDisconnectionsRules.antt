@@ -18,9 +18,10 @@ use Rattle.message.specs.ReadingAMessage.{sameName, sessionId, Walk, behind, wa
 use Rattle.message.specs.WritingTheAnswer.{avpBytes}
 use Rattle.message.proofs.Heads.{number-answer}
 use Rattle.answers.proofs.Writing.{length-number, avp-most}
-use Rattle.abort.specs.TheDisconnection.{Cut, abortNumber, Abort, abortOf, abortAvps, header, abortRequest, writeAbort, answersTo, once, answersFor, belongs}
-use Rattle.abort.specs.Code.{Short}
-use Rattle.abort.specs.TheDisconnectionsRules.{written, sent, sentAvps, ReadAsWritten, TrueLength, answerAvps, abortAnswer, AnswerBelongs, NoOthers}
+use Rattle.abort.specs.TheDisconnection.{Cut, abortNumber, Abort, abortOf, abortAvps, header, abortRequest, Left, writeAbort, answersTo, once, answersFor, belongs}
+use Rattle.abort.specs.Code.{leaves, Short}
+use Rattle.abort.specs.declared.Written.{Written}
+use Rattle.abort.specs.TheDisconnectionsRules.{written, sent, sentAvps, ReadAsWritten, TrueLength, answerAvps, abortAnswer, AnswerBelongs, NoOthers, OneWriting, OneVerdict}
 use Rattle.abort.proofs.Requests.{allowed, short, length-avps, avps-most, length-header, length-request}
 use Rattle.abort.proofs.Laid.{avp-read, last-read, version-read, flags-are, size-read, command-read, hop-read, end-read, body-read, avp-four, both-four}
 
@@ -177,3 +178,19 @@ no-others answer session other hop end hop2 end2 e d =
     let q = told answer other hop2 end2 f in
     absurd (d (sym (p .session-is) ∙ q .session-is, sym (p .hop-is) ∙ q .hop-is, sym (p .end-is) ∙ q .end-is)))
     (λ f. f)
+
+-- NO SECOND ANSWER
+
+-- number and length, read back from what was left
+abbrev writtenBack : Left → Written
+writtenBack l = record { number = l .number; length = l .size }
+
+one-left : (w v : Written) (r q : List ℕ) → leaves w r ≡ leaves v q → (w ≡ v) × (r ≡ q)
+unfolding leaves
+one-left w v r q e = (ap writtenBack e, ap (λ (l : Left). l .room) e)
+
+pub one-writing : OneWriting
+one-writing host realm c hop end room w v r q d e = one-left w v r q (d ∙ sym e)
+
+pub one-verdict : OneVerdict
+one-verdict answer session hop end b c d e = d ∙ sym e

@@ -6,9 +6,8 @@ use Prim.Native.Nat.{ℕ, _≤_}
 use lib.Dec.{eqb}
 use lib.ListN.{length, drop}
 use Rattle.octets.specs.Choice.{pick}
-use Rattle.message.specs.ReadingAMessage.{sessionId, sameName, Walk, having, valueOf}
-use Rattle.reader.specs.Steps.{seenName}
-use Rattle.reader.specs.declared.Seen.{Seen}
+use Rattle.octets.specs.Numbers.{net32}
+use Rattle.message.specs.ReadingAMessage.{sessionId, hasV, avpLength, avpCode, Walk, having, valueOf}
 use Rattle.abort.specs.TheDisconnection.{Cut, Abort, abortRequest, Left, resultCode, once}
 use Rattle.abort.specs.declared.Written.{Written}
 
@@ -38,6 +37,18 @@ pub record Sent (a : Abort) (size : ℕ) (before after : List ℕ) : Type 0 wher
   pub length-is : size ≡ length (abortRequest a)
   pub room-is : after ≡ abortRequest a ++ drop (length (abortRequest a)) before
 
+-- The length of an AVP that passes the four tests; 0 of one that does not.
+unfoldable pub passedLength : List ℕ → ℕ
+passedLength s = pick (eqb (avpCode s) 0) (avpLength s) 0
+
+-- The code of an AVP; 0 with V, which is no code that is looked for.
+unfoldable pub plainCode : List ℕ → ℕ
+plainCode s = pick (hasV s) 0 (net32 s 0)
+
+-- The length of a Session-Id that passes the four tests; 0 of any other AVP.
+unfoldable pub firstLength : List ℕ → ℕ
+firstLength s = pick (eqb (plainCode s) 263) (passedLength s) 0
+
 -- The AVPs behind the Session-Id, where a Result-Code of 4 bytes stands before them or not: the walk passes, none of them is a
 -- Session-Id, and in all one Result-Code is there, of 4 bytes.
 unfoldable pub restAnswers : (found : Bool) → Walk → Bool
@@ -47,6 +58,7 @@ restAnswers found w =
     && pick found (eqb (length (having resultCode (w .avps))) 0)
     (once resultCode (w .avps) && eqb (length (valueOf resultCode (w .avps))) 4))
 
--- One of them for which the answer does not belong: a second Session-Id, a second Result-Code, or one that has not 4 bytes.
-unfoldable pub spoilt : (found : Bool) → Seen → Bool
-spoilt found a = sameName sessionId (seenName a) || (sameName resultCode (seenName a) && (found || not (eqb (a .len) 4)))
+-- One of them, of this code and length, for which the answer does not belong: a second Session-Id, a second Result-Code, or one that
+-- has not 4 bytes behind its header of 8.
+unfoldable pub spoilt : (found : Bool) → (code n : ℕ) → Bool
+spoilt found code n = eqb code 263 || (eqb code 268 && (found || not (eqb n 12)))

@@ -1,6 +1,6 @@
 -- What request W6 asks of the disconnection, as theorems; proofs/TheDisconnectionsRules has their proofs.
 use mathlib.Core.Path.{_≡_}
-use mathlib.Core.Bool.{true, false}
+use mathlib.Core.Bool.{Bool, true, false}
 use mathlib.Core.List.{List, [], _∷_, _++_}
 use Prim.Native.Nat.{ℕ, _+_, _%_, _≤_, _<_}
 use lib.ListN.{length, take}
@@ -8,7 +8,8 @@ use Rattle.octets.specs.Numbers.{net24, in32}
 use Rattle.message.specs.ReadingAMessage.{base, Avp, walk, body}
 use Rattle.message.specs.WritingTheAnswer.{avpBytes}
 use Rattle.abort.specs.TheDisconnection.{Cut, abortNumber, Abort, abortOf, header, Left, writeAbort, belongs}
-use Rattle.abort.specs.Code.{Short}
+use Rattle.abort.specs.Code.{leaves, Short}
+use Rattle.abort.specs.declared.Written.{Written}
 
 -- What a call has written: the bytes of the room up to the length that it tells.
 unfoldable pub written : Left → List ℕ
@@ -69,3 +70,18 @@ NoOthers =
     → belongs answer session hop end ≡ true
     → ((session ≡ other) × (hop ≡ hop2) × (end ≡ end2) → ⊥)
     → belongs answer other hop2 end2 ≡ false
+
+-- NO SECOND ANSWER: what an operation promises for the same inputs is met by one outcome only. Each equation is the one that the operation
+-- ensures, as proofs/Ensured holds it to.
+
+-- Of writing: the number, the length and every byte of the room.
+abbrev pub OneWriting : Type 0
+OneWriting =
+    (host realm : List ℕ) (c : Cut) (hop end : ℕ) (room : List ℕ) (w v : Written) (r q : List ℕ)
+    → leaves w r ≡ writeAbort host realm c hop end room
+    → leaves v q ≡ writeAbort host realm c hop end room
+    → (w ≡ v) × (r ≡ q)
+
+-- Of recognizing: whether the answer belongs.
+abbrev pub OneVerdict : Type 0
+OneVerdict = (answer session : List ℕ) (hop end : ℕ) (b d : Bool) → b ≡ belongs answer session hop end → d ≡ belongs answer session hop end → b ≡ d

@@ -1,18 +1,16 @@
 // The disconnection: asking a gateway to end an access that was cut, and recognizing its answer. It stands above the server and knows
 // of it only how its notice of a cut is laid out.
-use reader::Seen;
-use reader::Step;
 ghost use mathlib.Core.Path.{_≡_};
-ghost use mathlib.Core.Bool.{false, _&&_, _||_};
+ghost use mathlib.Core.Bool.{false, _||_};
 ghost use mathlib.Core.List.{List};
 ghost use Prim.Native.Nat.{ℕ, _+_, _≤_, _<_};
+ghost use lib.Dec.{eqb};
 ghost use lib.ListN.{length, drop};
 ghost use Rattle.octets.specs.Choice.{within};
-ghost use Rattle.octets.specs.Texts.{part, put, same};
-ghost use Rattle.message.specs.ReadingAMessage.{base, sameName, sessionId, walk};
-ghost use Rattle.reader.specs.Steps.{seenName};
-ghost use Rattle.abort.specs.TheDisconnection.{abortNumber, header, writeAbort, resultCode, answersTo, answersFor, belongs};
-ghost use Rattle.abort.specs.Code.{cutOf, saying, leaves, Short, Sent, restAnswers, spoilt};
+ghost use Rattle.octets.specs.Texts.{put};
+ghost use Rattle.message.specs.ReadingAMessage.{command, walk};
+ghost use Rattle.abort.specs.TheDisconnection.{abortNumber, header, writeAbort, answersTo, answersFor, belongs};
+ghost use Rattle.abort.specs.Code.{cutOf, saying, leaves, Short, Sent, passedLength, plainCode, firstLength, restAnswers, spoilt};
 
 // WRITING THE REQUEST
 
@@ -171,6 +169,17 @@ pub fn write(
 
 // RECOGNIZING THE ANSWER
 
+// Whether the command is 274: a zero byte, then 1 and 18, which are read at once, the lower first.
+fn is_abort(m: &[u8]) -> bool
+    requires { ⌜ 20 ≤ length (now m) ⌝ }
+    ensures { λ r. ⌜ r ≡ eqb (command (now (m .entry))) 274 ⌝ }
+{
+    if m[5] != 0 {
+        return false;
+    }
+    octets::long(m[6]) + octets::long(m[7]) * 256 == 4609
+}
+
 // An answer by its header: to the request with these identifiers.
 fn answers_to(answer: &[u8], hop: u32, end: u32) -> bool
     ensures { λ r. ⌜ r ≡ answersTo hop end (now (answer .entry)) ⌝ }
@@ -178,7 +187,7 @@ fn answers_to(answer: &[u8], hop: u32, end: u32) -> bool
     if message::number(answer) != 8 {
         return false;
     }
-    if octets::read24(answer, 5) != 274 {
+    if !is_abort(answer) {
         return false;
     }
     if octets::read32(answer, 12) != hop {
@@ -187,97 +196,153 @@ fn answers_to(answer: &[u8], hop: u32, end: u32) -> bool
     octets::read32(answer, 16) == end
 }
 
-// Whether an AVP has this code, without V.
-fn is_base(a: Seen, code: u32) -> bool
-    ensures { λ r. ⌜ r ≡ sameName (base code) (seenName a) ⌝ }
+// The length of the AVP at a place, with so many bytes left from there on; 0 where it fails one of the four tests. Where the first of
+// its three bytes is not zero it is past every answer, so that the other two are read at once.
+fn length_at(m: &[u8], at: usize, left: usize) -> usize
+    requires { ⌜ (at + left ≡ length (now m)) × (left ≤ 4096) ⌝ }
+    ensures { λ r. ⌜ r ≡ passedLength (drop at (now (m .entry))) ⌝ }
 {
-    if 128 <= a.flags {
-        return false;
+    if left < 8 {
+        return 0;
     }
-    code == a.code
+    let flags = m[at + 4];
+    if flags % 32 != 0 {
+        return 0;
+    }
+    if m[at + 5] != 0 {
+        return 0;
+    }
+    let n = octets::long(m[at + 6]) * 256 + octets::long(m[at + 7]);
+    if left < (n + 3) / 4 * 4 {
+        return 0;
+    }
+    if 128 <= flags {
+        if n < 12 {
+            return 0;
+        }
+        return n;
+    }
+    if n < 8 {
+        return 0;
+    }
+    n
 }
 
-// Whether an AVP of the answer is the Session-Id sent.
-fn is_session(answer: &[u8], a: Seen, session: &[u8]) -> bool
-    requires { ⌜ a .value + a .len ≤ length (now answer) ⌝ }
-    ensures { λ r. ⌜ r ≡ sameName sessionId (seenName a) && same (part (now (answer .entry)) (a .value) (a .len)) (now (session .entry)) ⌝ }
+// The code of the AVP at a place; 0 with V, which is no code that is looked for.
+fn code_at(m: &[u8], at: usize) -> u32
+    requires { ⌜ at + 8 ≤ length (now m) ⌝ }
+    ensures { λ r. ⌜ r ≡ plainCode (drop at (now (m .entry))) ⌝ }
 {
-    if !is_base(a, 263) {
-        return false;
+    if 128 <= m[at + 4] {
+        return 0;
     }
-    let from = a.value;
-    let end = from + a.len;
-    octets::same_bytes(&answer[from..end], session)
+    octets::read32(m, at)
 }
 
-// Whether an AVP behind the Session-Id shows that the answer does not belong.
-fn is_spoilt(found: bool, a: Seen) -> bool
-    ensures { λ r. ⌜ r ≡ spoilt found a ⌝ }
+// Whether an AVP behind the Session-Id, of this code and length, shows that the answer does not belong.
+fn is_spoilt(found: bool, code: u32, n: usize) -> bool
+    ensures { λ r. ⌜ r ≡ spoilt found code n ⌝ }
 {
-    if is_base(a, 263) {
+    if code == 263 {
         return true; // a second Session-Id
     }
-    if !is_base(a, 268) {
+    if code != 268 {
         return false;
     }
     if found {
         return true; // a second Result-Code
     }
-    a.len != 4
+    n != 12
 }
 
 // Whether a Result-Code is there now: one that was there before, or this AVP.
-fn is_found(found: bool, a: Seen) -> bool
-    ensures { λ r. ⌜ r ≡ found || sameName resultCode (seenName a) ⌝ }
+fn is_found(found: bool, code: u32) -> bool
+    ensures { λ r. ⌜ r ≡ found || eqb code 268 ⌝ }
 {
     if found {
         return true;
     }
-    is_base(a, 268)
+    code == 268
 }
 
-// The AVPs behind the Session-Id, to the end or to the first for which the answer does not belong.
+// The AVPs behind the Session-Id, to the end or to the first for which the answer does not belong. The number of bytes left goes along:
+// the answer's length is then not looked up at each of them.
 fn rest_answers(answer: &[u8], from: usize) -> bool
-    requires { ⌜ from ≤ length (now answer) ⌝ }
+    requires { ⌜ (from ≤ length (now answer)) × (length (now answer) ≤ 4096) ⌝ }
     ensures { λ r. ⌜ r ≡ restAnswers false (walk (drop from (now (answer .entry)))) ⌝ }
 {
     let mut at: usize = from;
+    let mut left: usize = answer.len() - from;
     let mut found: bool = false;
-    loop {
-        let step = reader::avp_at(answer, at);
-        match step {
-            Step::End => return found,
-            Step::Bad(_) => return false,
-            Step::One(a) => {
-                if is_spoilt(found, a) {
-                    return false;
-                }
-                found = is_found(found, a);
-                at = a.next;
-            }
+    while left != 0 {
+        let n = length_at(answer, at, left);
+        if n == 0 {
+            return false;
         }
+        let code = code_at(answer, at);
+        if is_spoilt(found, code, n) {
+            return false;
+        }
+        found = is_found(found, code);
+        let whole = (n + 3) / 4 * 4;
+        at += whole;
+        left -= whole;
     }
+    found
+}
+
+// The length of the first AVP; 0 where it is no Session-Id or fails one of the four tests.
+fn first_length(answer: &[u8]) -> usize
+    requires { ⌜ (28 ≤ length (now answer)) × (length (now answer) ≤ 4096) ⌝ }
+    ensures { λ r. ⌜ r ≡ firstLength (drop 20 (now (answer .entry))) ⌝ }
+{
+    if octets::read32(answer, 20) != 263 {
+        return 0;
+    }
+    let flags = answer[24];
+    if 128 <= flags {
+        return 0;
+    }
+    if flags % 32 != 0 {
+        return 0;
+    }
+    if answer[25] != 0 {
+        return 0;
+    }
+    let n = octets::long(answer[26]) * 256 + octets::long(answer[27]);
+    if n < 8 {
+        return 0;
+    }
+    if answer.len() - 20 < (n + 3) / 4 * 4 {
+        return 0;
+    }
+    n
 }
 
 // An answer by its AVPs: for this Session-Id.
 fn answers_for(answer: &[u8], session: &[u8]) -> bool
-    requires { ⌜ 20 ≤ length (now answer) ⌝ }
+    requires { ⌜ (28 ≤ length (now answer)) × (length (now answer) ≤ 4096) ⌝ }
     ensures { λ r. ⌜ r ≡ answersFor (now (session .entry)) (walk (drop 20 (now (answer .entry)))) ⌝ }
 {
-    let step = reader::avp_at(answer, 20);
-    let Step::One(a) = step else {
-        return false;
-    };
-    if !is_session(answer, a, session) {
+    let n = first_length(answer);
+    if n == 0 {
         return false;
     }
-    rest_answers(answer, a.next)
+    let end = 20 + n;
+    if !octets::same_bytes(&answer[28..end], session) {
+        return false;
+    }
+    rest_answers(answer, 20 + (n + 3) / 4 * 4)
 }
 
-// Whether an answer belongs to the request that was sent with this Session-Id and these identifiers.
+// Whether an answer belongs to the request that was sent with this Session-Id and these identifiers. One that is too short for any AVP
+// does not, whatever its header says.
 pub fn answered(answer: &[u8], session: &[u8], hop: u32, end: u32) -> bool
     ensures { λ r. ⌜ r ≡ belongs (now (answer .entry)) (now (session .entry)) hop end ⌝ }
 {
+    if answer.len() < 28 {
+        return false;
+    }
     if !answers_to(answer, hop, end) {
         return false;
     }

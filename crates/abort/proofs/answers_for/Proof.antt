@@ -1,83 +1,143 @@
 -- The first AVP decides whether those behind it are looked at: a law of Answers for each way out.
 use mathlib.Core.Path.{_≡_, sym, _∙_}
-use mathlib.Core.Bool.{true, false, _&&_}
+use mathlib.Core.Bool.{true, false}
+use Prim.Native.Nat.{_+_, _-_}
 use native.Mathlib.Omega.{arith}
-use borrow.Author.Needs.{needs}
 use borrow.Author.Tests.{not-true, not-false}
+use lib.ListN.{drop, length-drop}
+use Rattle.octets.specs.Numbers.{up4}
 use Rattle.octets.specs.Texts.{part, same}
-use Rattle.message.specs.ReadingAMessage.{sameName, sessionId}
-use Rattle.reader.specs.Steps.{stepAt, seenName}
-use Rattle.reader.specs.declared.Step.the-variants.{One}
-use Rattle.reader.proofs.Laws.{placed}
-use Rattle.abort.proofs.Answers.{first-none, first-other, first-ours}
+use Rattle.abort.proofs.Answers.{first-no, first-there, first-other, first-ours}
+use borrow.Author.Needs.{needs}
 use Rattle.abort.proofs.answers_for.Statement.{statement}
 use Rattle.abort.proofs.answers_for.Tie as tie
+
+first-length-requires : tie.Need-first-length-requires
+first-length-requires c κs = search needs
 
 returns : tie.Need-returns
 returns c =
     let given = c .before .before .before .before .args in
-    let avp-at-was = c .before .avp-at in
-    let match-was = c .match in
-    sym (first-none (given .answer .now) 20 (given .session .now) (avp-at-was .result) (sym (avp-at-was .ensures)) (match-was .keys2))
+    let pre-was = c .before .before .before .before .pre in
+    let first-length-was = c .before .first-length in
+    let test1 = c .if1 in
+    let m = given .answer .now in
+    sym (first-no (drop 20 m) (given .session .now) (rw length-drop (omega (arith, pre-was .0))) (sym (first-length-was .ensures) ∙ test1 .taken))
+
+add-end : tie.Need-add-end
+unfolding up4
+add-end c =
+    let given = c .before .before .before .before .args in
+    let first-length-was = c .before .first-length in
+    let pre-was = c .before .before .before .before .pre in
+    let test1 = c .if1 in
+    let m = given .answer .now in
+    let t = first-there m (first-length-was .result) (pre-was .0) (sym (first-length-was .ensures)) (test1 .left) in
+    omega (arith, t .whole, pre-was .1)
+
+sub-same-bytes : tie.Need-sub-same-bytes
+sub-same-bytes c =
+    let given = c .before .before .before .before .args in
+    let first-length-was = c .before .first-length in
+    let pre-was = c .before .before .before .before .pre in
+    let test1 = c .if1 in
+    let m = given .answer .now in
+    let t = first-there m (first-length-was .result) (pre-was .0) (sym (first-length-was .ensures)) (test1 .left) in
+    omega (arith, t .least)
+
+part-same-bytes-start : tie.Need-part-same-bytes-start
+part-same-bytes-start c =
+    let given = c .before .before .before .before .args in
+    let first-length-was = c .before .first-length in
+    let pre-was = c .before .before .before .before .pre in
+    let test1 = c .if1 in
+    let m = given .answer .now in
+    let t = first-there m (first-length-was .result) (pre-was .0) (sym (first-length-was .ensures)) (test1 .left) in
+    omega (arith, t .least)
+
+part-same-bytes-end : tie.Need-part-same-bytes-end
+unfolding up4
+part-same-bytes-end c =
+    let given = c .before .before .before .before .args in
+    let first-length-was = c .before .first-length in
+    let pre-was = c .before .before .before .before .pre in
+    let test1 = c .if1 in
+    let m = given .answer .now in
+    let t = first-there m (first-length-was .result) (pre-was .0) (sym (first-length-was .ensures)) (test1 .left) in
+    omega (arith, t .whole, pre-was .0)
+
+same-bytes-requires : tie.Need-same-bytes-requires
+same-bytes-requires c κs = search needs
 
 returns-2 : tie.Need-returns-2
 returns-2 c =
-    let step-was = c .before .before .before .step in
-    let given = c .before .before .before .before .before .before .before .before .args in
-    let avp-at-was = c .before .before .before .before .before .avp-at in
-    let is-session-was = c .before .is-session in
-    let test1 = c .if1 in
-    let a = step-was .given .0 .0 in
-    let e : stepAt (given .answer .now) 20 ≡ One a = sym (avp-at-was .ensures) ∙ step-was .given .1 in
-    let s : sameName sessionId (seenName a) && same (part (given .answer .now) (a .value) (a .len)) (given .session .now) ≡ false = sym (is-session-was .ensures) ∙ not-true (is-session-was .result) (test1 .taken) in
-    sym (first-other (given .answer .now) 20 a e (given .session .now) s)
+    let given = c .before .before .before .before .before .before .before .args in
+    let first-length-was = c .before .before .before .before .first-length in
+    let same-bytes-was = c .before .same-bytes in
+    let test2 = c .if2 in
+    let pre-was = c .before .before .before .before .before .before .before .pre in
+    let test1 = c .before .before .before .if1 in
+    let m = given .answer .now in
+    let d : same (part m 28 (20 + first-length-was .result - 28)) (given .session .now) ≡ false = sym (same-bytes-was .ensures) ∙ not-true (same-bytes-was .result) (test2 .taken) in
+    sym (first-other m (first-length-was .result) (pre-was .0) (sym (first-length-was .ensures)) (test1 .left) (given .session .now) d)
 
-returns-3 : tie.Need-returns-3
-returns-3 c =
-    let step-was = c .before .before .before .before .step in
-    let given = c .before .before .before .before .before .before .before .before .before .args in
-    let avp-at-was = c .before .before .before .before .before .before .avp-at in
-    let is-session-was = c .before .before .is-session in
-    let test1 = c .before .if1 in
-    let rest-answers-was = c .rest-answers in
-    let a = step-was .given .0 .0 in
-    let e : stepAt (given .answer .now) 20 ≡ One a = sym (avp-at-was .ensures) ∙ step-was .given .1 in
-    let s : sameName sessionId (seenName a) && same (part (given .answer .now) (a .value) (a .len)) (given .session .now) ≡ true = sym (is-session-was .ensures) ∙ not-false (is-session-was .result) (test1 .left) in
-    rest-answers-was .ensures ∙ sym (first-ours (given .answer .now) 20 a e (given .session .now) s)
+add-rest-answers : tie.Need-add-rest-answers
+unfolding up4
+add-rest-answers c =
+    let given = c .before .before .before .before .before .before .before .args in
+    let first-length-was = c .before .before .before .before .first-length in
+    let pre-was = c .before .before .before .before .before .before .before .pre in
+    let test1 = c .before .before .before .if1 in
+    let m = given .answer .now in
+    let t = first-there m (first-length-was .result) (pre-was .0) (sym (first-length-was .ensures)) (test1 .left) in
+    omega (arith, t .whole, pre-was .1)
 
-avp-at-requires : tie.Need-avp-at-requires
-avp-at-requires c κs = search needs
+mul-rest-answers : tie.Need-mul-rest-answers
+unfolding up4
+mul-rest-answers c =
+    let given = c .before .before .before .before .before .before .before .args in
+    let first-length-was = c .before .before .before .before .first-length in
+    let pre-was = c .before .before .before .before .before .before .before .pre in
+    let test1 = c .before .before .before .if1 in
+    let m = given .answer .now in
+    let t = first-there m (first-length-was .result) (pre-was .0) (sym (first-length-was .ensures)) (test1 .left) in
+    omega (arith, t .whole, pre-was .1)
 
-enum-known-step : tie.Need-enum-known-step
-enum-known-step c = search needs
-
-is-session-requires : tie.Need-is-session-requires
-is-session-requires c κs =
-    let step-was = c .before .step in
-    let given = c .before .before .before .before .before .before .args in
-    let avp-at-was = c .before .before .before .avp-at in
-    let a = step-was .given .0 .0 in
-    let e : stepAt (given .answer .now) 20 ≡ One a = sym (avp-at-was .ensures) ∙ step-was .given .1 in
-    let p = placed (given .answer .now) 20 a e in
-    omega (arith, p .value, p .inside)
+add-rest-answers-2 : tie.Need-add-rest-answers-2
+unfolding up4
+add-rest-answers-2 c =
+    let given = c .before .before .before .before .before .before .before .args in
+    let first-length-was = c .before .before .before .before .first-length in
+    let pre-was = c .before .before .before .before .before .before .before .pre in
+    let test1 = c .before .before .before .if1 in
+    let m = given .answer .now in
+    let t = first-there m (first-length-was .result) (pre-was .0) (sym (first-length-was .ensures)) (test1 .left) in
+    omega (arith, t .whole, pre-was .1)
 
 rest-answers-requires : tie.Need-rest-answers-requires
+unfolding up4
 rest-answers-requires c κs =
-    let step-was = c .before .before .before .step in
+    let given = c .before .before .before .before .before .before .before .args in
+    let first-length-was = c .before .before .before .before .first-length in
+    let pre-was = c .before .before .before .before .before .before .before .pre in
+    let test1 = c .before .before .before .if1 in
+    let m = given .answer .now in
+    let t = first-there m (first-length-was .result) (pre-was .0) (sym (first-length-was .ensures)) (test1 .left) in
+    (omega (arith, t .whole, pre-was .0), pre-was .1)
+
+returns-3 : tie.Need-returns-3
+unfolding up4
+returns-3 c =
     let given = c .before .before .before .before .before .before .before .before .args in
-    let avp-at-was = c .before .before .before .before .before .avp-at in
-    let a = step-was .given .0 .0 in
-    let e : stepAt (given .answer .now) 20 ≡ One a = sym (avp-at-was .ensures) ∙ step-was .given .1 in
-    (placed (given .answer .now) 20 a e) .inside
+    let first-length-was = c .before .before .before .before .before .first-length in
+    let same-bytes-was = c .before .before .same-bytes in
+    let test2 = c .before .if2 in
+    let rest-answers-was = c .rest-answers in
+    let pre-was = c .before .before .before .before .before .before .before .before .pre in
+    let test1 = c .before .before .before .before .if1 in
+    let m = given .answer .now in
+    let d : same (part m 28 (20 + first-length-was .result - 28)) (given .session .now) ≡ true = sym (same-bytes-was .ensures) ∙ not-false (same-bytes-was .result) (test2 .left) in
+    rest-answers-was .ensures ∙ sym (first-ours m (first-length-was .result) (pre-was .0) (sym (first-length-was .ensures)) (test1 .left) (given .session .now) d)
 
 pub answers-for-spec : {M : Type 1} → statement M
-answers-for-spec =
-    tie.close
-    (tie.spec
-    avp-at-requires
-    enum-known-step
-    returns
-    is-session-requires
-    returns-2
-    rest-answers-requires
-    returns-3)
+answers-for-spec = tie.close (tie.spec first-length-requires returns add-end sub-same-bytes part-same-bytes-start part-same-bytes-end same-bytes-requires returns-2 add-rest-answers mul-rest-answers add-rest-answers-2 rest-answers-requires returns-3)

@@ -1,115 +1,168 @@
--- What is left to walk decides the same: `rest-goes`; a law of Answers for each way out.
+-- What is left to walk decides the same: `place-goes`; a law of Answers for each way out.
 use mathlib.Core.Path.{_≡_, refl, sym, ap, _∙_}
 use mathlib.Core.Bool.{Bool, false}
-use Prim.Native.Nat.{_-_, _≤_}
+use Prim.Native.Nat.{_+_, _-_}
 use native.Mathlib.Omega.{arith}
-use lib.ListN.{length, drop}
+use lib.ListN.{length, drop, length-drop}
+use Rattle.octets.specs.Numbers.{up4}
 use Rattle.message.specs.ReadingAMessage.{walk}
-use Rattle.reader.specs.Steps.{stepAt}
-use Rattle.reader.specs.declared.Step.the-variants.{One}
-use Rattle.reader.proofs.Laws.{placed}
 use Rattle.abort.specs.Code.{restAnswers}
-use Rattle.abort.proofs.Answers.{rest-end, rest-bad, rest-spoilt, rest-goes}
+use Rattle.abort.proofs.Answers.{There, there, rest-end, rest-bad, place-spoilt, place-goes}
 use borrow.Author.Needs.{needs}
 use Rattle.abort.proofs.rest_answers.Statement.{statement}
 use Rattle.abort.proofs.rest_answers.Tie as tie
 
 abbrev Inv-loop : tie.InvT-loop
-Inv-loop answer from at₀ found₀ at found = (at ≤ length answer) × (restAnswers found (walk (drop at answer)) ≡ restAnswers false (walk (drop from answer)))
+Inv-loop answer from at₀ left₀ found₀ at left found = (at + left ≡ length answer) × (restAnswers found (walk (drop at answer)) ≡ restAnswers false (walk (drop from answer)))
 
 abbrev μ-loop : tie.MeasureT-loop
-μ-loop answer from at₀ found₀ at found = length answer - at
+μ-loop answer from at₀ left₀ found₀ at left found = left
+
+sub-left : tie.Need-sub-left Inv-loop μ-loop
+sub-left c =
+    let pre-was = c .before .pre in
+    omega (arith, pre-was .0)
 
 loop-holds : tie.Need-loop-holds Inv-loop μ-loop
 loop-holds c =
     let pre-was = c .before .pre in
-    (pre-was, refl)
+    (omega (arith, pre-was .0), refl)
 
-avp-at-requires : tie.Need-avp-at-requires Inv-loop μ-loop
-avp-at-requires c κs = search needs
-
-enum-told : tie.Need-enum-told Inv-loop μ-loop
-enum-told c = search needs
+length-at-requires : tie.Need-length-at-requires Inv-loop μ-loop
+length-at-requires c κs =
+    let loop-was = c .before .loop in
+    let pre-was = c .before .before .before .pre in
+    (loop-was .inv .0, omega (arith, loop-was .inv .0, pre-was .1))
 
 returns : tie.Need-returns Inv-loop μ-loop
 returns c =
     let given = c .before .before .before .before .before .args in
     let loop-was = c .before .before .before .loop in
-    let avp-at-was = c .before .before .avp-at in
-    let enum-told-was = c .enum-told in
-    sym (rest-end (given .answer .now) (loop-was .at) (loop-was .found) (sym (avp-at-was .ensures) ∙ enum-told-was .given .1)) ∙ loop-was .inv .1
+    let loop-test-was = c .before .before .loop-test in
+    let length-at-was = c .before .length-at in
+    let test1 = c .if1 in
+    let m = given .answer .now in
+    let h : loop-was .at + loop-was .left ≡ length m = loop-was .inv .0 in
+    sym (rest-bad (drop (loop-was .at) m) (rw length-drop (omega (arith, h, loop-test-was .taken))) (loop-was .found) (sym (length-at-was .ensures) ∙ test1 .taken)) ∙ loop-was .inv .1
 
-enum-told-2 : tie.Need-enum-told-2 Inv-loop μ-loop
-enum-told-2 c = search needs
-
-returns-2 : tie.Need-returns-2 Inv-loop μ-loop
-returns-2 c =
+code-at-requires : tie.Need-code-at-requires Inv-loop μ-loop
+code-at-requires c κs =
     let given = c .before .before .before .before .before .args in
     let loop-was = c .before .before .before .loop in
-    let enum-told2-was = c .enum-told2 in
-    let avp-at-was = c .before .before .avp-at in
-    sym (rest-bad (given .answer .now) (loop-was .at) (loop-was .found) (enum-told2-was .given .0 .0) (sym (avp-at-was .ensures) ∙ enum-told2-was .given .1)) ∙ loop-was .inv .1
-
-enum-known-step : tie.Need-enum-known-step Inv-loop μ-loop
-enum-known-step c = search needs
+    let length-at-was = c .before .length-at in
+    let test1 = c .if1 in
+    let m = given .answer .now in
+    let h : loop-was .at + loop-was .left ≡ length m = loop-was .inv .0 in
+    let t : There m (loop-was .at) (loop-was .left) (length-at-was .result) = there m (loop-was .at) (loop-was .left) (length-at-was .result) h (sym (length-at-was .ensures)) (test1 .left) in
+    omega (arith, h, t .eight)
 
 is-spoilt-requires : tie.Need-is-spoilt-requires Inv-loop μ-loop
 is-spoilt-requires c κs = search needs
 
-returns-3 : tie.Need-returns-3 Inv-loop μ-loop
-returns-3 c =
-    let step-was = c .before .before .before .step in
+returns-2 : tie.Need-returns-2 Inv-loop μ-loop
+returns-2 c =
     let given = c .before .before .before .before .before .before .before .before .args in
     let loop-was = c .before .before .before .before .before .before .loop in
-    let avp-at-was = c .before .before .before .before .before .avp-at in
+    let length-at-was = c .before .before .before .before .length-at in
+    let test1 = c .before .before .before .if1 in
+    let code-at-was = c .before .before .code-at in
     let is-spoilt-was = c .before .is-spoilt in
-    let test1 = c .if1 in
-    let a = step-was .given .0 .0 in
-    let e : stepAt (given .answer .now) (loop-was .at) ≡ One a = sym (avp-at-was .ensures) ∙ step-was .given .1 in
-    sym (rest-spoilt (given .answer .now) (loop-was .at) a e (loop-was .found) (sym (is-spoilt-was .ensures) ∙ test1 .taken)) ∙ loop-was .inv .1
+    let test2 = c .if2 in
+    let m = given .answer .now in
+    let h : loop-was .at + loop-was .left ≡ length m = loop-was .inv .0 in
+    let t : There m (loop-was .at) (loop-was .left) (length-at-was .result) = there m (loop-was .at) (loop-was .left) (length-at-was .result) h (sym (length-at-was .ensures)) (test1 .left) in
+    sym (place-spoilt m (loop-was .at) (loop-was .left) (length-at-was .result) t (code-at-was .result) (code-at-was .ensures) (loop-was .found) (sym (is-spoilt-was .ensures) ∙ test2 .taken)) ∙ loop-was .inv .1
 
 is-found-requires : tie.Need-is-found-requires Inv-loop μ-loop
 is-found-requires c κs = search needs
 
-loop-less : tie.Need-loop-less Inv-loop μ-loop
-loop-less c =
-    let step-was = c .before .before .before .before .step in
+add-whole : tie.Need-add-whole Inv-loop μ-loop
+unfolding up4
+add-whole c =
     let given = c .before .before .before .before .before .before .before .before .before .args in
     let loop-was = c .before .before .before .before .before .before .before .loop in
-    let avp-at-was = c .before .before .before .before .before .before .avp-at in
-    let a = step-was .given .0 .0 in
-    let e : stepAt (given .answer .now) (loop-was .at) ≡ One a = sym (avp-at-was .ensures) ∙ step-was .given .1 in
-    let p = placed (given .answer .now) (loop-was .at) a e in
-    omega (arith, p .on, p .inside)
+    let length-at-was = c .before .before .before .before .before .length-at in
+    let test1 = c .before .before .before .before .if1 in
+    let pre-was = c .before .before .before .before .before .before .before .before .before .pre in
+    let m = given .answer .now in
+    let h : loop-was .at + loop-was .left ≡ length m = loop-was .inv .0 in
+    let t : There m (loop-was .at) (loop-was .left) (length-at-was .result) = there m (loop-was .at) (loop-was .left) (length-at-was .result) h (sym (length-at-was .ensures)) (test1 .left) in
+    omega (arith, t .whole, h, pre-was .1)
+
+mul-whole : tie.Need-mul-whole Inv-loop μ-loop
+unfolding up4
+mul-whole c =
+    let given = c .before .before .before .before .before .before .before .before .before .args in
+    let loop-was = c .before .before .before .before .before .before .before .loop in
+    let length-at-was = c .before .before .before .before .before .length-at in
+    let test1 = c .before .before .before .before .if1 in
+    let pre-was = c .before .before .before .before .before .before .before .before .before .pre in
+    let m = given .answer .now in
+    let h : loop-was .at + loop-was .left ≡ length m = loop-was .inv .0 in
+    let t : There m (loop-was .at) (loop-was .left) (length-at-was .result) = there m (loop-was .at) (loop-was .left) (length-at-was .result) h (sym (length-at-was .ensures)) (test1 .left) in
+    omega (arith, t .whole, h, pre-was .1)
+
+add-at : tie.Need-add-at Inv-loop μ-loop
+unfolding up4
+add-at c =
+    let given = c .before .before .before .before .before .before .before .before .before .args in
+    let loop-was = c .before .before .before .before .before .before .before .loop in
+    let length-at-was = c .before .before .before .before .before .length-at in
+    let test1 = c .before .before .before .before .if1 in
+    let pre-was = c .before .before .before .before .before .before .before .before .before .pre in
+    let m = given .answer .now in
+    let h : loop-was .at + loop-was .left ≡ length m = loop-was .inv .0 in
+    let t : There m (loop-was .at) (loop-was .left) (length-at-was .result) = there m (loop-was .at) (loop-was .left) (length-at-was .result) h (sym (length-at-was .ensures)) (test1 .left) in
+    omega (arith, t .whole, h, pre-was .1)
+
+sub-left-2 : tie.Need-sub-left-2 Inv-loop μ-loop
+unfolding up4
+sub-left-2 c =
+    let given = c .before .before .before .before .before .before .before .before .before .args in
+    let loop-was = c .before .before .before .before .before .before .before .loop in
+    let length-at-was = c .before .before .before .before .before .length-at in
+    let test1 = c .before .before .before .before .if1 in
+    let m = given .answer .now in
+    let h : loop-was .at + loop-was .left ≡ length m = loop-was .inv .0 in
+    let t : There m (loop-was .at) (loop-was .left) (length-at-was .result) = there m (loop-was .at) (loop-was .left) (length-at-was .result) h (sym (length-at-was .ensures)) (test1 .left) in
+    omega (arith, t .whole)
+
+loop-less : tie.Need-loop-less Inv-loop μ-loop
+unfolding up4
+loop-less c =
+    let given = c .before .before .before .before .before .before .before .before .before .args in
+    let loop-was = c .before .before .before .before .before .before .before .loop in
+    let length-at-was = c .before .before .before .before .before .length-at in
+    let test1 = c .before .before .before .before .if1 in
+    let m = given .answer .now in
+    let h : loop-was .at + loop-was .left ≡ length m = loop-was .inv .0 in
+    let t : There m (loop-was .at) (loop-was .left) (length-at-was .result) = there m (loop-was .at) (loop-was .left) (length-at-was .result) h (sym (length-at-was .ensures)) (test1 .left) in
+    omega (arith, t .whole, t .least)
 
 loop-again : tie.Need-loop-again Inv-loop μ-loop
+unfolding up4
 loop-again c =
-    let step-was = c .before .before .before .before .step in
     let given = c .before .before .before .before .before .before .before .before .before .args in
     let loop-was = c .before .before .before .before .before .before .before .loop in
-    let avp-at-was = c .before .before .before .before .before .before .avp-at in
+    let length-at-was = c .before .before .before .before .before .length-at in
+    let test1 = c .before .before .before .before .if1 in
     let is-found-was = c .is-found in
+    let code-at-was = c .before .before .before .code-at in
     let is-spoilt-was = c .before .before .is-spoilt in
-    let test1 = c .before .if1 in
-    let a = step-was .given .0 .0 in
-    let e : stepAt (given .answer .now) (loop-was .at) ≡ One a = sym (avp-at-was .ensures) ∙ step-was .given .1 in
-    ((placed (given .answer .now) (loop-was .at) a e) .inside, ap (λ (b : Bool). restAnswers b (walk (drop (a .next) (given .answer .now)))) (is-found-was .ensures) ∙ rest-goes (given .answer .now) (loop-was .at) a e (loop-was .found) (sym (is-spoilt-was .ensures) ∙ test1 .left) ∙ loop-was .inv .1)
+    let test2 = c .before .if2 in
+    let m = given .answer .now in
+    let h : loop-was .at + loop-was .left ≡ length m = loop-was .inv .0 in
+    let t : There m (loop-was .at) (loop-was .left) (length-at-was .result) = there m (loop-was .at) (loop-was .left) (length-at-was .result) h (sym (length-at-was .ensures)) (test1 .left) in
+    (omega (arith, t .whole, h), ap (λ (b : Bool). restAnswers b (walk (drop (loop-was .at + up4 (length-at-was .result)) m))) (is-found-was .ensures) ∙ place-goes m (loop-was .at) (loop-was .left) (length-at-was .result) t (code-at-was .result) (code-at-was .ensures) (loop-was .found) (sym (is-spoilt-was .ensures) ∙ test2 .left) ∙ loop-was .inv .1)
+
+returns-3 : tie.Need-returns-3 Inv-loop μ-loop
+returns-3 c =
+    let given = c .before .before .before .args in
+    let loop-was = c .before .loop in
+    let loop-test-was = c .loop-test in
+    let m = given .answer .now in
+    let z : loop-was .left ≡ 0 = loop-test-was .left in
+    sym (rest-end (drop (loop-was .at) m) (loop-was .found) (rw length-drop (omega (arith, loop-was .inv .0, z)))) ∙ loop-was .inv .1
 
 pub rest-answers-spec : {M : Type 1} → statement M
-rest-answers-spec =
-    tie.close
-    (tie.spec
-    Inv-loop
-    μ-loop
-    loop-holds
-    avp-at-requires
-    enum-told
-    returns
-    enum-told-2
-    returns-2
-    enum-known-step
-    is-spoilt-requires
-    returns-3
-    is-found-requires
-    loop-less
-    loop-again)
+rest-answers-spec = tie.close (tie.spec Inv-loop μ-loop sub-left loop-holds length-at-requires returns code-at-requires is-spoilt-requires returns-2 is-found-requires add-whole mul-whole add-at sub-left-2 loop-less loop-again returns-3)
