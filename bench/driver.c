@@ -30,9 +30,12 @@ int tally_time(void);
 enum { CLOCK_MONOTONIC = 1 };
 
 enum { ROWS = 1024, MESSAGES = 12, MOVED = 64 };
+enum { BURST = 100, ANSWERS = BURST * 512 + WM_ANSWER_LEAST, NOTICES = BURST * WM_NOTICE_2_LEAST }; /* rooms that let a burst in */
 
 typedef struct wm_outcome handle_function(uint8_t *, size_t, uint32_t, uint32_t, const uint8_t *, size_t, const uint8_t *, size_t,
                                           const uint8_t *, size_t, bool, uint8_t *, size_t, uint8_t *, size_t);
+typedef struct wm_taken burst_function(uint8_t *, size_t, uint32_t, uint32_t, const uint8_t *, size_t, const uint8_t *, size_t, const uint8_t *,
+                                       size_t, const uint8_t *, size_t, uint8_t *, size_t, uint8_t *, size_t, struct wm_outcome *, size_t);
 typedef uint32_t move_function(const uint8_t *, size_t, uint8_t *, size_t, uint32_t);
 typedef struct wm_written abort_function(const uint8_t *, size_t, const uint8_t *, size_t, const uint8_t *, size_t, uint32_t, uint32_t,
                                          uint32_t, uint32_t, uint32_t, uint8_t *, size_t);
@@ -43,6 +46,14 @@ static struct wm_outcome none_handle(uint8_t *t, size_t tl, uint32_t f, uint32_t
                                      const uint8_t *m, size_t ml, bool w, uint8_t *a, size_t al, uint8_t *n, size_t nl) {
     (void)t, (void)tl, (void)f, (void)op, (void)h, (void)hl, (void)r, (void)rl, (void)m, (void)ml, (void)w, (void)a, (void)al, (void)n, (void)nl;
     return (struct wm_outcome){0};
+}
+
+static struct wm_taken none_burst(uint8_t *t, size_t tl, uint32_t f, uint32_t op, const uint8_t *h, size_t hl, const uint8_t *r, size_t rl,
+                                  const uint8_t *m, size_t ml, const uint8_t *w, size_t wl, uint8_t *a, size_t al, uint8_t *n, size_t nl,
+                                  struct wm_outcome *o, size_t ol) {
+    (void)t, (void)tl, (void)f, (void)op, (void)h, (void)hl, (void)r, (void)rl, (void)m, (void)ml, (void)w, (void)wl, (void)a, (void)al, (void)n, (void)nl;
+    (void)o, (void)ol;
+    return (struct wm_taken){0};
 }
 
 static uint32_t none_move(const uint8_t *t, size_t tl, uint8_t *to, size_t tol, uint32_t f) {
@@ -65,21 +76,29 @@ static uint32_t none_answered(const uint8_t *a, size_t al, const uint8_t *s, siz
 static const struct library {
     const char *name;
     handle_function *volatile handle;
+    burst_function *volatile burst;
     move_function *volatile move;
     abort_function *volatile abort;
     answered_function *volatile answered;
-} libraries[3] = {{"proved", wm_handle, wm_move, wm_abort, wm_abort_answered},
-                  {"plain", plain_handle, plain_move, plain_abort, plain_abort_answered},
-                  {"none", none_handle, none_move, none_abort, none_answered}};
+} libraries[3] = {{"proved", wm_handle, wm_burst, wm_move, wm_abort, wm_abort_answered},
+                  {"plain", plain_handle, plain_burst, plain_move, plain_abort, plain_abort_answered},
+                  {"none", none_handle, none_burst, none_move, none_abort, none_answered}};
 
 /* Everything that a library is lent. */
 struct lent {
-    uint8_t table[ROWS * WM_ROW_2], target[MOVED * WM_ROW_2], answer[WM_ANSWER_LEAST], notice[WM_NOTICE_2_LEAST];
+    uint8_t table[ROWS * WM_ROW_2], target[MOVED * WM_ROW_2], answer[ANSWERS], notice[NOTICES];
+    struct wm_outcome results[BURST];
 };
 static struct lent lent[2];
 static uint8_t saved[WM_ROW_2]; /* the subscriber's row as it was set up */
 
 static struct request messages[MESSAGES];
+
+/* The same messages in turn, back to back, and the word on each. */
+static struct {
+    uint8_t bytes[BURST * 512], wags[BURST];
+    size_t at[BURST + 1];
+} burst;
 
 static const char host[] = "aaa1.wlan.mnc001.mcc001.3gppnetwork.org", realm[] = "wlan.mnc001.mcc001.3gppnetwork.org";
 static const char gateway[] = "pdg1.wlan.mnc001.mcc001.3gppnetwork.org", label[] = "internet.operator.example";
@@ -145,9 +164,9 @@ static void put_termination(uint32_t i, uint32_t session, uint32_t row) {
 
 /* ---- lines ---- */
 
-/* What a line calls: a request is handled, the table is moved to the other form, an Abort-Session-Request is written from the notice that `cut` has, with the
+/* What a line calls: a request is handled, a hundred of them are, by a call each or by one for all, the table is moved to the other form, an Abort-Session-Request is written from the notice that `cut` has, with the
  * identifiers of the message, or the message is an answer that is judged. */
-enum what { HANDLE, MOVE, WRITE, JUDGE };
+enum what { HANDLE, EACH, ALL, MOVE, WRITE, JUDGE };
 
 /* restore: the subscriber's row is set back before each call. form: of the table. */
 struct line {
@@ -216,6 +235,17 @@ static void openings(uint32_t open) {
 static void cutting(void) {
     subscribers(2, 2);
     openings(2);
+}
+
+/* A hundred of them: no session comes again while it stands. */
+static void cutting_hundred(void) {
+    cutting();
+    for (size_t i = 0; i < BURST; i++) {
+        const struct request *r = &messages[i % MESSAGES];
+        memcpy(burst.bytes + burst.at[i], r->bytes, r->length);
+        burst.at[i + 1] = burst.at[i] + r->length;
+        burst.wags[i] = 1;
+    }
 }
 
 /* All other rows have the same name, of the other operators in turn. */
@@ -480,6 +510,10 @@ static const struct line lines[] = {
     {"form 2: one policy", policies, 1, 2, false, {2001, 1, 0, 0, 0, 0, 0, 0}, 2, HANDLE},
     {"form 2: three policies", three_policies, 1, 2, false, {2001, 1, 0, 0, 0, 0, 0, 0}, 2, HANDLE},
     {"form 2: termination", terminations, 1, 1, true, {2001, 1, 0, 0, 0, 0, 0, 0}, 2, HANDLE},
+    {"100 openings with a cut, a call each", cutting_hundred, 1, 1, false, {2001, 1, 0, 0, 1, 72, 39, 0}, 1, EACH},
+    {"100 openings with a cut, one burst", cutting_hundred, 1, 1, false, {2001, 1, 0, 0, 1, 72, 39, 0}, 1, ALL},
+    {"form 2: 100 openings, a call each", cutting_hundred, 1, 1, false, {2001, 1, 0, 0, 1, 72, 39, 34}, 2, EACH},
+    {"form 2: 100 openings, one burst", cutting_hundred, 1, 1, false, {2001, 1, 0, 0, 1, 72, 39, 34}, 2, ALL},
     {"moving 64 rows to form 2", full_table, MOVED, 0, false, {0, 0, 0, 0, 0, 0, 0, 0}, 1, MOVE},
     {"moving 64 rows back to form 1", full_table, MOVED, 0, false, {0, 0, 0, 0, 0, 0, 0, 0}, 2, MOVE},
     {"writing an Abort-Session-Request", disconnecting, 1, MESSAGES, false, {0, 1, 0, 0, 0, 0, 0, 0}, 2, WRITE},
@@ -503,6 +537,7 @@ static void set_up(const struct line *line) {
         memset(lent[i].target, 0xC3, sizeof lent[i].target);
         memset(lent[i].answer, 0xA5, sizeof lent[i].answer);
         memset(lent[i].notice, 0x5A, sizeof lent[i].notice);
+        memset(lent[i].results, 0x3C, sizeof lent[i].results);
     }
 }
 
@@ -518,12 +553,44 @@ static inline struct wm_outcome write_abort(const struct library *library, struc
     return (struct wm_outcome){.code = w.number, .kind = w.number == 0, .length = w.length};
 }
 
+/* The outcome of the last message; whether all were taken, and each with a cut, stands in its kind and its cut. */
+static inline struct wm_outcome told_of(const struct lent *l, size_t taken, size_t cuts) {
+    struct wm_outcome o = l->results[BURST - 1];
+    o.kind = taken == BURST;
+    o.cut = cuts == BURST;
+    return o;
+}
+
+static inline struct wm_outcome call_each(const struct library *library, struct lent *l, const struct line *line) {
+    size_t cuts = 0;
+    for (size_t i = 0; i < BURST; i++) {
+        l->results[i] = library->handle(l->table, line->rows * row_of(line->form), line->form, 0, (const uint8_t *)host, sizeof host - 1,
+                                        (const uint8_t *)realm, sizeof realm - 1, burst.bytes + burst.at[i], burst.at[i + 1] - burst.at[i],
+                                        burst.wags[i], l->answer + i * 512, WM_ANSWER_LEAST, l->notice + i * notice_of(line->form),
+                                        notice_of(line->form));
+        cuts += l->results[i].cut;
+    }
+    return told_of(l, BURST, cuts);
+}
+
+static inline struct wm_outcome call_all(const struct library *library, struct lent *l, const struct line *line) {
+    struct wm_taken t =
+        library->burst(l->table, line->rows * row_of(line->form), line->form, 0, (const uint8_t *)host, sizeof host - 1, (const uint8_t *)realm,
+                       sizeof realm - 1, burst.bytes, burst.at[BURST], burst.wags, BURST, l->answer, sizeof l->answer, l->notice,
+                       sizeof l->notice, l->results, BURST);
+    return told_of(l, t.messages, t.notices);
+}
+
 static inline struct wm_outcome call(const struct library *library, struct lent *l, const struct line *line, size_t i) {
     size_t size = row_of(line->form);
     if (line->what == MOVE) {
         uint32_t to = 3 - line->form;
         return (struct wm_outcome){.code = library->move(l->table, line->rows * size, l->target, line->rows * row_of(to), to)};
     }
+    if (line->what == EACH)
+        return call_each(library, l, line);
+    if (line->what == ALL)
+        return call_all(library, l, line);
     const uint8_t *m = messages[i].bytes;
     if (line->what == WRITE)
         return write_abort(library, l, four(m + 12), four(m + 16));
@@ -533,7 +600,7 @@ static inline struct wm_outcome call(const struct library *library, struct lent 
     if (line->restore)
         memcpy(l->table + (line->rows - 1) * size, saved, size);
     return library->handle(l->table, line->rows * size, line->form, 0, (const uint8_t *)host, sizeof host - 1, (const uint8_t *)realm,
-                           sizeof realm - 1, messages[i].bytes, messages[i].length, true, l->answer, sizeof l->answer, l->notice,
+                           sizeof realm - 1, messages[i].bytes, messages[i].length, true, l->answer, WM_ANSWER_LEAST, l->notice,
                            notice_of(line->form));
 }
 
@@ -543,7 +610,8 @@ static bool same_lent(const struct line *line) {
     return memcmp(lent[0].table, lent[1].table, line->rows * row_of(line->form)) == 0 &&
            memcmp(lent[0].target, lent[1].target, sizeof lent[0].target) == 0 &&
            memcmp(lent[0].answer, lent[1].answer, sizeof lent[0].answer) == 0 &&
-           memcmp(lent[0].notice, lent[1].notice, sizeof lent[0].notice) == 0;
+           memcmp(lent[0].notice, lent[1].notice, sizeof lent[0].notice) == 0 &&
+           memcmp(lent[0].results, lent[1].results, sizeof lent[0].results) == 0;
 }
 
 static bool as_expected(const struct wm_outcome *o, const struct wm_outcome *e) {
@@ -623,6 +691,8 @@ static uint64_t digest(const struct lent *l, const struct line *line) {
         h = (h ^ l->answer[i]) * 1099511628211u;
     for (size_t i = 0; i < sizeof l->notice; i++)
         h = (h ^ l->notice[i]) * 1099511628211u;
+    for (size_t i = 0; i < BURST; i++)
+        h = (h ^ l->results[i].length) * 1099511628211u;
     return h;
 }
 
@@ -635,7 +705,7 @@ double seconds(void) {
 /* The shortest of many short runs for each, the libraries in turn; the loop around the call taken off. Both must leave the same. */
 static bool time_line(const struct line *line) {
     double best[3] = {1e9, 1e9, 1e9};
-    uint32_t calls = line->what == MOVE ? MESSAGES : 50 * MESSAGES; /* a move takes long */
+    uint32_t calls = line->what == MOVE || line->what == EACH || line->what == ALL ? MESSAGES : 50 * MESSAGES; /* these take long */
     set_up(line);
     for (uint32_t turn = 0; turn < 60; turn++) {
         uint32_t bad[3];

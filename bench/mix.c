@@ -1,4 +1,4 @@
-/* Calls by chance: set-up operations, requests, moves and disconnections, good and damaged, on tables of both forms that live on. After each one both libraries must
+/* Calls by chance: set-up operations, requests, bursts of them, moves and disconnections, good and damaged, on tables of both forms that live on. After each one both libraries must
  * have given the same and left the same bytes everywhere. */
 #include "requests.h"
 
@@ -8,10 +8,13 @@ FILE *fopen(const char *, const char *);
 size_t fwrite(const void *, size_t, size_t, FILE *);
 int fclose(FILE *);
 
-enum { ROWS = 4, ANSWER = WM_ANSWER_LEAST + 64, NOTICE = WM_NOTICE_2_LEAST + 64 };
+enum { ROWS = 4, BURST = 8 };
+/* rooms that let a burst in, and some more */
+enum { ANSWER = BURST * WM_ANSWER_LEAST + 64, NOTICE = BURST * WM_NOTICE_2_LEAST + 64 };
 
 static struct side {
     uint8_t table[ROWS * WM_ROW_2], target[ROWS * WM_ROW_2 + 64], answer[ANSWER], notice[NOTICE];
+    struct wm_outcome results[BURST + 8];
 } proved, plain;
 
 /* The form in which the table stands now: a move that succeeded, and a clearing, may leave another one. */
@@ -354,7 +357,8 @@ static bool same_rooms(void) {
     return memcmp(proved.table, plain.table, sizeof plain.table) == 0 &&
            memcmp(proved.target, plain.target, sizeof plain.target) == 0 &&
            memcmp(proved.answer, plain.answer, sizeof plain.answer) == 0 &&
-           memcmp(proved.notice, plain.notice, sizeof plain.notice) == 0;
+           memcmp(proved.notice, plain.notice, sizeof plain.notice) == 0 &&
+           memcmp(proved.results, plain.results, sizeof plain.results) == 0;
 }
 
 static size_t table_length(void) {
@@ -414,7 +418,7 @@ static bool set_up(uint32_t *number) {
 
 /* The last cut in form 2: its notice and the lengths that came with it. */
 static struct {
-    uint8_t notice[NOTICE];
+    uint8_t notice[WM_NOTICE_2_LEAST + 64];
     uint32_t lengths[3];
 } cut;
 
@@ -445,6 +449,81 @@ static bool request(struct wm_outcome *o) {
     if (o->cut && said == 2)
         keep_cut(o);
     return memcmp(o, &other, sizeof other) == 0;
+}
+
+/* ---- a burst ---- */
+
+/* The header says another length, and the message has it: past 4,096 bytes, no multiple of 4, or at the least. */
+static void resize(struct request *r) {
+    size_t length = one_in(3) ? MESSAGE_MOST + below(6) : one_in(2) ? r->length + below(4) : 18 + below(4);
+    if (length > r->length)
+        memset(r->bytes + r->length, 0, length - r->length);
+    r->length = length;
+    finish(r);
+}
+
+/* Up to BURST messages back to back, of one operator mostly; now and then the last is cut off, or bytes stand behind it. */
+static struct {
+    uint8_t bytes[(BURST + 1) * sizeof(struct request)], wags[BURST + 8];
+    size_t length, messages;
+    uint32_t op;
+} burst;
+
+static void burst_by_chance(void) {
+    static struct request r;
+    burst.length = 0;
+    burst.op = pick_operator();
+    burst.messages = below(BURST + 1);
+    for (size_t i = 0; i < burst.messages; i++) {
+        look_at_table();
+        if (held.there && i == 0)
+            burst.op = held.op;
+        by_chance(&r);
+        if (one_in(20))
+            r.bytes[0] = 2;
+        if (one_in(20))
+            resize(&r);
+        memcpy(burst.bytes + burst.length, r.bytes, r.length);
+        burst.length += r.length;
+        burst.wags[i] = (uint8_t)(one_in(3) ? 0 : one_in(2) ? 1 : 1 + below(255));
+    }
+    if (one_in(6)) {
+        memset(burst.bytes + burst.length, (int)below(2), 24);
+        burst.length += below(24);
+    } else if (one_in(6)) {
+        size_t off = one_in(2) ? below(5) : below((uint32_t)burst.length + 1);
+        burst.length -= off < burst.length ? off : burst.length;
+    }
+}
+
+/* A room for so many, or for one more or less, or around a limit. */
+static size_t room_for(size_t least, size_t most) {
+    size_t room = one_in(3) ? least * (1 + below(3)) : one_in(2) ? least + below(600) : most;
+    return one_in(3) ? room + below(3) - 1 : room;
+}
+
+/* Words and places: enough mostly, and now and then as many as messages, or one more or less. */
+static size_t some_places(void) {
+    size_t exact = burst.messages + below(3);
+    return one_in(4) ? exact == 0 ? 0 : exact - 1 : BURST + 8;
+}
+
+static bool same_taken(const struct wm_taken *a, const struct wm_taken *b) {
+    return a->number == b->number && a->messages == b->messages && a->bytes == b->bytes && a->answers == b->answers && a->notices == b->notices;
+}
+
+static bool take_burst(struct wm_taken *t) {
+    const struct text *host = PICK(texts), *realm = PICK(texts);
+    burst_by_chance();
+    size_t table = table_length(), words = some_places(), places = some_places();
+    size_t answers = room_for(WM_ANSWER_LEAST, ANSWER - 64), notices = room_for(form == 1 ? WM_NOTICE_LEAST : WM_NOTICE_2_LEAST, NOTICE - 64);
+    uint32_t said = say_form(form);
+    *t = wm_burst(proved.table, table, said, burst.op, (const uint8_t *)host->bytes, host->length, (const uint8_t *)realm->bytes, realm->length,
+                  burst.bytes, burst.length, burst.wags, words, proved.answer, answers, proved.notice, notices, proved.results, places);
+    struct wm_taken other = plain_burst(plain.table, table, said, burst.op, (const uint8_t *)host->bytes, host->length,
+                                        (const uint8_t *)realm->bytes, realm->length, burst.bytes, burst.length, burst.wags, words,
+                                        plain.answer, answers, plain.notice, notices, plain.results, places);
+    return same_taken(t, &other);
 }
 
 /* ---- the disconnection ---- */
@@ -533,11 +612,11 @@ static bool judge(uint32_t *belongs) {
 
 /* Each outcome that was seen, once. */
 static uint32_t outcomes(uint32_t outcome) {
-    static uint32_t seen[64], count;
+    static uint32_t seen[128], count;
     for (uint32_t i = 0; i < count; i++)
         if (seen[i] == outcome)
             return count;
-    if (count < 64)
+    if (count < 128)
         seen[count++] = outcome;
     return count;
 }
@@ -569,6 +648,12 @@ static uint32_t one_call(struct wm_outcome *o, bool *same) {
     if (chance == 3 || chance == 4) {
         *same = judge(&o->code);
         return 40000 + o->code;
+    }
+    if (chance == 5 || chance == 6) {
+        struct wm_taken t;
+        *same = take_burst(&t);
+        o->code = t.number;
+        return 50000 + 100 * t.number + (uint32_t)t.messages;
     }
     *same = request(o);
     return o->code + 10000 * (o->kind == 2);

@@ -1,5 +1,5 @@
 /* A stack of 4 KiB with nothing behind it, as of a request task: how deep the C library's memory functions go on it, a request that cuts
- * a tunnel, the request for its disconnection, and the answer to that. What was not touched still has its paint. Ends with 1 where a memory function takes over LIBRARY bytes; a call that needs more
+ * a tunnel, a burst of two that do, the request for a disconnection, and the answer to that. What was not touched still has its paint. Ends with 1 where a memory function takes over LIBRARY bytes; a call that needs more
  * than 4 KiB does not come back at all. */
 
 /* The kit's compiler comes without headers, so the types and the functions of the C library stand here. */
@@ -67,6 +67,11 @@ static size_t deepest(void (*f)(void)) {
 /* ---- a request ---- */
 
 static uint8_t table[WM_ROW_2], message[512], answer[WM_ANSWER_LEAST], notice[WM_NOTICE_2_LEAST];
+static uint8_t messages[1024], answers[2 * WM_ANSWER_LEAST], notices[2 * WM_NOTICE_2_LEAST];
+static const uint8_t wags[2] = {1, 1};
+static size_t all;
+static struct wm_taken taken;
+static struct wm_outcome results[2];
 static size_t end;
 static struct wm_outcome outcome;
 static struct wm_written written;
@@ -126,6 +131,16 @@ static void open_tunnel(void) {
                         notice, sizeof notice);
 }
 
+static void keep_message(void) {
+    memcpy(messages + all, message, end);
+    all += end;
+}
+
+static void open_both(void) {
+    taken = wm_burst(table, sizeof table, 2, 0, TEXT("server.example"), TEXT("example"), messages, all, wags, 2, answers, sizeof answers,
+                     notices, sizeof notices, results, 2);
+}
+
 static void disconnect(void) {
     written = wm_abort(TEXT("server.example"), TEXT("example"), notice, sizeof notice, outcome.cut_session, outcome.cut_host,
                        outcome.cut_realm, 7, 8, answer, WM_ABORT_LEAST);
@@ -167,9 +182,14 @@ int main(void) {
     ask(TEXT("b"));
     size_t opening = depth_of(open_tunnel);
     printf("of 4 KiB, with the caller's own frame: set-up %zu bytes, an opening with a cut %zu\n", entering, opening);
+    ask(TEXT("c"));
+    keep_message();
+    ask(TEXT("d"));
+    keep_message();
+    printf("of 4 KiB, the same way: a burst of two openings with a cut %zu bytes\n", depth_of(open_both));
     size_t writing = depth_of(disconnect);
     put_answer();
     size_t judging = depth_of(judge);
     printf("of 4 KiB, the same way: writing an Abort-Session-Request %zu bytes, judging the answer %zu\n", writing, judging);
-    return outcome.code == 2001 && outcome.cut == 1 && written.number == 0 && belongs == 1 ? 0 : 1;
+    return outcome.code == 2001 && outcome.cut == 1 && written.number == 0 && belongs == 1 && taken.messages == 2 && taken.notices == 2 ? 0 : 1;
 }

@@ -29,6 +29,10 @@ struct wm_outcome plain_handle(uint8_t *table, size_t table_length, uint32_t for
                                size_t host_length, const uint8_t *realm, size_t realm_length, const uint8_t *message,
                                size_t message_length, bool wag, uint8_t *answer, size_t answer_length, uint8_t *notice,
                                size_t notice_length);
+struct wm_taken plain_burst(uint8_t *table, size_t table_length, uint32_t form, uint32_t op, const uint8_t *host, size_t host_length,
+                            const uint8_t *realm, size_t realm_length, const uint8_t *messages, size_t messages_length,
+                            const uint8_t *wags, size_t wags_length, uint8_t *answers, size_t answers_length, uint8_t *notices,
+                            size_t notices_length, struct wm_outcome *results, size_t results_length);
 uint32_t plain_move(const uint8_t *table, size_t table_length, uint8_t *target, size_t target_length, uint32_t form);
 struct wm_written plain_abort(const uint8_t *host, size_t host_length, const uint8_t *realm, size_t realm_length,
                               const uint8_t *notice, size_t notice_length, uint32_t cut_session, uint32_t cut_host,

@@ -961,6 +961,58 @@ struct wm_outcome plain_handle(uint8_t *table, size_t table_length, uint32_t for
     return o;
 }
 
+/* ---- a burst ---- */
+
+/* The length of the message that starts here, by its header; 0 where no whole one does. */
+static inline size_t next_length(const uint8_t *p, size_t left) {
+    if (left < 4)
+        return 0;
+    size_t length = number(p) & 0xFFFFFF;
+    return length < 20 || length > left ? 0 : length;
+}
+
+static size_t whole_messages(const uint8_t *messages, size_t messages_length) {
+    size_t whole = 0;
+    for (size_t at = 0, n; (n = next_length(messages + at, messages_length - at)) != 0; at += n)
+        whole++;
+    return whole;
+}
+
+static uint32_t burst_number(size_t table_length, uint32_t form, uint32_t op, size_t host_length, size_t realm_length,
+                             const uint8_t *messages, size_t messages_length, size_t wags_length, size_t results_length) {
+    if (!table_fits(table_length, form))
+        return 1;
+    if (op >= OPERATORS)
+        return 33;
+    if (host_length - 1 >= TEXT_MOST || realm_length - 1 >= TEXT_MOST)
+        return 2;
+    size_t whole = whole_messages(messages, messages_length);
+    return wags_length < whole || results_length < whole ? 18 : 0;
+}
+
+struct wm_taken plain_burst(uint8_t *table, size_t table_length, uint32_t form, uint32_t op, const uint8_t *host, size_t host_length,
+                            const uint8_t *realm, size_t realm_length, const uint8_t *messages, size_t messages_length,
+                            const uint8_t *wags, size_t wags_length, uint8_t *answers, size_t answers_length, uint8_t *notices,
+                            size_t notices_length, struct wm_outcome *results, size_t results_length) {
+    struct wm_taken t = {burst_number(table_length, form, op, host_length, realm_length, messages, messages_length, wags_length, results_length),
+                         0, 0, 0, 0};
+    size_t n, notice = form == 1 ? WM_NOTICE_LEAST : WM_NOTICE_2_LEAST;
+    if (t.number)
+        return t;
+    while (answers_length - t.answers >= WM_ANSWER_LEAST && notices_length - t.notices * notice >= notice &&
+           (n = next_length(messages + t.bytes, messages_length - t.bytes)) != 0) {
+        struct wm_outcome *o = &results[t.messages];
+        *o = plain_handle(table, table_length, form, op, host, host_length, realm, realm_length, messages + t.bytes, n,
+                          wags[t.messages] != 0, answers + t.answers, answers_length - t.answers, notices + t.notices * notice,
+                          notices_length - t.notices * notice);
+        t.bytes += n;
+        t.messages++;
+        t.answers += o->length;
+        t.notices += o->cut;
+    }
+    return t;
+}
+
 /* ---- the disconnection ---- */
 
 struct wm_written plain_abort(const uint8_t *host, size_t host_length, const uint8_t *realm, size_t realm_length,

@@ -1,6 +1,6 @@
 /* A table of two rows, one for each of two operators, who have a subscriber of the same name: one of them opens a tunnel on its one W-APN, the other has
  * no W-APN. Prints the outcome, the answer's bytes, what the other operator is told, what comes of moving the table to form 2 and back, what is cut there and how its
- * gateway is asked to end it, the report of that hour, and what the screen board shows of the request, of its result and of a notice. */
+ * gateway is asked to end it, what comes of three messages in one call, the report of that hour, and what the screen board shows of the request, of its result and of a notice. */
 
 /* The kit's compiler comes without headers, so the types and the one function of the C library stand here. */
 #define WM_OWN_TYPES
@@ -19,6 +19,8 @@ static struct wm_report report;
 static struct wm_screen screens[2] = {{WM_OFF, 0, 1, "a"}, {WM_OFF, 0, 1, "b"}};
 static uint8_t table[2 * WM_ROW], moved[2 * WM_ROW_2], back[2 * WM_ROW], message[512], answer[WM_ANSWER_LEAST], notice[WM_NOTICE_2_LEAST],
     room[WM_ABORT_LEAST];
+static uint8_t messages[4 * 512], answers[2 * WM_ANSWER_LEAST], notices[4 * WM_NOTICE_2_LEAST];
+static struct wm_outcome results[4];
 
 /* Operators 0 and 1 may have a row each. */
 static const uint32_t shares[WM_OPERATORS] = {1, 1};
@@ -120,6 +122,38 @@ static void cut_and_ask(const char *session) {
     printf("; answered for a: %u, for b: %u\n", for_a, for_b);
 }
 
+/* Puts the message behind those that are there, and gives back where they end. */
+static size_t keep(size_t at, size_t length) {
+    for (size_t i = 0; i < length; i++)
+        messages[at + i] = message[i];
+    return at + length;
+}
+
+/* Three openings back to back, the second of another version, and two bytes more. The first and the third are taken whatever becomes of the second, in one call or, with
+ * room for one answer at a time, in several: each is lent what the one before left. */
+static void take_all(const char *sessions, size_t answer_room) {
+    static const uint8_t wags[4] = {1, 1, 1, 1};
+    size_t end = keep(0, opening(sessions));
+    size_t length = opening(sessions + 1);
+    message[0] = 2;
+    end = keep(end, length);
+    end = keep(end, opening(sessions + 2));
+    end = keep(end, 2);
+    size_t done = 0, bytes = 0, cuts = 0;
+    struct wm_taken t;
+    do {
+        t = wm_burst(moved, sizeof moved, 2, 0, TEXT("server.example"), TEXT("example"), messages + bytes, end - bytes, wags + done, 4 - done, answers,
+                     answer_room, notices + cuts * WM_NOTICE_2_LEAST, sizeof notices - cuts * WM_NOTICE_2_LEAST, results + done, 4 - done);
+        printf("burst: %u; %zu messages of %zu bytes taken, %zu bytes of answers, %zu notices:", t.number, t.messages, t.bytes, t.answers, t.notices);
+        for (size_t i = 0; i < t.messages; i++, done++) {
+            printf(" %u", results[done].code);
+            if (results[done].cut)
+                printf(" cuts %.*s", (int)results[done].cut_session, (char *)notices + cuts++ * WM_NOTICE_2_LEAST);
+        }
+        printf("; %zu bytes left\n", end - (bytes += t.bytes));
+    } while (t.messages != 0);
+}
+
 int main(void) {
     printf("clear: %u\n", wm_clear(table, sizeof table, 1));
     printf("enter: %u\n", wm_enter(table, sizeof table, 1, 0, shares, WM_OPERATORS, TEXT("001010123456789")));
@@ -138,6 +172,8 @@ int main(void) {
     move_both_ways();
     cut_and_ask("c");
     cut_and_ask("d");
+    take_all("efg", sizeof answers);
+    take_all("hij", WM_ANSWER_LEAST);
     struct wm_told told = {21, 0, o.code, o.kind, o.place, o.cut};
     printf("count: %u\n", wm_report_count(&report, &told, 1));
     struct wm_rate rate = wm_report_rate(&report);

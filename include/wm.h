@@ -1,4 +1,4 @@
-/* The Wm side of a tunnel access server: three set-up operations and one request at a time; moving a table from one form to the other; asking a gateway
+/* The Wm side of a tunnel access server: three set-up operations; requests, one at a time or in a burst; moving a table from one form to the other; asking a gateway
  * to end an access that was cut; a report of what came of requests, by hour; and a board that shows which screens are connected.
  * docs/RULES.md has the rules.
  *
@@ -18,18 +18,19 @@
  *
  * - A pointer is valid for its length: that many bytes can be read, and written where it is not const.
  * - No pointer is null, not even with length 0: any address of the program's own will do there, it is neither read nor written.
- * - Any alignment will do for bytes. Shares, a report, a list of results and a list of screens are aligned as their types ask.
- * - Buffers of one call do not overlap where one of them is not const: table, answer and notice stand apart from each other
- *   and from all the rest, the target of a move from the table, the room of wm_abort from its notice and names, a report that is changed from the other
- *   one and from the list, and a list of screens from the Session-Id. Those that are const may overlap each other: host, realm, message, name, label,
- *   shares.
- * - While a call runs no other thread writes to anything that was lent to it, and none reads what is not const: table, answer, notice, target, room. A move
- *   reads its table only, wm_abort its notice.
+ * - Any alignment will do for bytes. Shares, the results of a burst, a report, the list that is counted into it and a list of screens are aligned as their
+ *   types ask.
+ * - Buffers of one call do not overlap where one of them is not const: table, answer and notice, of a burst table, answers, notices and results, stand apart
+ *   from each other and from all the rest, the target of a move from the table, the room of wm_abort from its notice and names, a report that is changed
+ *   from the other one and from the list, and a list of screens from the Session-Id. Those that are const may overlap each other: host, realm, message,
+ *   messages, wags, name, label, shares; of wm_abort host, realm and notice, of wm_abort_answered both.
+ * - While a call runs no other thread writes to anything that was lent to it, and none reads what is not const: table, answers, notices, results, target, room. A
+ *   move reads its table only, wm_abort its notice.
  *   So calls on one table come one after another, in any threads, with whatever lock the caller likes. Calls with tables and rooms of
  *   their own may run at once, and may share host, realm and messages.
  * - A bool is 0 or 1.
  *
- * The deepest call takes under 1,024 bytes of stack (docs/PERFORMANCE.md).
+ * The deepest call takes under 1,024 bytes of stack, a burst under 1,536 (docs/PERFORMANCE.md).
  */
 #ifndef WM_H
 #define WM_H
@@ -60,12 +61,12 @@ enum wm_flag { WM_BARRED = 1, WM_MAY_ROAM = 2 };
 enum wm_kind { WM_NO_ANSWER = 0, WM_RESULT_CODE = 1, WM_EXPERIMENTAL_RESULT = 2 };
 
 /* The numbers of refusals that are no Diameter codes. A set-up operation gives 0, 1, 33, 26, 27 or 9 to 17. A request gives 1, 33 or 2 to 8, with the
- * kind WM_NO_ANSWER, or a code that goes into its answer. A move gives 0, 1 or 19 to 21; wm_abort 0, 2, 4, 22
+ * kind WM_NO_ANSWER, or a code that goes into its answer. A burst gives 0, 1, 33, 2 or 18; a move 0, 1 or 19 to 21; wm_abort 0, 2, 4, 22
  * or 23. A board gives 0, 25 or 24, tested in this order; a report 0, 29 or 30. Of the others the first that holds is given, in the order of these lines. */
 enum wm_number {
-    WM_DONE = 0,             /* set-up, a move, wm_abort, a board and a report: it is done */
+    WM_DONE = 0,             /* set-up, a burst, a move, wm_abort, a board and a report: it is done */
     WM_TABLE_LENGTH = 1,     /* the form is neither 1 nor 2, or the table is not 1 to 1,024 rows of its form: WM_ROW or WM_ROW_2 bytes each */
-    WM_NO_OPERATOR = 33,     /* entering, adding, and a request: the operator is over 15 */
+    WM_NO_OPERATOR = 33,     /* entering, adding, a request and a burst: the operator is over 15 */
     WM_OWN_NAMES = 2,        /* the own host or realm has not 1 to 128 bytes */
     WM_ANSWER_ROOM = 3,      /* the answer room is under WM_ANSWER_LEAST */
     WM_NOTICE_ROOM = 4,      /* the notice room is under WM_NOTICE_LEAST, in form 2 and for wm_abort under WM_NOTICE_2_LEAST */
@@ -84,6 +85,7 @@ enum wm_number {
     WM_LABEL_HELD = 15,      /* adding: the subscriber has that label, its letters in either case */
     WM_FOUR_LABELS = 16,     /* adding: the subscriber has four labels */
     WM_LIMITS_OVER_8 = 17,   /* adding: the limits would sum to over 8 */
+    WM_BURST_PLACES = 18,    /* a burst: fewer words from the WAG, or fewer places for results, than whole messages */
     WM_TARGET_LENGTH = 19,   /* moving: the target is not as many rows of the other form */
     WM_UNSOUND_MOVE = 20,    /* moving: some row is damaged, and not wholly zero */
     WM_MORE_THAN_FORM_1 = 21, /* moving to form 1: some access keeps a realm or a second policy */
@@ -119,6 +121,29 @@ struct wm_outcome wm_handle(uint8_t *table, size_t table_length, uint32_t form, 
                             size_t host_length, const uint8_t *realm, size_t realm_length, const uint8_t *message,
                             size_t message_length, bool wag, uint8_t *answer, size_t answer_length, uint8_t *notice,
                             size_t notice_length);
+
+/* A BURST: messages back to back in one call, each handled as by wm_handle, in their order.
+ * number: one of enum wm_number: 0, or 1, 33, 2 and 18, tested in this order; the four others are then 0. messages, bytes: how many messages were taken, and
+ * how many bytes they have. answers: how many bytes of answers were written. notices: how many notices were written. */
+struct wm_taken {
+    uint32_t number;
+    size_t messages, bytes, answers, notices;
+};
+
+/* messages: any bytes; messages_length may be 0. The length in its header says where a message ends. It stops, with WM_DONE, at the end; where fewer than 4 bytes
+ * are left; where a header's length is under 20 or goes past the end; and before a message for which fewer than WM_ANSWER_LEAST bytes are left for answers or
+ * fewer than a notice has are left for notices, also before the first. Nothing else stops it: a message that wm_handle would give a number from 5 to 8 has
+ * that in its result, and no answer. Which it was follows from what is left: the next call is lent the rest of everything, and goes on
+ * as if there had been one call.
+ * wags: a byte for each message, 0 for no; wags_length: how many they are. results: a place for each message; results_length: how many there are. Fewer of
+ * either than there are whole messages before the first bad boundary is WM_BURST_PLACES, however many the rooms would let in.
+ * answers, notices: the rooms. Answers stand one behind the other, each of its result's length. Notices stand one behind the other too, WM_NOTICE_LEAST bytes
+ * each, WM_NOTICE_2_LEAST in form 2: the first belongs to the first result with a cut, the second to the second. What is behind them, and the results
+ * behind those of the messages that were taken, stay as they were. It is in the archive libwm_burst.a, all other functions in libwm.a. */
+struct wm_taken wm_burst(uint8_t *table, size_t table_length, uint32_t form, uint32_t op, const uint8_t *host, size_t host_length,
+                         const uint8_t *realm, size_t realm_length, const uint8_t *messages, size_t messages_length, const uint8_t *wags,
+                         size_t wags_length, uint8_t *answers, size_t answers_length, uint8_t *notices, size_t notices_length,
+                         struct wm_outcome *results, size_t results_length);
 
 /* Moves a table into another room, in the other form: one of enum wm_number. form: 1 or 2, the one to move to; the table is in the other one. target: as many
  * rows as the table has, of that form; it is written whole, or, with a number other than 0, not at all. The table stays as it is. All rows are

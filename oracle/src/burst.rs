@@ -33,6 +33,24 @@ pub struct Taken {
     pub notices: usize,
 }
 
+impl Taken {
+    /// The five, and three that a burst has nothing for.
+    pub fn numbers(&self) -> [u32; 8] {
+        let counts = [self.messages, self.bytes, self.answers, self.notices];
+        let [messages, bytes, answers, notices] = counts.map(|count| count as u32);
+        [
+            u32::from(self.number),
+            messages,
+            bytes,
+            answers,
+            notices,
+            0,
+            0,
+            0,
+        ]
+    }
+}
+
 /// How long the message at the front is, by its header and nothing else of it. There is
 /// none at the end, nor with fewer than 4 bytes left, nor where the header says less than
 /// a header or more than is left.

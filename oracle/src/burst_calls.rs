@@ -1,29 +1,37 @@
 //! Bursts made from a seed (W2): every sort of message and of end, rooms on both sides of
 //! what a message asks for, and the calls that are refused.
 
+use std::ops::{Deref, DerefMut};
+
 use crate::burst::{Burst, Taken};
 use crate::cases::{digits, sound_row, text};
 use crate::drafts::Draft;
 use crate::operators::namesake;
-use crate::program::Room;
+use crate::program::{Bursting, Room};
 use crate::random::Random;
 use crate::reading_a_message::{ORIGIN_REALM, REQUEST};
 use crate::rules::{DOCUMENT_01, Rules};
 use crate::the_table::{BARRED, FORMS, Form, MAY_ROAM, Row, encode};
 
-/// A burst with all its inputs; `places` is how many results there is room for.
+/// A burst with its table; its other inputs are asked for as if they were its own.
 #[derive(Clone, Debug, PartialEq, Eq)]
 pub struct BurstCall {
-    pub form: u32,
     pub table: Vec<u8>,
-    pub operator: u32,
-    pub host: Vec<u8>,
-    pub realm: Vec<u8>,
-    pub messages: Vec<u8>,
-    pub wags: Vec<u8>,
-    pub answer_room: Room,
-    pub notice_room: Room,
-    pub places: usize,
+    pub asked: Bursting,
+}
+
+impl Deref for BurstCall {
+    type Target = Bursting;
+
+    fn deref(&self) -> &Bursting {
+        &self.asked
+    }
+}
+
+impl DerefMut for BurstCall {
+    fn deref_mut(&mut self) -> &mut Bursting {
+        &mut self.asked
+    }
 }
 
 /// What is lent to be written in.
@@ -48,13 +56,11 @@ pub struct Ends {
 impl BurstCall {
     /// Table and rooms before the call.
     pub fn fresh(&self) -> Written {
-        let place =
-            |index: usize| [0, 1, 2, 3, 4, 5, 6, 7].map(|field| 900 + 8 * index as u32 + field);
         Written {
             table: self.table.clone(),
             answers: self.answer_room.fresh(),
             notices: self.notice_room.fresh(),
-            results: (0..self.places).map(place).collect(),
+            results: self.fresh_places(),
         }
     }
 
@@ -231,9 +237,8 @@ pub fn whole_call(
         .flat_map(|(_, bytes)| bytes.clone())
         .collect();
     joined.extend(tail);
-    BurstCall {
+    let asked = Bursting {
         form: ground.form.number(),
-        table: ground.table.clone(),
         operator: ground.operator,
         host: text(random, 128),
         realm: text(random, 128),
@@ -250,6 +255,10 @@ pub fn whole_call(
             seed: random.byte(),
         },
         places: count,
+    };
+    BurstCall {
+        table: ground.table.clone(),
+        asked,
     }
 }
 

@@ -1,10 +1,10 @@
 //! Scripts as bytes. The README gives the format byte by byte.
 
-use crate::program::{Aborting, Answering, Asked, Operation, Room};
+use crate::program::{Aborting, Answering, Asked, Bursting, Operation, Room};
 use crate::script::{Changes, Expected, K1, Record, digest};
 
 pub const MAGIC: &[u8; 8] = b"WMSCRIPT";
-pub const VERSION: u32 = 4;
+pub const VERSION: u32 = 5;
 
 /// No record is longer, its type and length included.
 pub const LONGEST_RECORD: usize = 65_536;
@@ -14,6 +14,12 @@ pub const LONGEST_TABLE: usize = 8_921_664;
 pub const LONGEST_TARGET: u32 = 65_536;
 /// No room for an answer or an Abort-Session-Request is longer.
 pub const LONGEST_ANSWER: u32 = 8_192;
+/// No messages of a burst have more bytes together, and no rooms of it are longer.
+pub const LONGEST_BURST: usize = 40_960;
+pub const LONGEST_ANSWERS: u32 = 65_536;
+pub const LONGEST_NOTICES: u32 = 6_144;
+/// No burst brings more words of the WAG, or more places for results.
+pub const MOST_MESSAGES: usize = 16;
 /// No entering brings more shares.
 pub const MOST_SHARES: usize = 17;
 
@@ -28,6 +34,7 @@ const END: u8 = 8;
 const MOVE: u8 = 9;
 const ABORT: u8 = 10;
 const ANSWERED: u8 = 11;
+const BURST: u8 = 12;
 
 /// Appends a record: type, length of the rest, body, check.
 fn frame(script: &mut Vec<u8>, kind: u8, body: &[u8]) {
@@ -81,6 +88,9 @@ fn write_record(record: &Record) -> (u8, Vec<u8>) {
         }
         Record::Call(operation, expected) => {
             let kind = write_operation(&mut body, operation);
+            for result in &expected.results {
+                words(&mut body, *result);
+            }
             write_expected(&mut body, expected);
             kind
         }
@@ -141,6 +151,10 @@ fn write_operation(body: &mut Vec<u8>, operation: &Operation) -> u8 {
             bytes(body, &asked.answer);
             ANSWERED
         }
+        Operation::Burst(asked) => {
+            write_bursting(body, asked);
+            BURST
+        }
     }
 }
 
@@ -167,6 +181,18 @@ fn write_asked(body: &mut Vec<u8>, asked: &Asked) {
     body.push(u8::from(asked.wag));
     write_room(body, asked.answer_room);
     write_room(body, asked.notice_room);
+}
+
+/// The results that are expected stand right behind the number of places.
+fn write_bursting(body: &mut Vec<u8>, asked: &Bursting) {
+    word(body, asked.operator as usize);
+    bytes(body, &asked.host);
+    bytes(body, &asked.realm);
+    bytes(body, &asked.messages);
+    bytes(body, &asked.wags);
+    write_room(body, asked.answer_room);
+    write_room(body, asked.notice_room);
+    word(body, asked.places);
 }
 
 fn write_room(body: &mut Vec<u8>, room: Room) {
@@ -346,9 +372,42 @@ fn read_record(kind: u8, fields: &mut Fields) -> Result<Record, Defect> {
             session: fields.bytes()?,
             answer: fields.bytes()?,
         }),
+        BURST => Operation::Burst(read_bursting(fields)?),
         _ => return Err("a record of no known type"),
     };
-    Ok(Record::Call(operation, read_expected(fields)?))
+    let results = match &operation {
+        Operation::Burst(asked) => read_results(fields, asked.places)?,
+        _ => Vec::new(),
+    };
+    let expected = Expected {
+        results,
+        ..read_expected(fields)?
+    };
+    Ok(Record::Call(operation, expected))
+}
+
+fn read_bursting(fields: &mut Fields) -> Result<Bursting, Defect> {
+    let asked = Bursting {
+        form: fields.word()?,
+        operator: fields.word()?,
+        host: fields.bytes()?,
+        realm: fields.bytes()?,
+        messages: fields.bytes()?,
+        wags: fields.bytes()?,
+        answer_room: fields.room()?,
+        notice_room: fields.room()?,
+        places: fields.word()? as usize,
+    };
+    let fit = asked.messages.len() <= LONGEST_BURST
+        && asked.answer_room.length <= LONGEST_ANSWERS
+        && asked.notice_room.length <= LONGEST_NOTICES
+        && asked.wags.len() <= MOST_MESSAGES
+        && asked.places <= MOST_MESSAGES;
+    fit.then_some(asked).ok_or("a burst too long")
+}
+
+fn read_results(fields: &mut Fields, places: usize) -> Result<Vec<[u32; 8]>, Defect> {
+    (0..places).map(|_| fields.words()).collect()
 }
 
 fn read_move(fields: &mut Fields) -> Result<Operation, Defect> {
@@ -408,5 +467,6 @@ fn read_expected(fields: &mut Fields) -> Result<Expected, Defect> {
             Changes::Runs(runs)
         },
         digests: given.then_some(digests),
+        results: Vec::new(),
     })
 }

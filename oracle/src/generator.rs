@@ -2,6 +2,7 @@
 //! every sort.
 
 use crate::abort_calls::{AbortDecks, disconnections};
+use crate::burst_rounds::{BurstDecks, bursts};
 use crate::cases::{Case, SORTS, Sort, digits, garnish, sound_row, text};
 use crate::damages::{DAMAGES, any_damage, damage, odd_row, some_entry};
 use crate::drafts::{Draft, DraftAvp};
@@ -50,6 +51,7 @@ struct Decks {
     situations: Deck<Situation>,
     forms: FormDecks,
     aborts: AbortDecks,
+    bursts: BurstDecks,
 }
 
 /// The calls of a script.
@@ -66,6 +68,7 @@ pub fn generate(seed: u64, calls: usize) -> Recorder {
         situations: Deck::new(situations()),
         forms: FormDecks::new(),
         aborts: AbortDecks::new(),
+        bursts: BurstDecks::new(),
     };
     for turn in 0.. {
         if recorder.is_full() {
@@ -87,11 +90,12 @@ fn round(recorder: &mut Recorder, decks: &mut Decks, random: &mut Random) {
         record(recorder, &Case::good(sort, random));
     }
     disconnections(recorder, &mut decks.aborts, random);
+    bursts(recorder, &mut decks.bursts, random);
     for _ in 0..14 {
         let (sort, fault) = decks.singles.draw(random).clone();
         faulty(recorder, sort, &[fault], random);
     }
-    for _ in 0..64 {
+    for _ in 0..72 {
         let (sort, first, second) = decks.pairs.draw(random).clone();
         let faults = [random.pick(&first).clone(), random.pick(&second).clone()];
         faulty(recorder, sort, &faults, random);

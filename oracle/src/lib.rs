@@ -23,6 +23,8 @@ pub mod abort_signs;
 pub mod board_calls;
 pub mod board_report;
 pub mod burst_calls;
+pub mod burst_rounds;
+pub mod burst_signs;
 pub mod cases;
 pub mod damages;
 pub mod drafts;

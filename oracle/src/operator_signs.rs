@@ -118,7 +118,8 @@ pub fn signs_of_operators(
         Operation::Clear { .. }
         | Operation::Move { .. }
         | Operation::Abort(_)
-        | Operation::Answered(_) => return Vec::new(),
+        | Operation::Answered(_)
+        | Operation::Burst(_) => return Vec::new(),
         Operation::Enter { shares, .. } => {
             let new = NewRow {
                 operator: subject.operator,

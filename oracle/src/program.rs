@@ -1,12 +1,13 @@
 //! One operation with all its inputs, and performing it on a table.
 
 use crate::Outcome;
+use crate::burst::{Burst, Taken};
 use crate::disconnecting::{Abort, Sent, Written};
 use crate::handling::Call;
 use crate::rules::Rules;
 use crate::set_up::{Account, NewEntry, NewRow};
 
-/// A program that offers the seven operations: the oracle, or one compared with it. `form`
+/// A program that offers the eight operations: the oracle, or one compared with it. `form`
 /// is the one in which the table is lent; for a move, the one to move to.
 pub trait Program {
     fn clear(&mut self, form: u32, table: &mut [u8]) -> u8;
@@ -16,6 +17,7 @@ pub trait Program {
     fn move_table(&mut self, source: &[u8], target: &mut [u8], form: u32) -> u8;
     fn abort(&mut self, abort: &Abort, room: &mut [u8]) -> Written;
     fn belongs(&mut self, sent: &Sent, answer: &[u8]) -> bool;
+    fn burst(&mut self, burst: &mut Burst) -> Taken;
 }
 
 impl Program for Rules {
@@ -45,6 +47,10 @@ impl Program for Rules {
 
     fn belongs(&mut self, sent: &Sent, answer: &[u8]) -> bool {
         (self.belongs)(self, sent, answer)
+    }
+
+    fn burst(&mut self, burst: &mut Burst) -> Taken {
+        (self.burst)(self, burst)
     }
 }
 
@@ -77,6 +83,29 @@ pub struct Asked {
     pub wag: bool,
     pub answer_room: Room,
     pub notice_room: Room,
+}
+
+/// The inputs of a burst, apart from the table. There are so many places for results.
+#[derive(Clone, Debug, PartialEq, Eq)]
+pub struct Bursting {
+    pub form: u32,
+    pub operator: u32,
+    pub host: Vec<u8>,
+    pub realm: Vec<u8>,
+    pub messages: Vec<u8>,
+    pub wags: Vec<u8>,
+    pub answer_room: Room,
+    pub notice_room: Room,
+    pub places: usize,
+}
+
+impl Bursting {
+    /// The places before the call: number k of place i is 900 + 8 i + k.
+    pub fn fresh_places(&self) -> Vec<[u32; 8]> {
+        let place =
+            |index: usize| [0, 1, 2, 3, 4, 5, 6, 7].map(|field| 900 + 8 * index as u32 + field);
+        (0..self.places).map(place).collect()
+    }
 }
 
 /// The inputs of writing an Abort-Session-Request.
@@ -147,6 +176,7 @@ pub enum Operation {
     /// Neither this nor the next has to do with the table.
     Abort(Aborting),
     Answered(Answering),
+    Burst(Bursting),
 }
 
 impl Operation {
@@ -158,6 +188,7 @@ impl Operation {
             | Operation::Add { form, .. }
             | Operation::Move { form, .. } => Some(*form),
             Operation::Handle(asked) => Some(asked.form),
+            Operation::Burst(asked) => Some(asked.form),
             Operation::Abort(_) | Operation::Answered(_) => None,
         }
     }
@@ -170,6 +201,7 @@ impl Operation {
             | Operation::Add { form, .. }
             | Operation::Move { form, .. } => *form = number,
             Operation::Handle(asked) => asked.form = number,
+            Operation::Burst(asked) => asked.form = number,
             Operation::Abort(_) | Operation::Answered(_) => (),
         }
         self
@@ -179,13 +211,16 @@ impl Operation {
 /// What came of an operation besides the table. The numbers are code, kind, length,
 /// place, cut, and the lengths of the cut texts; set-up and moving have only the first,
 /// writing an Abort-Session-Request the length too, and of an answer the first is 1 if it
-/// belongs. Set-up has no rooms; the target of a move, and the room for an
-/// Abort-Session-Request, stand where the answer room does.
+/// belongs. A burst has its own number, how many messages and bytes were taken, and how many
+/// bytes of answers and notices were written; it alone has places for results. Set-up has
+/// no rooms; the target of a move, and the room for an Abort-Session-Request, stand where
+/// the answer room does.
 #[derive(Clone, Debug, PartialEq, Eq, Default)]
 pub struct Seen {
     pub numbers: [u32; 8],
     pub answer_room: Vec<u8>,
     pub notice_room: Vec<u8>,
+    pub results: Vec<[u32; 8]>,
 }
 
 pub fn perform(program: &mut dyn Program, operation: &Operation, table: &mut [u8]) -> Seen {
@@ -223,6 +258,7 @@ pub fn perform(program: &mut dyn Program, operation: &Operation, table: &mut [u8
             program.add(*form, table, &Account { operator, name }, &new)
         }
         Operation::Handle(asked) => return perform_handle(program, asked, table),
+        Operation::Burst(asked) => return perform_burst(program, asked, table),
         Operation::Move { form, target } => {
             seen.answer_room = target.fresh();
             program.move_table(table, &mut seen.answer_room, *form)
@@ -257,5 +293,29 @@ fn perform_handle(program: &mut dyn Program, asked: &Asked, table: &mut [u8]) ->
         numbers: outcome.numbers(),
         answer_room,
         notice_room,
+        ..Seen::default()
     }
+}
+
+fn perform_burst(program: &mut dyn Program, asked: &Bursting, table: &mut [u8]) -> Seen {
+    let mut seen = Seen {
+        numbers: [0; 8],
+        answer_room: asked.answer_room.fresh(),
+        notice_room: asked.notice_room.fresh(),
+        results: asked.fresh_places(),
+    };
+    let taken = program.burst(&mut Burst {
+        form: asked.form,
+        table,
+        operator: asked.operator,
+        host: &asked.host,
+        realm: &asked.realm,
+        messages: &asked.messages,
+        wags: &asked.wags,
+        answer_room: &mut seen.answer_room,
+        notice_room: &mut seen.notice_room,
+        results: &mut seen.results,
+    });
+    seen.numbers = taken.numbers();
+    seen
 }

@@ -4,6 +4,7 @@ use std::collections::BTreeMap;
 use std::fmt;
 
 use crate::abort_signs::{WANTED_OF_ABORTS, answered_key, signs_of_aborts};
+use crate::burst_signs::{WANTED_OF_BURSTS, signs_of_bursts};
 use crate::either_case::{PAIRS, PLACES_OF_LABELS, Texts, pair_key, signs};
 use crate::form_signs::{WANTED_OF_FORMS, signs_of_forms};
 use crate::known_avps::{UNKNOWN, known_and_ignored, supported};
@@ -37,13 +38,14 @@ const WANTED: [(&str, &str); 4] = [
     ("other command", "3001 3008 5013"),
 ];
 
-/// The numbers of the five operations, apart from the codes above.
-const NUMBERS: [(&str, &[u32]); 5] = [
+/// The numbers of the six operations that look at a table, apart from the codes above.
+const NUMBERS: [(&str, &[u32]); 6] = [
     ("clear", &[0, 1]),
     ("enter", &[0, 1, 33, 26, 9, 10, 27, 11]),
     ("add", &[0, 1, 33, 12, 13, 14, 15, 16, 17]),
     ("handle", &[1, 33, 2, 3, 4, 5, 6, 7, 8]),
     ("move", &[0, 1, 19, 20, 21]),
+    ("burst", &[0, 1, 33, 2, 18]),
 ];
 
 /// Everything that has to come up at least once.
@@ -70,6 +72,7 @@ fn wanted() -> Vec<String> {
     all.extend(WANTED_OF_OPERATORS.iter().cloned());
     all.extend(WANTED_OF_FORMS.iter().cloned());
     all.extend(WANTED_OF_ABORTS.iter().cloned());
+    all.extend(WANTED_OF_BURSTS.iter().cloned());
     all
 }
 
@@ -148,6 +151,7 @@ impl Report {
             Operation::Add { .. } => number_key("add", code),
             Operation::Abort(_) => number_key("abort", code),
             Operation::Answered(_) => answered_key(code).to_string(),
+            Operation::Burst(_) => number_key("burst", code),
             Operation::Handle(_) if seen.numbers[1] == 0 => number_key("handle", code),
             Operation::Handle(asked) => {
                 self.count_place(asked, table, seen);
@@ -173,6 +177,9 @@ impl Report {
             self.add(sign);
         }
         for sign in signs_of_aborts(operation, seen, &key) {
+            self.add(sign);
+        }
+        for sign in signs_of_bursts(operation, table, seen) {
             self.add(sign);
         }
         self.add(key);
@@ -314,7 +321,8 @@ fn subject(operation: &Operation) -> Subject<'_> {
         Operation::Clear { .. }
         | Operation::Move { .. }
         | Operation::Abort(_)
-        | Operation::Answered(_) => (0, &[][..]),
+        | Operation::Answered(_)
+        | Operation::Burst(_) => (0, &[][..]),
         Operation::Enter { operator, name, .. } | Operation::Add { operator, name, .. } => {
             (*operator, name.as_slice())
         }

@@ -49,6 +49,8 @@ pub struct Expected {
     pub notice: Vec<u8>,
     pub changes: Changes,
     pub digests: Option<[u32; 2]>,
+    /// Of a burst, all places for results as they stand afterwards.
+    pub results: Vec<[u32; 8]>,
 }
 
 #[derive(Clone, Debug, PartialEq, Eq)]
@@ -85,17 +87,23 @@ pub fn runs(old: &[u8], new: &[u8]) -> Vec<(u32, Vec<u8>)> {
     found.into_iter().map(bytes).collect()
 }
 
-/// What a call has to give, from what the oracle gave. A move that succeeded has written
-/// its whole target, one that did not none of it.
+/// How many bytes stand at the front of the answer room and of the notice room. A move that
+/// succeeded has written its whole target, one that did not none of it.
+fn written(operation: &Operation, seen: &Seen) -> (usize, usize) {
+    let slot = operation.form().and_then(Form::numbered);
+    let slot = slot.map_or(0, Form::notice);
+    let numbers = seen.numbers.map(|number| number as usize);
+    match operation {
+        Operation::Burst(_) => (numbers[3], numbers[4] * slot),
+        Operation::Move { target, .. } if numbers[0] == 0 => (target.length as usize, 0),
+        _ => (numbers[2], numbers[4] * slot),
+    }
+}
+
+/// What a call has to give, from what the oracle gave.
 pub fn expect(operation: &Operation, seen: &Seen, old: &[u8], new: &[u8], mark: bool) -> Expected {
     let done = seen.numbers[0] == 0;
-    let length = match operation {
-        Operation::Move { target, .. } if done => target.length as usize,
-        _ => seen.numbers[2] as usize,
-    };
-    let form = operation.form().and_then(Form::numbered);
-    let noticed = form.filter(|_| seen.numbers[4] == 1);
-    let noticed = noticed.map_or(0, Form::notice);
+    let (length, noticed) = written(operation, seen);
     let cleared = matches!(operation, Operation::Clear { .. }) && done;
     Expected {
         numbers: seen.numbers,
@@ -107,6 +115,7 @@ pub fn expect(operation: &Operation, seen: &Seen, old: &[u8], new: &[u8], mark: 
             Changes::Runs(runs(old, new))
         },
         digests: (mark || new.len() <= SMALL_TABLE).then(|| digests(new)),
+        results: seen.results.clone(),
     }
 }
 
@@ -141,14 +150,15 @@ fn compare(operation: &Operation, seen: &Seen, expected: &Expected) -> Result<()
     if seen.numbers != expected.numbers {
         return Err("the numbers returned");
     }
+    if seen.results != expected.results {
+        return Err("the results");
+    }
     match operation {
         Operation::Handle(asked) => {
-            if !room_holds(asked.answer_room, &seen.answer_room, &expected.answer) {
-                return Err("the answer room");
-            }
-            if !room_holds(asked.notice_room, &seen.notice_room, &expected.notice) {
-                return Err("the notice room");
-            }
+            compare_rooms(asked.answer_room, asked.notice_room, seen, expected)?;
+        }
+        Operation::Burst(asked) => {
+            compare_rooms(asked.answer_room, asked.notice_room, seen, expected)?;
         }
         Operation::Move { target, .. }
             if !room_holds(*target, &seen.answer_room, &expected.answer) =>
@@ -161,6 +171,21 @@ fn compare(operation: &Operation, seen: &Seen, expected: &Expected) -> Result<()
             return Err("the room of the request");
         }
         _ => (),
+    }
+    Ok(())
+}
+
+fn compare_rooms(
+    answer: Room,
+    notice: Room,
+    seen: &Seen,
+    expected: &Expected,
+) -> Result<(), &'static str> {
+    if !room_holds(answer, &seen.answer_room, &expected.answer) {
+        return Err("the answer room");
+    }
+    if !room_holds(notice, &seen.notice_room, &expected.notice) {
+        return Err("the notice room");
     }
     Ok(())
 }
@@ -189,13 +214,15 @@ fn compare_table(table: &[u8], expected: &Expected) -> Result<(), &'static str> 
 }
 
 /// So many calls are spoiled.
-pub const SPOILED: usize = 21;
+pub const SPOILED: usize = 32;
 
 /// Spoils what is expected of these calls, a different thing of each: of requests the eight
 /// numbers, the answer, the notice, the table, and both digests; of moves the number, the target, and
 /// a target that is expected to be written though the move is refused; of written
 /// Abort-Session-Requests the number, the length, the request, and a room that is expected to be written though it is
-/// refused; and whether an answer belongs. Whoever plays the script must
+/// refused; whether an answer belongs; of bursts the five numbers, the answers, the notices, the
+/// table, the result of the last message, a place behind it, and a room that is expected to be
+/// written though the burst is refused. Whoever plays the script must
 /// report just these calls; a player that reports none of them can not be trusted with a script that is
 /// right. It says how many were spoiled.
 pub fn spoil(records: &mut [Record]) -> usize {
@@ -231,6 +258,15 @@ fn spoil_record(record: &mut Record, kind: usize) -> bool {
             expected.numbers[0] ^= 1;
             true
         }
+        Record::Call(Operation::Burst(asked), expected) if kind > 20 => match kind {
+            21..26 => spoil_number(expected, kind - 21),
+            26 => spoil_last(&mut expected.answer),
+            27 => spoil_last(&mut expected.notice),
+            28 => spoil_changes(expected),
+            29 => spoil_result(expected, |taken| taken.checked_sub(1)),
+            30 => spoil_result(expected, Some),
+            _ => expected.numbers[0] > 0 && spoil_refused(asked.answer_room, expected),
+        },
         _ => false,
     }
 }
@@ -254,18 +290,27 @@ fn spoil_request(expected: &mut Expected, kind: usize) -> bool {
         0..8 => expected.numbers[kind] += 1,
         8 => return spoil_last(&mut expected.answer),
         9 => return spoil_last(&mut expected.notice),
-        10 => match &mut expected.changes {
-            Changes::Runs(runs) => {
-                return runs.last_mut().is_some_and(|run| spoil_last(&mut run.1));
-            }
-            Changes::AllZero => return false,
-        },
+        10 => return spoil_changes(expected),
         _ => match &mut expected.digests {
             Some(halves) => halves[kind - 11] = halves[kind - 11].wrapping_add(1),
             None => return false,
         },
     }
     true
+}
+
+fn spoil_changes(expected: &mut Expected) -> bool {
+    match &mut expected.changes {
+        Changes::Runs(runs) => runs.last_mut().is_some_and(|run| spoil_last(&mut run.1)),
+        Changes::AllZero => false,
+    }
+}
+
+/// The last number of the place that is said by how many messages were taken.
+fn spoil_result(expected: &mut Expected, which: impl Fn(usize) -> Option<usize>) -> bool {
+    let place = which(expected.numbers[1] as usize);
+    let place = place.and_then(|place| expected.results.get_mut(place));
+    place.map(|result| result[7] ^= 1).is_some()
 }
 
 fn spoil_last(bytes: &mut [u8]) -> bool {

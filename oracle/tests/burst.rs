@@ -10,7 +10,7 @@ use oracle::burst_calls::{
 use oracle::drafts::Draft;
 use oracle::generator::{add, enter};
 use oracle::handling::Call;
-use oracle::program::{Room, perform};
+use oracle::program::{Bursting, Room, perform};
 use oracle::random::Random;
 use oracle::rules::DOCUMENT_01;
 use oracle::the_table::{FORMS, Form};
@@ -51,9 +51,8 @@ fn burst(form: Form, messages: &[Vec<u8>]) -> BurstCall {
         perform(&mut DOCUMENT_01.clone(), &operation, &mut table);
     }
     let count = messages.len();
-    BurstCall {
+    let asked = Bursting {
         form: form.number(),
-        table,
         operator: 3,
         host: b"aaa".to_vec(),
         realm: b"home".to_vec(),
@@ -68,7 +67,8 @@ fn burst(form: Form, messages: &[Vec<u8>]) -> BurstCall {
             seed: 5,
         },
         places: count,
-    }
+    };
+    BurstCall { table, asked }
 }
 
 fn taken(messages: usize, bytes: usize, answers: usize, notices: usize) -> Taken {
@@ -230,12 +230,10 @@ fn a_burst_that_is_cut_off_anywhere() {
     }
     let call = burst(Form::One, &messages);
     for length in 0..=call.messages.len() {
-        let messages = call.messages[..length].to_vec();
         let whole = ends.iter().filter(|end| **end <= length).count() - 1;
-        let cut = gives(&BurstCall {
-            messages,
-            ..call.clone()
-        });
+        let mut part = call.clone();
+        part.messages.truncate(length);
+        let cut = gives(&part);
         assert_eq!((cut.number, cut.messages), (0, whole));
         assert_eq!(cut.bytes, ends[whole]);
         assert_eq!(

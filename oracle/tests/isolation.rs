@@ -7,7 +7,7 @@ use oracle::deciding::USER_UNKNOWN;
 use oracle::drafts::Draft;
 use oracle::generator::{add, enter, generate, request};
 use oracle::operators::all_rows;
-use oracle::program::{Operation, Room, Seen, perform};
+use oracle::program::{Bursting, Operation, Room, Seen, perform};
 use oracle::random::Random;
 use oracle::rules::{DOCUMENT_01, Rules};
 use oracle::script::{Record, judge};
@@ -96,9 +96,8 @@ fn some_burst(form: Form, operator: u32, usual: &[u8], random: &mut Random) -> B
     let (answer, notice) = (5_120, form.notice());
     let few = random.below(700);
     let seed = random.byte();
-    BurstCall {
+    let asked = Bursting {
         form: form.number(),
-        table: Vec::new(),
         operator,
         host: b"aaa.home.example".to_vec(),
         realm: b"home.example".to_vec(),
@@ -113,6 +112,10 @@ fn some_burst(form: Form, operator: u32, usual: &[u8], random: &mut Random) -> B
             seed,
         },
         places: count - usize::from(count > 0 && random.once_in(8)),
+    };
+    BurstCall {
+        table: Vec::new(),
+        asked,
     }
 }
 
@@ -484,6 +487,7 @@ fn called_by(operation: &Operation, by: u32, form: Form, table: &[u8]) -> Operat
         }
         Operation::Add { operator, .. } => *operator = by,
         Operation::Handle(asked) => asked.operator = by,
+        Operation::Burst(asked) => asked.operator = by,
     }
     operation
 }

@@ -56,6 +56,12 @@ fn refusals_change_nothing() {
             assert_eq!(seen.numbers[2], 0);
             assert!(seen.answer_room == aborting.room.fresh());
         }
+        if let Operation::Burst(asked) = operation {
+            assert_eq!(seen.numbers[1..3], [0; 2]);
+            assert!(seen.answer_room == asked.answer_room.fresh());
+            assert!(seen.notice_room == asked.notice_room.fresh());
+            assert!(seen.results == asked.fresh_places());
+        }
         if let Operation::Handle(asked) = operation {
             assert!(seen.notice_room == asked.notice_room.fresh());
             let answer = asked.answer_room.fresh();
@@ -93,8 +99,12 @@ fn only_one_row_changes() {
         let row = form.map_or(1, Form::row);
         let rows = before.chunks(row).zip(after.chunks(row));
         let changed = rows.filter(|(was, is)| was != is).count();
-        assert!(changed <= 1 || is_clear(operation));
+        assert!(changed <= 1 || changes_many(operation));
     });
+}
+
+fn changes_many(operation: &Operation) -> bool {
+    is_clear(operation) || matches!(operation, Operation::Burst(_))
 }
 
 fn is_clear(operation: &Operation) -> bool {

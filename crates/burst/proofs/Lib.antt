@@ -3,7 +3,5 @@ pub mod Refusals
 pub mod Handled
 pub mod Steps
 pub mod Turns
-pub mod Small
 pub mod Places
 pub mod Loop
-pub mod WorkedCases

@@ -18,7 +18,7 @@ use Rattle.rules.specs.Calls.{Call, Left, Result, answerLeast, handle, noticeLe
 use Rattle.decision.specs.declared.Outcome.{Outcome}
 use Rattle.decision.specs.Outcomes.{callOf, cutMade, leaves as callLeaves, resultSaid}
 use Rattle.burst.specs.TheBurst.{Burst, Bursted, burst, burstNumber, nextLength, refusedBurst, wholeMessages}
-use Rattle.burst.specs.BurstsRules.{rest, together}
+use Rattle.burst.specs.GoingOn.{rest, together}
 use Rattle.burst.specs.Code.{burstOf, leaves, resultIn}
 use Rattle.burst.proofs.Boundaries.{next-within, whole-count}
 use Rattle.burst.proofs.Handled.{Fine, fine}

@@ -19,7 +19,7 @@ use Rattle.order.specs.Demand3.{SameLeft, Told, brought, told}
 use Rattle.order.proofs.Lists.{form-stays}
 use Rattle.order.proofs.Rooms.{brought-decides, rooms-after}
 use Rattle.burst.specs.TheBurst.{Burst, Bursted, Taken, allTold, bursted, callFor, callsFor, callsOf, howMany, joined, nextLength, refusedBurst, wholeMessages}
-use Rattle.burst.specs.BurstsRules.{rest, together}
+use Rattle.burst.specs.GoingOn.{rest, together}
 use Rattle.burst.proofs.Boundaries.{next-fits, whole-next, whole-none}
 use Rattle.burst.proofs.Handled.{notice-length, told-length}
 

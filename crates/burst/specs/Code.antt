@@ -1,6 +1,6 @@
 -- What the code's arguments and results say.
 use mathlib.Core.List.{List, map}
-use Prim.Native.Nat.{ℕ, _<_}
+use Prim.Native.Nat.{ℕ}
 use lib.ListN.{getD}
 use Rattle.table.specs.TheTable.{Table}
 use Rattle.rules.specs.Calls.{Result}
@@ -37,14 +37,6 @@ resultIn s =
 
 abbrev pub resultsIn : List (List ℕ) → List Result
 resultsIn r = map resultIn r
-
--- A result whose numbers fit 32 bits; every result of a call does (proofs/Small).
-pub record In32 (r : Result) : Type 0 where
-  pub length-fits : r .length < 4294967296
-  pub place-fits : r .place < 4294967296
-  pub session-fits : r .cutSession < 4294967296
-  pub host-fits : r .cutHost < 4294967296
-  pub realm-fits : r .cutRealm < 4294967296
 
 -- All that a burst leaves: what is returned, and every byte and number that was lent.
 unfoldable pub leaves : Taken → Table → (answers notices : List ℕ) → (results : List (List ℕ)) → Bursted

@@ -1,4 +1,3 @@
 pub mod TheBurst
-pub mod BurstsRules
+pub mod GoingOn
 pub mod Code
-pub mod WorkedCases

@@ -1,24 +1,22 @@
 // A burst: messages back to back in one call, each with its word from the WAG; answers, notices and results are written the same way.
 use decision::Outcome;
-use effects::Cut;
-use message::Kind;
 ghost use mathlib.Core.Path.{_≡_};
 ghost use mathlib.Core.Bool.{_&&_};
 ghost use mathlib.Core.List.{List, map};
 ghost use Prim.Native.Nat.{ℕ, _+_, _≤_, _<_};
 ghost use lib.Dec.{leb};
 ghost use lib.ListN.{length, drop, set};
-ghost use Rattle.octets.specs.Choice.{pick, within};
-ghost use Rattle.message.specs.Codes.{kindOf};
-ghost use Rattle.message.specs.Kinds.{codeFrom};
+ghost use Rattle.octets.specs.Choice.{pick};
 ghost use Rattle.table.specs.Answers.{lent};
-ghost use Rattle.rules.specs.Calls.{Result, answerLeast, handle, noticeLength};
-ghost use Rattle.decision.specs.Outcomes.{callOf, cutHost, cutMade, cutRealm, cutSession, leaves as callLeaves, resultSaid};
+ghost use Rattle.rules.specs.Calls.{Result, answerLeast, handle};
+ghost use Rattle.decision.specs.Outcomes.{callOf, leaves as callLeaves, resultSaid};
+ghost use Rattle.numbers.specs.InNumbers.{In32};
 ghost use Rattle.burst.specs.TheBurst.{burst, burstNumber, nextLength, wholeMessages};
-ghost use Rattle.burst.specs.Code.{burstOf, leaves, resultIn, In32};
+ghost use Rattle.burst.specs.Code.{burstOf, leaves, resultIn};
 
 // What a burst returns: the number, 0 on success; how many messages were taken and how many bytes they have; how many bytes of answers and how many
 // notices were written.
+#[repr(C)]
 pub struct Taken {
     pub number: u32,
     pub messages: usize,
@@ -70,16 +68,6 @@ fn whole_messages(messages: &[u8]) -> usize
 
 // REFUSALS
 
-// An own name of 1 to 128 bytes.
-fn name_fits(s: &[u8]) -> bool
-    ensures { λ r. ⌜ r ≡ within 1 128 (length (now (s .entry))) ⌝ }
-{
-    if s.len() < 1 {
-        return false;
-    }
-    s.len() <= 128
-}
-
 // The number that a burst is refused with, 0 where it is not, for as many words and places for results as are said.
 fn burst_number(
     table: &[u8],
@@ -98,10 +86,10 @@ fn burst_number(
     if n != 0 {
         return n;
     }
-    if !name_fits(host) {
+    if !decision::name_fits(host) {
         return 2;
     }
-    if !name_fits(realm) {
+    if !decision::name_fits(realm) {
         return 2;
     }
     let whole = whole_messages(messages);
@@ -116,97 +104,22 @@ fn burst_number(
 
 // RESULTS IN NUMBERS
 
-fn narrow(n: usize) -> u32
-    requires { ⌜ n < 4294967296 ⌝ }
-    ensures { λ r. ⌜ r ≡ n ⌝ }
-{
-    n as u32
-}
-
-fn kind_number(kind: Kind) -> u32
-    ensures { λ r. ⌜ ((code : ℕ) → r ≡ kindOf (codeFrom kind code)) ⌝ }
-{
-    match kind {
-        Kind::NoAnswer => 0,
-        Kind::Plain => 1,
-        Kind::Experimental => 2,
-    }
-}
-
-fn cut_number(cut: Cut) -> u32
-    ensures { λ r. ⌜ r ≡ cutMade cut ⌝ }
-{
-    match cut {
-        Cut::NoCut => 0,
-        Cut::Lengths(session, host, realm) => 1,
-    }
-}
-
-fn session_number(cut: Cut) -> u32
-    requires { ⌜ cutSession cut < 4294967296 ⌝ }
-    ensures { λ r. ⌜ r ≡ cutSession cut ⌝ }
-{
-    match cut {
-        Cut::NoCut => 0,
-        Cut::Lengths(session, host, realm) => narrow(session),
-    }
-}
-
-fn host_number(cut: Cut) -> u32
-    requires { ⌜ cutHost cut < 4294967296 ⌝ }
-    ensures { λ r. ⌜ r ≡ cutHost cut ⌝ }
-{
-    match cut {
-        Cut::NoCut => 0,
-        Cut::Lengths(session, host, realm) => narrow(host),
-    }
-}
-
-fn realm_number(cut: Cut) -> u32
-    requires { ⌜ cutRealm cut < 4294967296 ⌝ }
-    ensures { λ r. ⌜ r ≡ cutRealm cut ⌝ }
-{
-    match cut {
-        Cut::NoCut => 0,
-        Cut::Lengths(session, host, realm) => narrow(realm),
-    }
-}
-
-// An outcome as the eight numbers of a place for results.
-fn numbers_of(o: Outcome) -> [u32; 8]
-    requires { ⌜ In32 (resultSaid o) ⌝ }
-    ensures { λ r. ⌜ resultIn r ≡ resultSaid o ⌝ }
-{
-    let kind = o.kind;
-    let cut = o.cut;
-    [
-        o.code,
-        kind_number(kind),
-        narrow(o.length),
-        narrow(o.place),
-        cut_number(cut),
-        session_number(cut),
-        host_number(cut),
-        realm_number(cut),
-    ]
-}
-
 // The numbers in the i-th place; all others stay.
 fn put_result(results: &mut [[u32; 8]], i: usize, o: Outcome)
     requires { ⌜ (i < length (now results)) × In32 (resultSaid o) ⌝ }
     ensures { λ _. ⌜ map resultIn (now (results .exit)) ≡ set (map resultIn (now (results .entry))) i (resultSaid o) ⌝ }
 {
-    results[i] = numbers_of(o);
-}
-
-// How many notices a cut leaves.
-fn cut_count(cut: Cut) -> usize
-    ensures { λ r. ⌜ r ≡ cutMade cut ⌝ }
-{
-    match cut {
-        Cut::NoCut => 0,
-        Cut::Lengths(session, host, realm) => 1,
-    }
+    let n = numbers::numbers_of(o);
+    results[i] = [
+        n.code,
+        n.kind,
+        n.length,
+        n.place,
+        n.cut,
+        n.session,
+        n.host,
+        n.realm,
+    ];
 }
 
 // ONE MESSAGE
@@ -237,22 +150,8 @@ fn take_one(
 
 // ALL OF THEM
 
-// The rooms that a message asks for.
+// The room that an answer asks for.
 const ANSWER_LEAST: usize = 5120;
-
-const NOTICE_LENGTH: usize = 256;
-
-const NOTICE_LENGTH_2: usize = 384;
-
-// How long a notice is.
-fn notice_length(form: u32) -> usize
-    ensures { λ r. ⌜ r ≡ noticeLength form ⌝ }
-{
-    if form != 2 {
-        return NOTICE_LENGTH;
-    }
-    NOTICE_LENGTH_2
-}
 
 // How long the message from `at` on is, 0 where the burst stops: there is no whole message, or too little room is left.
 fn next_taken(messages: &[u8], at: usize, answers: usize, notices: usize, room: usize) -> usize
@@ -285,7 +184,7 @@ fn take_all(
     ensures { λ r. ⌜ leaves r (lent form (now (table .exit))) (now (answers .exit)) (now (notices .exit)) (now (results .exit))
         ≡ burst (lent form (now (table .entry))) (burstOf op (now (host .entry)) (now (realm .entry)) (now (messages .entry)) (now (wags .entry)) (now (answers .entry)) (now (notices .entry)) (map resultIn (now (results .entry)))) ⌝ }
 {
-    let room = notice_length(form);
+    let room = decision::notice_length(form);
     let most = answers.len();
     let last = notices.len();
     let mut taken: usize = 0;
@@ -312,7 +211,7 @@ fn take_all(
         );
         let cut = o.cut;
         used += o.length;
-        cuts += cut_count(cut);
+        cuts += numbers::cut_number(cut) as usize;
         from = cuts * room;
         at = end;
         taken += 1;

@@ -38,7 +38,7 @@ const NOTICE_LENGTH: usize = 256;
 const NOTICE_LENGTH_2: usize = 384;
 
 // An own name of 1 to 128 bytes.
-fn name_fits(s: &[u8]) -> bool
+pub fn name_fits(s: &[u8]) -> bool
     ensures { λ r. ⌜ r ≡ within 1 128 (length (now (s .entry))) ⌝ }
 {
     if s.len() < 1 {
@@ -48,7 +48,7 @@ fn name_fits(s: &[u8]) -> bool
 }
 
 // How long a notice is.
-fn notice_length(form: u32) -> usize
+pub fn notice_length(form: u32) -> usize
     ensures { λ r. ⌜ r ≡ noticeLength form ⌝ }
 {
     if form != 2 {

@@ -5,6 +5,8 @@ use effects::Cut;
 pub use handling::call_number;
 pub use handling::handle;
 pub use handling::most_policies;
+pub use handling::name_fits;
+pub use handling::notice_length;
 pub use handling::text;
 use message::Kind;
 use message::Span;

@@ -32,12 +32,16 @@ fn say_field(field: usize) {
         13 => say(b"table all zero"),
         14 => say(b"table byte "),
         15 => say(b"first digest of the table"),
-        _ => say(b"second digest of the table"),
+        16 => say(b"second digest of the table"),
+        _ => say(b"results, number "),
     }
 }
 
-// The fields that are bytes at a place.
+// The fields that are bytes or numbers at a place. Of results the numbers are counted through, eight to a place.
 fn is_placed(field: usize) -> bool {
+    if field == 17 {
+        return true;
+    }
     if field < 9 {
         return false;
     }
@@ -108,7 +112,7 @@ fn turn(
     table: &mut [u8],
     room: &mut [u8],
     answer: &mut [u8; 65536],
-    notice: &mut [u8; 1024],
+    notice: &mut [u8; 6144],
     notes: &mut [usize; 100],
     p: Progress,
 ) -> Turn {
@@ -161,7 +165,7 @@ fn run(
     table: &mut [u8],
     room: &mut [u8; 65536],
     answer: &mut [u8; 65536],
-    notice: &mut [u8; 1024],
+    notice: &mut [u8; 6144],
     notes: &mut [usize; 100],
 ) {
     let mut p = replay_run::begin();
@@ -184,10 +188,10 @@ fn run(
     }
 }
 
-// The rooms besides the table. That for answers is the target of a move and the room of a disconnection too.
+// The rooms besides the table. That for answers is the target of a move and the room of a disconnection too; that for notices has sixteen of form 2.
 fn run_on(fd: i32, table: &mut [u8], answer: &mut [u8; 65536]) {
     let mut room = [0u8; 65536];
-    let mut notice = [0u8; 1024];
+    let mut notice = [0u8; 6144];
     let mut notes = [0usize; 100];
     run(fd, table, &mut room, answer, &mut notice, &mut notes);
 }

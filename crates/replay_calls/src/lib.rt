@@ -1,9 +1,11 @@
 // A call that a record asks for, made on the proved server. `r` is the record's body, `table` the table as long as it is now.
 use abort::Written;
+use burst::Taken;
 use effects::Cut;
 use message::Kind;
 use replay_verdict::Got;
 use replay_verdict::Verdict;
+use replay_verdict::both;
 use replay_verdict::judged;
 use replay_verdict::number;
 use replay_verdict::text_end;
@@ -220,6 +222,9 @@ fn in_rooms(
     if answer.len() < a {
         return Verdict::Damaged;
     }
+    if 1024 < n {
+        return Verdict::Damaged;
+    }
     if notice.len() < n {
         return Verdict::Damaged;
     }
@@ -420,4 +425,241 @@ pub fn play_answered(table: &[u8], r: &[u8]) -> Verdict
     );
     let got = set_up(yes(belongs));
     judged(r, answer, got, table, &r[0..0], 0, &r[0..0], 0)
+}
+
+// A BURST
+
+// What a burst returns. Bytes and messages taken are no more than the record brings, and no more is written than the rooms have, so that all fit.
+fn taken(t: Taken) -> Got {
+    Got {
+        code: t.number,
+        kind: small(t.messages),
+        length: t.bytes,
+        place: t.answers,
+        cut: small(t.notices),
+        cut_session: 0,
+        cut_host: 0,
+        cut_realm: 0,
+    }
+}
+
+// A number of 32 bits; no record expects one that is larger.
+fn small(n: usize) -> u32 {
+    if n < 4294967295 {
+        return n as u32;
+    }
+    4294967295
+}
+
+// Where the texts of a burst end: own host, own realm, messages, words of the WAG.
+struct Ends {
+    host: usize,
+    realm: usize,
+    messages: usize,
+    words: usize,
+}
+
+// The form, the operator, the texts, the two rooms, the places for results and what stands in them afterwards.
+pub fn play_burst(table: &mut [u8], r: &[u8], answer: &mut [u8], notice: &mut [u8]) -> Verdict
+    requires { ⌜ (length (now r) ≤ 65536) × (length (now answer) ≤ 65536) × (length (now notice) ≤ 65536) ⌝ }
+{
+    if r.len() < 8 {
+        return Verdict::Damaged;
+    }
+    let host = text_end(r, 8);
+    if r.len() < host {
+        return Verdict::Damaged;
+    }
+    let realm = text_end(r, host);
+    if r.len() < realm {
+        return Verdict::Damaged;
+    }
+    let messages = text_end(r, realm);
+    if r.len() < messages {
+        return Verdict::Damaged;
+    }
+    let words = text_end(r, messages);
+    if r.len() < words + 14 {
+        return Verdict::Damaged;
+    }
+    burst_in_bounds(
+        table,
+        r,
+        Ends {
+            host,
+            realm,
+            messages,
+            words,
+        },
+        answer,
+        notice,
+    )
+}
+
+// A burst of at most 40,960 bytes with at most 16 words and 16 places, whose results the record holds.
+fn burst_in_bounds(
+    table: &mut [u8],
+    r: &[u8],
+    e: Ends,
+    answer: &mut [u8],
+    notice: &mut [u8],
+) -> Verdict
+    requires { ⌜ (12 ≤ e .host) × (e .host + 4 ≤ e .realm) × (e .realm + 4 ≤ e .messages) × (e .messages + 4 ≤ e .words) × (e .words + 14 ≤ length (now r))
+        × (length (now r) ≤ 65536) × (length (now answer) ≤ 65536) × (length (now notice) ≤ 65536) ⌝ }
+{
+    let places = number(r, e.words + 10);
+    if 40964 < e.messages - e.realm {
+        return Verdict::Damaged;
+    }
+    if 20 < e.words - e.messages {
+        return Verdict::Damaged;
+    }
+    if 16 < places {
+        return Verdict::Damaged;
+    }
+    if r.len() < e.words + 14 + 32 * places {
+        return Verdict::Damaged;
+    }
+    burst_in_rooms(table, r, e, places, answer, notice)
+}
+
+// The same in rooms as long as the record says.
+fn burst_in_rooms(
+    table: &mut [u8],
+    r: &[u8],
+    e: Ends,
+    places: usize,
+    answer: &mut [u8],
+    notice: &mut [u8],
+) -> Verdict
+    requires { ⌜ (12 ≤ e .host) × (e .host + 4 ≤ e .realm) × (e .realm + 4 ≤ e .messages) × (e .messages + 4 ≤ e .words)
+        × (places ≤ 16) × (e .words + 14 + 32 * places ≤ length (now r))
+        × (length (now r) ≤ 65536) × (length (now answer) ≤ 65536) × (length (now notice) ≤ 65536) ⌝ }
+{
+    let a = number(r, e.words);
+    let n = number(r, e.words + 5);
+    if answer.len() < a {
+        return Verdict::Damaged;
+    }
+    if notice.len() < n {
+        return Verdict::Damaged;
+    }
+    burst_filled(table, r, e, places, &mut answer[0..a], &mut notice[0..n])
+}
+
+// The rooms and the places are filled before the call.
+fn burst_filled(
+    table: &mut [u8],
+    r: &[u8],
+    e: Ends,
+    places: usize,
+    answer: &mut [u8],
+    notice: &mut [u8],
+) -> Verdict
+    requires { ⌜ (12 ≤ e .host) × (e .host + 4 ≤ e .realm) × (e .realm + 4 ≤ e .messages) × (e .messages + 4 ≤ e .words)
+        × (places ≤ 16) × (e .words + 14 + 32 * places ≤ length (now r))
+        × (length (now r) ≤ 65536) × (length (now answer) ≤ 65536) × (length (now notice) ≤ 65536) ⌝ }
+{
+    replay_script::fill(answer, r[e.words + 4]);
+    replay_script::fill(notice, r[e.words + 9]);
+    let mut results = [[0u32; 8]; 16];
+    fill_places(&mut results);
+    burst_on(table, r, e, answer, notice, &mut results[0..places])
+}
+
+// The i-th place before a call: number k of it, from 0 on, is 900 + 8 i + k.
+fn fresh(i: usize) -> [u32; 8] {
+    if 16 <= i {
+        return [0; 8];
+    }
+    let n = (900 + 8 * i) as u32;
+    [n, n + 1, n + 2, n + 3, n + 4, n + 5, n + 6, n + 7]
+}
+
+fn fill_places(results: &mut [[u32; 8]]) {
+    let mut i: usize = 16;
+    while i > 0 {
+        i -= 1;
+        if i < results.len() {
+            results[i] = fresh(i);
+        }
+    }
+}
+
+// The call itself, and what it left.
+fn burst_on(
+    table: &mut [u8],
+    r: &[u8],
+    e: Ends,
+    answer: &mut [u8],
+    notice: &mut [u8],
+    results: &mut [[u32; 8]],
+) -> Verdict
+    requires { ⌜ (12 ≤ e .host) × (e .host + 4 ≤ e .realm) × (e .realm + 4 ≤ e .messages) × (e .messages + 4 ≤ e .words)
+        × (e .words + 14 + 32 * length (now results) ≤ length (now r))
+        × (length (now r) ≤ 65536) × (length (now answer) ≤ 65536) × (length (now notice) ≤ 65536) ⌝ }
+{
+    let got = taken(call_burst(table, r, e, answer, notice, results));
+    burst_left(r, e.words, got, table, answer, notice, results)
+}
+
+// What a burst left, whose texts end at `words`.
+fn burst_left(
+    r: &[u8],
+    words: usize,
+    got: Got,
+    table: &[u8],
+    answer: &[u8],
+    notice: &[u8],
+    results: &[[u32; 8]],
+) -> Verdict
+    requires { ⌜ (words + 14 + 32 * length (now results) ≤ length (now r))
+        × (length (now r) ≤ 65536) × (length (now answer) ≤ 65536) × (length (now notice) ≤ 65536) ⌝ }
+{
+    let from = words + 14;
+    let at = from + 32 * results.len();
+    let in_places = replay_verdict::results(r, from, results);
+    let left = judged(
+        r,
+        at,
+        got,
+        table,
+        answer,
+        r[words + 4],
+        notice,
+        r[words + 9],
+    );
+    both(in_places, left)
+}
+
+fn call_burst(
+    table: &mut [u8],
+    r: &[u8],
+    e: Ends,
+    answer: &mut [u8],
+    notice: &mut [u8],
+    results: &mut [[u32; 8]],
+) -> Taken
+    requires { ⌜ (12 ≤ e .host) × (e .host + 4 ≤ e .realm) × (e .realm + 4 ≤ e .messages) × (e .messages + 4 ≤ e .words) × (e .words ≤ length (now r))
+        × (length (now r) ≤ 65536) ⌝ }
+{
+    let host = e.host;
+    let realm = e.realm;
+    let messages = e.messages;
+    let words = e.words;
+    let from_realm = host + 4;
+    let from_messages = realm + 4;
+    let from_words = messages + 4;
+    burst::burst(
+        table,
+        octets::read32(r, 0),
+        octets::read32(r, 4),
+        &r[12..host],
+        &r[from_realm..realm],
+        &r[from_messages..messages],
+        &r[from_words..words],
+        answer,
+        notice,
+        results,
+    )
 }

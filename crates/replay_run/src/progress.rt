@@ -6,6 +6,7 @@ use crate::records::only_number;
 use replay_calls::play_abort;
 use replay_calls::play_add;
 use replay_calls::play_answered;
+use replay_calls::play_burst;
 use replay_calls::play_clear;
 use replay_calls::play_enter;
 use replay_calls::play_handle;
@@ -118,7 +119,7 @@ fn on_end(r: &[u8], p: Progress) -> Turn {
     Turn::End(p)
 }
 
-// The call of a record of type 4 to 7 or 9 to 11, on the table as long as it is now.
+// The call of a record of type 4 to 7 or 9 to 12, on the table as long as it is now.
 fn play(kind: u8, table: &mut [u8], r: &[u8], answer: &mut [u8], notice: &mut [u8]) -> Verdict
     requires { ⌜ (length (now r) ≤ 65536) × (length (now answer) ≤ 65536) × (length (now notice) ≤ 65536) ⌝ }
 {
@@ -139,6 +140,9 @@ fn play(kind: u8, table: &mut [u8], r: &[u8], answer: &mut [u8], notice: &mut [u
     }
     if kind == 11 {
         return play_answered(table, r);
+    }
+    if kind == 12 {
+        return play_burst(table, r, answer, notice);
     }
     play_handle(table, r, answer, notice)
 }
@@ -221,7 +225,7 @@ pub fn on_record(
     if kind < 4 {
         return Turn::Broken(Damage::Kind);
     }
-    if 11 < kind {
+    if 12 < kind {
         return Turn::Broken(Damage::Kind);
     }
     let v = play(kind, &mut table[0..n], r, answer, notice);

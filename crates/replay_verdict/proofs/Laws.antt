@@ -2,12 +2,13 @@
 use mathlib.Core.Path.{_≡_, refl, ap, _∙_}
 use mathlib.Core.Bool.{Bool, true, false, _&&_}
 use mathlib.Core.List.{List, [], _∷_}
-use Prim.Native.Nat.{ℕ, zero, suc, _+_, _-_, _≤_, _<_}
+use Prim.Native.Nat.{ℕ, zero, suc, _+_, _-_, _*_, _≤_, _<_}
+use native.Mathlib.Numerals.{add-one}
 use native.Mathlib.Omega.{arith}
-use borrow.Author.Tests.{le-leb, lt-leb}
+use borrow.Author.Tests.{le-leb, lt-leb, eq-eqb, ne-eqb}
 use lib.Dec.{eqb, leb, ltb}
-use lib.ListN.{length, take, drop, length-drop}
-use lib.Seq.{length-take-le, take-all}
+use lib.ListN.{length, take, drop, getD, length-drop, drop-of-length-le}
+use lib.Seq.{drop-cons, length-take-le, take-all}
 use Rattle.octets.specs.Choice.{pick}
 use Rattle.octets.specs.Numbers.{net32}
 use Rattle.octets.specs.Texts.{part, same}
@@ -15,7 +16,7 @@ use Rattle.octets.proofs.Lists.{by-test}
 use Rattle.octets.proofs.Texts.{length-part}
 use Rattle.replay_script.specs.TheScript.{asFilled, unlike}
 use Rattle.replay_verdict.specs.declared.Got.{Got}
-use Rattle.replay_verdict.specs.Judging.{answerEnd, answerNumbers, asExpected, changesFrom, cutNumbers, noticeEnd, roomAs, standsAt, tableAs, textAt, textEnd}
+use Rattle.replay_verdict.specs.Judging.{answerEnd, answerNumbers, asExpected, changesFrom, cutNumbers, noticeEnd, numbersAt, resultsAt, roomAs, standsAt, tableAs, textAt, textEnd}
 
 -- TESTS
 
@@ -166,3 +167,42 @@ module _ (r : List ℕ) (at : ℕ) (g : Got) (table answer : List ℕ) (answerSe
       && tableAs table (drop (noticeEnd r at) r))
   unfolding asExpected
   in-form h = rw (le-leb (noticeEnd r at + 14) (length r) h)
+
+-- THE RESULTS OF A BURST
+
+-- one number more, one that is another, and the end
+pub number-same : (r : List ℕ) (a : ℕ) (s : List ℕ) (k : ℕ) → k < length s → net32 r a ≡ getD s k 0
+    → numbersAt r (a + 4) (drop (k + 1) s) ≡ numbersAt r a (drop k s)
+unfolding numbersAt
+number-same r a s k h e = rw (drop-cons s k 0 h, eq-eqb (net32 r a) (getD s k 0) e, add-one)
+
+pub number-other : (r : List ℕ) (a : ℕ) (s : List ℕ) (k : ℕ) → k < length s → (net32 r a ≡ getD s k 0 → ⊥)
+    → numbersAt r a (drop k s) ≡ false
+unfolding numbersAt
+number-other r a s k h e = rw (drop-cons s k 0 h, ne-eqb (net32 r a) (getD s k 0) e)
+
+pub numbers-end : (r : List ℕ) (a : ℕ) (s : List ℕ) (k : ℕ) → length s ≤ k → numbersAt r a (drop k s) ≡ true
+unfolding numbersAt
+numbers-end r a s k h = rw (drop-of-length-le s h)
+
+-- where the first number stands, and the next
+pub numbers-start : (r : List ℕ) (a : ℕ) (s : List ℕ) → numbersAt r (a + 4 * 0) (drop 0 s) ≡ numbersAt r a s
+numbers-start r a s = let e : a + 4 * 0 ≡ a = omega arith in rw e
+
+pub numbers-next : (r : List ℕ) (a : ℕ) (s : List ℕ) (k : ℕ) → numbersAt r (a + 4 * (k + 1)) (drop (k + 1) s) ≡ numbersAt r (a + 4 * k + 4) (drop (k + 1) s)
+numbers-next r a s k = let e : a + 4 * (k + 1) ≡ a + 4 * k + 4 = omega arith in rw e
+
+-- one place more, one that is another, and the end
+pub result-same : (r : List ℕ) (a : ℕ) (s : List (List ℕ)) (i : ℕ) → i < length s → numbersAt r a (getD s i []) ≡ true
+    → resultsAt r (a + 32) (drop (i + 1) s) ≡ resultsAt r a (drop i s)
+unfolding resultsAt
+result-same r a s i h e = rw (drop-cons s i [] h, e, add-one)
+
+pub result-other : (r : List ℕ) (a : ℕ) (s : List (List ℕ)) (i : ℕ) → i < length s → numbersAt r a (getD s i []) ≡ false
+    → resultsAt r a (drop i s) ≡ false
+unfolding resultsAt
+result-other r a s i h e = rw (drop-cons s i [] h, e)
+
+pub results-end : (r : List ℕ) (a : ℕ) (s : List (List ℕ)) (i : ℕ) → length s ≤ i → resultsAt r a (drop i s) ≡ true
+unfolding resultsAt
+results-end r a s i h = rw (drop-of-length-le s h)

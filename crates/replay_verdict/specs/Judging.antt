@@ -1,6 +1,6 @@
 -- What a record expects of a call (oracle/README.md, *expected*), and when all that the call left is as expected.
 use mathlib.Core.Bool.{Bool, true, false, _&&_}
-use mathlib.Core.List.{List}
+use mathlib.Core.List.{List, [], _∷_}
 use Prim.Native.Nat.{ℕ, zero, suc, _+_, _-_}
 use lib.Dec.{eqb, leb, ltb}
 use lib.ListN.{length, getD, take, drop}
@@ -93,3 +93,13 @@ asExpected r at g table answer answerSeed notice noticeSeed =
     && ((answerNumbers r at g && cutNumbers r (at + 16) g)
     && ((roomAs answerSeed answer (textAt r (at + 32)) && roomAs noticeSeed notice (textAt r (answerEnd r at)))
     && tableAs table (drop (noticeEnd r at) r)))
+
+-- The numbers stand in the record from byte a on, four bytes each.
+unfoldable pub numbersAt : (r : List ℕ) (a : ℕ) → List ℕ → Bool
+numbersAt r a [] = true
+numbersAt r a (x ∷ xs) = eqb (net32 r a) x && numbersAt r (a + 4) xs
+
+-- The places for the results of a burst stand in the record from byte a on, eight numbers each.
+unfoldable pub resultsAt : (r : List ℕ) (a : ℕ) → List (List ℕ) → Bool
+resultsAt r a [] = true
+resultsAt r a (s ∷ ss) = numbersAt r a s && resultsAt r (a + 32) ss

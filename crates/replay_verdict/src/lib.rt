@@ -7,11 +7,11 @@ use replay_script::first_unlike;
 use replay_script::is_filled;
 ghost use mathlib.Core.Bool.{_&&_};
 ghost use mathlib.Core.Path.{_≡_};
-ghost use Prim.Native.Nat.{_+_, _≤_, _<_};
+ghost use Prim.Native.Nat.{_+_, _*_, _≤_, _<_};
 ghost use lib.Dec.{eqb};
 ghost use lib.ListN.{length};
 ghost use Rattle.octets.specs.Numbers.{net32};
-ghost use Rattle.replay_verdict.specs.Judging.{agreed, answerNumbers, asExpected, changesFrom, clearedAs, cutNumbers, digestsAs, roomAs, standsAt, tableAs, textEnd};
+ghost use Rattle.replay_verdict.specs.Judging.{agreed, answerNumbers, asExpected, changesFrom, clearedAs, cutNumbers, digestsAs, numbersAt, resultsAt, roomAs, standsAt, tableAs, textEnd};
 
 // A call is as expected, or differs: in which field, where in it, what was expected and what was got; or its record does not
 // have the form of its type.
@@ -21,7 +21,8 @@ pub enum Verdict {
     Damaged,
 }
 
-// The numbers that a call returns; of a set-up operation all but the first are 0.
+// The numbers that a call returns; of a set-up operation all but the first are 0. A burst has its own five: its number, how many messages and bytes were
+// taken, how many bytes of answers and how many notices were written.
 pub struct Got {
     pub code: u32,
     pub kind: u32,
@@ -44,7 +45,7 @@ fn agrees(v: Verdict) -> bool
 }
 
 // What two tests say, in their order: the first that does not agree.
-fn both(v: Verdict, w: Verdict) -> Verdict
+pub fn both(v: Verdict, w: Verdict) -> Verdict
     ensures { λ x. ⌜ agreed x ≡ agreed v && agreed w ⌝ }
 {
     if agrees(v) {
@@ -249,4 +250,41 @@ pub fn judged(
     let in_notice = room(11, notice, notice_seed, &r[from_notice..f]);
     let rooms = both(in_answer, in_notice);
     both(numbers, both(rooms, on_table(table, &r[f..n])))
+}
+
+// THE RESULTS OF A BURST
+
+// The i-th place for a result has the eight numbers that stand in the record from `at` on.
+fn result(r: &[u8], at: usize, place: [u32; 8], i: usize) -> Verdict
+    requires { ⌜ (at + 32 ≤ length (now r)) × (length (now r) ≤ 65536) × (i ≤ 65536) ⌝ }
+    ensures { λ x. ⌜ agreed x ≡ numbersAt (now (r .entry)) at place ⌝ }
+{
+    let mut k: usize = 0;
+    while k < 8 {
+        let expected = number(r, at + 4 * k);
+        let got = place[k] as usize;
+        if expected != got {
+            return Verdict::Differs(17, 8 * i + k, expected, got);
+        }
+        k += 1;
+    }
+    Verdict::Agrees
+}
+
+// All places are as the record has them from `at` on, those that nothing was written into too.
+pub fn results(r: &[u8], at: usize, places: &[[u32; 8]]) -> Verdict
+    requires { ⌜ (at + 32 * length (now places) ≤ length (now r)) × (length (now r) ≤ 65536) ⌝ }
+    ensures { λ x. ⌜ agreed x ≡ resultsAt (now (r .entry)) at (now (places .entry)) ⌝ }
+{
+    let mut i: usize = 0;
+    let mut a = at;
+    while i < places.len() {
+        let v = result(r, a, places[i], i);
+        if !agrees(v) {
+            return v;
+        }
+        a += 32;
+        i += 1;
+    }
+    Verdict::Agrees
 }

@@ -4,7 +4,7 @@
 use tool_hold::Held;
 use tool_inputs::Inputs;
 use tool_operator::Number;
-use tool_serve::Desk;
+use tool_page::Desk;
 use tool_sheets::Sheets;
 use tool_totals::Totals;
 

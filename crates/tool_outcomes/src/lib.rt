@@ -29,8 +29,8 @@ pub fn keep(
     notices: &[u8],
     form: u32,
     o: Outcome,
-    answer: &[u8; 5120],
-    notice: &[u8; 384],
+    answer: &[u8],
+    notice: &[u8],
 ) -> bool {
     if !put(s.answers, answers, answer, o.length) {
         return false;
@@ -43,7 +43,7 @@ pub fn keep(
 }
 
 // The line of a message: what it asks of a table of that form, what came of it, and why; whether it could be said.
-fn tell(k: usize, m: &[u8], form: u32, o: Outcome, why: Why, notice: &[u8; 384]) -> bool {
+fn tell(k: usize, m: &[u8], form: u32, o: Outcome, why: Why, notice: &[u8]) -> bool {
     let mut out = [0u8; 4096];
     let a = number(&mut out, 0, k as u64);
     let b = say(&mut out, a, b". ");
@@ -63,7 +63,7 @@ pub fn tell_unless_quiet(
     form: u32,
     o: Outcome,
     why: Why,
-    notice: &[u8; 384],
+    notice: &[u8],
 ) -> bool {
     if tool_expected::is_expected(o, expected) {
         if quiet {

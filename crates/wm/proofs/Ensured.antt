@@ -7,6 +7,7 @@ use contract.Lifetimes.{Lfts}
 use denote.Ref.{now}
 use denote.Triple.Clauses.{AtExit}
 use borrow.Fn.Kinds.{Dens, endedOf}
+use Rattle.numbers.specs.declared.Numbers.{Numbers}
 use Rattle.setup.proofs.clear.Reads as Clearing
 use Rattle.setup.proofs.enter.Reads as Entering
 use Rattle.setup.proofs.add.Reads as Adding
@@ -20,7 +21,6 @@ use Rattle.screen.proofs.result.Reads as Resulting
 use Rattle.screen.proofs.notice.Reads as Noticing
 use Rattle.screen.proofs.connected.Reads as Connecting
 use Rattle.screen.specs.declared.Count.{Count}
-use Rattle.wm.specs.declared.WmOutcome.{WmOutcome}
 use Rattle.wm.specs.NoSecondAnswer.{GivenInC}
 use Rattle.wm.proofs.wm_clear.Kinds as Clear
 use Rattle.wm.proofs.wm_clear.Reads as WmClear
@@ -53,10 +53,10 @@ module _ (κs : Lfts 6) (a : Dens κs Handle.ps) where
   abbrev After : Type 0
   After = AtExit (endedOf 6 Handle.ps Handle.r) κs
 
-  abbrev given : WmOutcome → After → GivenInC
+  abbrev given : Numbers → After → GivenInC
   given o x = record { outcome = o; table = now (x .0); answer = now (x .1 .1 .1 .1 .1 .1 .1 .0); notice = now (x .1 .1 .1 .1 .1 .1 .1 .1 .0) }
 
-  pub handle-gives-one : (o p : WmOutcome) (x y : After) → Handling.Learnt κs a o x → Handling.Learnt κs a p y → given o x ≡ given p y
+  pub handle-gives-one : (o p : Numbers) (x y : After) → Handling.Learnt κs a o x → Handling.Learnt κs a p y → given o x ≡ given p y
   handle-gives-one o p x y =
       one-answer-in-c (a .1 .0) (now (a .0)) (a .1 .1 .0) (now (a .1 .1 .1 .0)) (now (a .1 .1 .1 .1 .0)) (now (a .1 .1 .1 .1 .1 .0)) (a .1 .1 .1 .1 .1 .1 .0) (now (a .1 .1 .1 .1 .1 .1 .1 .0))
       (now (a .1 .1 .1 .1 .1 .1 .1 .1 .0)) (given o x) (given p y)

@@ -3,7 +3,8 @@ use mathlib.Core.Path.{_≡_, refl, sym, ap, _∙_}
 use Prim.Native.Nat.{ℕ}
 use Rattle.table.specs.Answers.{lent}
 use Rattle.rules.specs.Calls.{Left, Result}
-use Rattle.wm.specs.InC.{leavesInC, saidInC}
+use Rattle.numbers.specs.InNumbers.{numbersSaid}
+use Rattle.wm.specs.InC.{leavesInC}
 use Rattle.wm.specs.NoSecondAnswer.{GivenInC, OneAnswerInC}
 
 givenBack : Left → GivenInC
@@ -26,7 +27,7 @@ givenBack l =
     }
 
 given-back : (form : ℕ) (g : GivenInC) → givenBack (leavesInC (g .outcome) (lent form (g .table)) (g .answer) (g .notice)) ≡ g
-unfolding givenBack leavesInC saidInC
+unfolding givenBack leavesInC numbersSaid
 given-back form g = refl
 
 one-given : (form : ℕ) (g h : GivenInC) → leavesInC (g .outcome) (lent form (g .table)) (g .answer) (g .notice) ≡ leavesInC (h .outcome) (lent form (h .table)) (h .answer) (h .notice) → g ≡ h

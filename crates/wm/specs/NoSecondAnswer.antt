@@ -8,12 +8,12 @@ use Prim.Native.Nat.{ℕ}
 use Rattle.table.specs.Answers.{lent}
 use Rattle.rules.specs.Calls.{handle}
 use Rattle.decision.specs.Outcomes.{callOf}
-use Rattle.wm.specs.declared.WmOutcome.{WmOutcome}
+use Rattle.numbers.specs.declared.Numbers.{Numbers}
 use Rattle.wm.specs.InC.{leavesInC}
 
 -- All that `wm_handle` gives back: the struct that it returns, and the full contents of table, answer room and notice room.
 pub record GivenInC : Type 0 where
-  pub outcome : WmOutcome
+  pub outcome : Numbers
   pub table : List ℕ
   pub answer : List ℕ
   pub notice : List ℕ

@@ -1,19 +1,14 @@
 // The server for C: its operations under their C names (include/wm.h), and those of the disconnection, of the report and of the screen board.
-use decision::Outcome;
-use effects::Cut;
-use message::Kind;
+use numbers::Numbers;
 use report::Ratio;
 use screen::Count;
 ghost use mathlib.Core.Path.{_≡_};
-ghost use Prim.Native.Nat.{ℕ, _<_};
 ghost use Rattle.octets.specs.Choice.{pick};
-ghost use Rattle.message.specs.Codes.{kindOf};
-ghost use Rattle.message.specs.Kinds.{codeFrom};
 ghost use Rattle.table.specs.Answers.{lent};
 ghost use Rattle.setup.specs.SetUp.{left, clear, enter, add};
 ghost use Rattle.moving.specs.Moving.{move};
 ghost use Rattle.rules.specs.Calls.{handle};
-ghost use Rattle.decision.specs.Outcomes.{callOf, cutHost, cutMade, cutRealm, cutSession, resultSaid};
+ghost use Rattle.decision.specs.Outcomes.{callOf};
 ghost use Rattle.abort.specs.TheDisconnection.{belongs, writeAbort};
 ghost use Rattle.abort.specs.Code.{cutOf};
 ghost use Rattle.report.specs.TheReport.{count, add as addReport};
@@ -21,7 +16,7 @@ ghost use Rattle.report.specs.Rates.{rate};
 ghost use Rattle.report.specs.Code.{toldBy, leaves, ratioSaid};
 ghost use Rattle.screen.specs.TheBoard.{feedRequest, feedResult, feedNotice, countConnected};
 ghost use Rattle.screen.specs.Code.{boardOf, leaves as leavesBoard, countSaid};
-ghost use Rattle.wm.specs.InC.{leavesInC, saidInC, writtenInC, In32};
+ghost use Rattle.wm.specs.InC.{leavesInC, writtenInC};
 
 // SET-UP: 0 on success, else the number
 
@@ -70,93 +65,6 @@ pub extern "C" fn wm_move(table: &[u8], target: &mut [u8], form: u32) -> u32
 
 // A REQUEST
 
-// What a request returns, in C's numbers.
-#[repr(C)]
-pub struct WmOutcome {
-    pub code: u32,
-    pub kind: u32,
-    pub length: u32,
-    pub place: u32,
-    pub cut: u32,
-    pub session: u32,
-    pub host: u32,
-    pub realm: u32,
-}
-
-fn narrow(n: usize) -> u32
-    requires { ⌜ n < 4294967296 ⌝ }
-    ensures { λ r. ⌜ r ≡ n ⌝ }
-{
-    n as u32
-}
-
-fn kind_in_c(kind: Kind) -> u32
-    ensures { λ r. ⌜ ((code : ℕ) → r ≡ kindOf (codeFrom kind code)) ⌝ }
-{
-    match kind {
-        Kind::NoAnswer => 0,
-        Kind::Plain => 1,
-        Kind::Experimental => 2,
-    }
-}
-
-fn cut_in_c(cut: Cut) -> u32
-    ensures { λ r. ⌜ r ≡ cutMade cut ⌝ }
-{
-    match cut {
-        Cut::NoCut => 0,
-        Cut::Lengths(session, host, realm) => 1,
-    }
-}
-
-fn session_in_c(cut: Cut) -> u32
-    requires { ⌜ cutSession cut < 4294967296 ⌝ }
-    ensures { λ r. ⌜ r ≡ cutSession cut ⌝ }
-{
-    match cut {
-        Cut::NoCut => 0,
-        Cut::Lengths(session, host, realm) => narrow(session),
-    }
-}
-
-fn host_in_c(cut: Cut) -> u32
-    requires { ⌜ cutHost cut < 4294967296 ⌝ }
-    ensures { λ r. ⌜ r ≡ cutHost cut ⌝ }
-{
-    match cut {
-        Cut::NoCut => 0,
-        Cut::Lengths(session, host, realm) => narrow(host),
-    }
-}
-
-fn realm_in_c(cut: Cut) -> u32
-    requires { ⌜ cutRealm cut < 4294967296 ⌝ }
-    ensures { λ r. ⌜ r ≡ cutRealm cut ⌝ }
-{
-    match cut {
-        Cut::NoCut => 0,
-        Cut::Lengths(session, host, realm) => narrow(realm),
-    }
-}
-
-fn outcome_in_c(o: Outcome) -> WmOutcome
-    requires { ⌜ In32 (resultSaid o) ⌝ }
-    ensures { λ r. ⌜ saidInC r ≡ resultSaid o ⌝ }
-{
-    let kind = o.kind;
-    let cut = o.cut;
-    WmOutcome {
-        code: o.code,
-        kind: kind_in_c(kind),
-        length: narrow(o.length),
-        place: narrow(o.place),
-        cut: cut_in_c(cut),
-        session: session_in_c(cut),
-        host: host_in_c(cut),
-        realm: realm_in_c(cut),
-    }
-}
-
 // One request.
 #[no_mangle]
 pub extern "C" fn wm_handle(
@@ -169,11 +77,21 @@ pub extern "C" fn wm_handle(
     wag: bool,
     answer: &mut [u8],
     notice: &mut [u8],
-) -> WmOutcome
+) -> Numbers
     ensures { λ r. ⌜ leavesInC r (lent form (now (table .exit))) (now (answer .exit)) (now (notice .exit))
         ≡ handle (lent form (now (table .entry))) (callOf op (now (message .entry)) (now (host .entry)) (now (realm .entry)) (now (answer .entry)) (now (notice .entry)) wag) ⌝ }
 {
-    outcome_in_c(decision::handle(table, form, op, host, realm, message, wag, answer, notice))
+    numbers::numbers_of(decision::handle(
+        table,
+        form,
+        op,
+        host,
+        realm,
+        message,
+        wag,
+        answer,
+        notice,
+    ))
 }
 
 // THE DISCONNECTION: 0, or 2, 4, 22 and 23, with which the room is as it was
@@ -212,7 +130,7 @@ pub extern "C" fn wm_abort(
         end,
         room,
     );
-    let length = narrow(w.length);
+    let length = numbers::narrow(w.length);
     WmWritten {
         number: w.number,
         length: length,

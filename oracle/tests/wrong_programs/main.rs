@@ -20,12 +20,17 @@ mod reading;
 mod table;
 mod writing;
 
+use oracle::burst::{Burst, Taken};
 use oracle::burst_calls::{burst_calls, given};
+use oracle::burst_rounds::{BurstDecks, bursts as round_of_bursts};
 use oracle::disconnecting::{ANSWER_TESTS, Abort, Sent, Written};
+use oracle::framing::{read, write};
 use oracle::generator::generate;
 use oracle::handling::{Call, no_answer};
 use oracle::program::{Operation, Program};
+use oracle::random::Random;
 use oracle::reading_a_message::{Name, is, walk};
+use oracle::recorder::Recorder;
 use oracle::rules::{DOCUMENT_01, Rules};
 use oracle::script::{Record, judge};
 use oracle::set_up::{Account, NewEntry, NewRow};
@@ -136,6 +141,22 @@ fn every_wrong_burst_is_told_apart() {
     assert!(unnoticed.is_empty(), "not told apart: {unnoticed:#?}");
 }
 
+/// The same by the bursts that stand in scripts.
+#[test]
+fn every_wrong_burst_is_told_apart_by_a_script() {
+    let mut recorder = Recorder::new(1_500);
+    let (mut decks, mut random) = (BurstDecks::new(), Random::new(15));
+    while !recorder.is_full() {
+        round_of_bursts(&mut recorder, &mut decks, &mut random);
+    }
+    let records = read(&write(&recorder.records)).unwrap();
+    assert_eq!(told_apart(&mut DOCUMENT_01.clone(), &records), None);
+    let mut programs = bursts::programs();
+    programs.retain_mut(|(_, rules)| told_apart(rules, &records).is_none());
+    let unnoticed: Vec<&str> = programs.iter().map(|(name, _)| *name).collect();
+    assert!(unnoticed.is_empty(), "not told apart: {unnoticed:#?}");
+}
+
 type Wrong = (&'static str, Rules);
 
 /// Handles the first message and answers all others like a success, without change.
@@ -167,6 +188,10 @@ impl Program for Echo {
 
     fn belongs(&mut self, sent: &Sent, answer: &[u8]) -> bool {
         RIGHT.clone().belongs(sent, answer)
+    }
+
+    fn burst(&mut self, burst: &mut Burst) -> Taken {
+        RIGHT.clone().burst(burst)
     }
 
     fn handle(&mut self, call: Call) -> Outcome {

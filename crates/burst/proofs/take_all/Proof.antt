@@ -109,8 +109,11 @@ add-used c =
     let room = c .before .before .before .before .before .before .before .before .before .before .before .before .before .before .before .before .before .before .notice-length in
     omega (arith, used-fits (a .form) (a .op) (a .host .now) (a .realm .now) (a .messages .now) (a .wags .now) (a .table .now) (a .answers .now) (a .notices .now) (a .results .now) (l .table) (l .answers) (l .notices) (l .results) (l .taken) (l .at) (l .used) (l .cuts) (l .from) (l .next) (l .inv) some (not (eqb (getD (a .wags .now) (l .taken) 0) 0)) refl (one .result) (one .last .0) (one .last .1 .1 .1 .1 .1 .1 .1 .0) (one .last .1 .1 .1 .1 .1 .1 .1 .1 .0) (one .last .1 .1 .1 .1 .1 .1 .1 .1 .1 .0) (one .ensures .0) (one .kept .1 .1 .1 .1 .1 .1 .1 .0) (one .kept .1 .1 .1 .1 .1 .1 .1 .1 .0), c .before .before .before .before .before .before .before .before .before .before .before .before .before .before .before .before .before .before .before .before .before .before .before .before .before .before .good .1 .1 .1 .1 .1 .1 .1 .0)
 
-cut-count-requires : tie.Need-cut-count-requires Inv-loop μ-loop
-cut-count-requires c κs = search needs
+cut-number-requires : tie.Need-cut-number-requires Inv-loop μ-loop
+cut-number-requires c κs = search needs
+
+cast-cuts : tie.Need-cast-cuts Inv-loop μ-loop
+cast-cuts c = search needs
 
 add-cuts : tie.Need-add-cuts Inv-loop μ-loop
 add-cuts c =
@@ -119,7 +122,7 @@ add-cuts c =
     let some = c .before .before .before .before .before .before .before .before .before .before .before .before .before .before .before .before .loop-test .taken in
     let one = c .before .before .before .before .before .before .before .before .before .take-one in
     let room = c .before .before .before .before .before .before .before .before .before .before .before .before .before .before .before .before .before .before .before .notice-length in
-    omega (arith, c .before .before .before .before .before .before .before .before .before .before .before .before .before .before .before .before .before .before .before .before .before .before .before .before .before .before .before .good .1 .1 .1 .1 .1 .0, l .inv .few-cuts, l .inv .few-taken, l .inv .at-within, some, c .cut-count .ensures, one-cut (a .form) (a .op) (a .host .now) (a .realm .now) (a .messages .now) (a .wags .now) (a .table .now) (a .answers .now) (a .notices .now) (a .results .now) (l .table) (l .answers) (l .notices) (l .results) (l .taken) (l .at) (l .used) (l .cuts) (l .from) (l .next) (l .inv) some (not (eqb (getD (a .wags .now) (l .taken) 0) 0)) refl (one .result) (one .last .0) (one .last .1 .1 .1 .1 .1 .1 .1 .0) (one .last .1 .1 .1 .1 .1 .1 .1 .1 .0) (one .last .1 .1 .1 .1 .1 .1 .1 .1 .1 .0) (one .ensures .0) (one .kept .1 .1 .1 .1 .1 .1 .1 .0) (one .kept .1 .1 .1 .1 .1 .1 .1 .1 .0))
+    omega (arith, c .before .before .before .before .before .before .before .before .before .before .before .before .before .before .before .before .before .before .before .before .before .before .before .before .before .before .before .good .1 .1 .1 .1 .1 .0, l .inv .few-cuts, l .inv .few-taken, l .inv .at-within, some, c .cut-number .ensures, one-cut (a .form) (a .op) (a .host .now) (a .realm .now) (a .messages .now) (a .wags .now) (a .table .now) (a .answers .now) (a .notices .now) (a .results .now) (l .table) (l .answers) (l .notices) (l .results) (l .taken) (l .at) (l .used) (l .cuts) (l .from) (l .next) (l .inv) some (not (eqb (getD (a .wags .now) (l .taken) 0) 0)) refl (one .result) (one .last .0) (one .last .1 .1 .1 .1 .1 .1 .1 .0) (one .last .1 .1 .1 .1 .1 .1 .1 .1 .0) (one .last .1 .1 .1 .1 .1 .1 .1 .1 .1 .0) (one .ensures .0) (one .kept .1 .1 .1 .1 .1 .1 .1 .0) (one .kept .1 .1 .1 .1 .1 .1 .1 .1 .0))
 
 mul-from : tie.Need-mul-from Inv-loop μ-loop
 mul-from c =
@@ -128,7 +131,7 @@ mul-from c =
     let some = c .before .before .before .before .before .before .before .before .before .before .before .before .before .before .before .before .loop-test .taken in
     let one = c .before .before .before .before .before .before .before .before .before .take-one in
     let room = c .before .before .before .before .before .before .before .before .before .before .before .before .before .before .before .before .before .before .before .notice-length in
-    omega (arith, c .before .before .before .before .before .before .before .before .before .before .before .before .before .before .before .before .before .before .before .before .before .before .before .before .before .before .before .good .1 .1 .1 .1 .1 .1 .1 .1 .0, from-fits (a .form) (a .op) (a .host .now) (a .realm .now) (a .messages .now) (a .wags .now) (a .table .now) (a .answers .now) (a .notices .now) (a .results .now) (l .table) (l .answers) (l .notices) (l .results) (l .taken) (l .at) (l .used) (l .cuts) (l .from) (l .next) (l .inv) some (not (eqb (getD (a .wags .now) (l .taken) 0) 0)) refl (one .result) (one .last .0) (one .last .1 .1 .1 .1 .1 .1 .1 .0) (one .last .1 .1 .1 .1 .1 .1 .1 .1 .0) (one .last .1 .1 .1 .1 .1 .1 .1 .1 .1 .0) (one .ensures .0) (one .kept .1 .1 .1 .1 .1 .1 .1 .0) (one .kept .1 .1 .1 .1 .1 .1 .1 .1 .0) (c .cut-count .result) (room .result) (c .cut-count .ensures) (room .ensures))
+    omega (arith, c .before .before .before .before .before .before .before .before .before .before .before .before .before .before .before .before .before .before .before .before .before .before .before .before .before .before .before .good .1 .1 .1 .1 .1 .1 .1 .1 .0, from-fits (a .form) (a .op) (a .host .now) (a .realm .now) (a .messages .now) (a .wags .now) (a .table .now) (a .answers .now) (a .notices .now) (a .results .now) (l .table) (l .answers) (l .notices) (l .results) (l .taken) (l .at) (l .used) (l .cuts) (l .from) (l .next) (l .inv) some (not (eqb (getD (a .wags .now) (l .taken) 0) 0)) refl (one .result) (one .last .0) (one .last .1 .1 .1 .1 .1 .1 .1 .0) (one .last .1 .1 .1 .1 .1 .1 .1 .1 .0) (one .last .1 .1 .1 .1 .1 .1 .1 .1 .1 .0) (one .ensures .0) (one .kept .1 .1 .1 .1 .1 .1 .1 .0) (one .kept .1 .1 .1 .1 .1 .1 .1 .1 .0) (c .cut-number .result) (room .result) (c .cut-number .ensures) (room .ensures))
 
 add-taken : tie.Need-add-taken Inv-loop μ-loop
 add-taken c =
@@ -153,7 +156,7 @@ sub-next-taken-2 c =
     let some = c .before .before .before .before .before .before .before .before .before .before .before .before .before .before .before .before .loop-test .taken in
     let one = c .before .before .before .before .before .before .before .before .before .take-one in
     let room = c .before .before .before .before .before .before .before .before .before .before .before .before .before .before .before .before .before .before .before .notice-length in
-    omega (arith, from-fits (a .form) (a .op) (a .host .now) (a .realm .now) (a .messages .now) (a .wags .now) (a .table .now) (a .answers .now) (a .notices .now) (a .results .now) (l .table) (l .answers) (l .notices) (l .results) (l .taken) (l .at) (l .used) (l .cuts) (l .from) (l .next) (l .inv) some (not (eqb (getD (a .wags .now) (l .taken) 0) 0)) refl (one .result) (one .last .0) (one .last .1 .1 .1 .1 .1 .1 .1 .0) (one .last .1 .1 .1 .1 .1 .1 .1 .1 .0) (one .last .1 .1 .1 .1 .1 .1 .1 .1 .1 .0) (one .ensures .0) (one .kept .1 .1 .1 .1 .1 .1 .1 .0) (one .kept .1 .1 .1 .1 .1 .1 .1 .1 .0) (c .cut-count .result) (room .result) (c .cut-count .ensures) (room .ensures))
+    omega (arith, from-fits (a .form) (a .op) (a .host .now) (a .realm .now) (a .messages .now) (a .wags .now) (a .table .now) (a .answers .now) (a .notices .now) (a .results .now) (l .table) (l .answers) (l .notices) (l .results) (l .taken) (l .at) (l .used) (l .cuts) (l .from) (l .next) (l .inv) some (not (eqb (getD (a .wags .now) (l .taken) 0) 0)) refl (one .result) (one .last .0) (one .last .1 .1 .1 .1 .1 .1 .1 .0) (one .last .1 .1 .1 .1 .1 .1 .1 .1 .0) (one .last .1 .1 .1 .1 .1 .1 .1 .1 .1 .0) (one .ensures .0) (one .kept .1 .1 .1 .1 .1 .1 .1 .0) (one .kept .1 .1 .1 .1 .1 .1 .1 .1 .0) (c .cut-number .result) (room .result) (c .cut-number .ensures) (room .ensures))
 
 next-taken-requires-2 : tie.Need-next-taken-requires-2 Inv-loop μ-loop
 next-taken-requires-2 c κs =
@@ -175,7 +178,7 @@ loop-again c =
     let some = c .before .before .before .before .before .before .before .before .before .before .before .before .before .before .before .before .before .loop-test .taken in
     let one = c .before .before .before .before .before .before .before .before .before .before .take-one in
     let room = c .before .before .before .before .before .before .before .before .before .before .before .before .before .before .before .before .before .before .before .before .notice-length in
-    going-again (a .form) (a .op) (a .host .now) (a .realm .now) (a .messages .now) (a .wags .now) (a .table .now) (a .answers .now) (a .notices .now) (a .results .now) (l .table) (l .answers) (l .notices) (l .results) (l .taken) (l .at) (l .used) (l .cuts) (l .from) (l .next) (l .inv) some (not (eqb (getD (a .wags .now) (l .taken) 0) 0)) refl (one .result) (one .last .0) (one .last .1 .1 .1 .1 .1 .1 .1 .0) (one .last .1 .1 .1 .1 .1 .1 .1 .1 .0) (one .last .1 .1 .1 .1 .1 .1 .1 .1 .1 .0) (one .ensures .0) (one .kept .1 .1 .1 .1 .1 .1 .1 .0) (one .kept .1 .1 .1 .1 .1 .1 .1 .1 .0) _ _ refl refl (one .kept .0) (one .ensures .1) (c .before .cut-count .result) (c .before .cut-count .ensures) (room .result) (c .next-taken2 .result) (room .ensures) (c .next-taken2 .ensures)
+    going-again (a .form) (a .op) (a .host .now) (a .realm .now) (a .messages .now) (a .wags .now) (a .table .now) (a .answers .now) (a .notices .now) (a .results .now) (l .table) (l .answers) (l .notices) (l .results) (l .taken) (l .at) (l .used) (l .cuts) (l .from) (l .next) (l .inv) some (not (eqb (getD (a .wags .now) (l .taken) 0) 0)) refl (one .result) (one .last .0) (one .last .1 .1 .1 .1 .1 .1 .1 .0) (one .last .1 .1 .1 .1 .1 .1 .1 .1 .0) (one .last .1 .1 .1 .1 .1 .1 .1 .1 .1 .0) (one .ensures .0) (one .kept .1 .1 .1 .1 .1 .1 .1 .0) (one .kept .1 .1 .1 .1 .1 .1 .1 .1 .0) _ _ refl refl (one .kept .0) (one .ensures .1) (c .before .cut-number .result) (c .before .cut-number .ensures) (room .result) (c .next-taken2 .result) (room .ensures) (c .next-taken2 .ensures)
 
 same-length : tie.Need-same-length Inv-loop μ-loop
 same-length c = c .before .loop .inv .same-table
@@ -217,7 +220,8 @@ take-all-spec =
     part-take-one-end-3
     take-one-requires
     add-used
-    cut-count-requires
+    cut-number-requires
+    cast-cuts
     add-cuts
     mul-from
     add-taken

@@ -1,10 +1,10 @@
--- What the call leaves; the numbers of its result fit 32 bits, by `small` of Small.
+-- What the call leaves; the numbers of its result fit 32 bits, by `small` of `numbers`.
 use mathlib.Core.Path.{ap, subst, sym}
 use Rattle.table.specs.Answers.{lent}
 use Rattle.rules.specs.Calls.{Left}
 use Rattle.decision.specs.Outcomes.{leaves}
-use Rattle.burst.specs.Code.{In32}
-use Rattle.burst.proofs.Small.{small}
+use Rattle.numbers.specs.InNumbers.{In32}
+use Rattle.numbers.proofs.Small.{small}
 use borrow.Author.Needs.{needs}
 use Rattle.burst.proofs.take_one.Statement.{statement}
 use Rattle.burst.proofs.take_one.Tie as tie

@@ -1,0 +1,4 @@
+pub mod Flat
+pub mod Views
+pub mod Bursts
+pub mod Isolated

@@ -1,0 +1,17 @@
+pub mod ToldEach
+pub mod Written
+pub mod NothingElse
+pub mod WithinRooms
+pub mod OneByOne
+pub mod TakenAreFirst
+pub mod WhyItStopped
+pub mod NoticesInOrder
+pub mod OneMessage
+pub mod NoSecondAnswer
+pub mod Ensured
+pub mod AnyOrder
+pub mod Reordered
+pub mod Parts
+pub mod TwoCalls
+pub mod ManyCalls
+pub mod Swapped

@@ -1,0 +1,4 @@
+pub mod BurstsRules
+pub mod NoSecondAnswer
+pub mod AnyOrder
+pub mod ManyCalls
