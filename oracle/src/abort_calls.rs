@@ -5,7 +5,7 @@ use crate::cases::{Case, text};
 use crate::disconnecting::{ABORT_SESSION, RESULT_CODE};
 use crate::drafts::{Draft, DraftAvp};
 use crate::generator::{Deck, record};
-use crate::known_avps::{UNKNOWN, known_and_ignored};
+use crate::known_avps::{known_and_ignored, unknown};
 use crate::program::{Aborting, Answering, Operation, Room, Seen};
 use crate::random::Random;
 use crate::reading_a_message::{
@@ -374,7 +374,7 @@ const FAULTS: &[Way] = &[
     |e, _| e.draft.version = 2,
     |e, random| {
         // An AVP that is not known, with M, is no fault; a broken one behind it is.
-        e.insert(DraftAvp::new(*random.pick(&UNKNOWN), b"?"), random);
+        e.insert(DraftAvp::new(*random.pick(&unknown()), b"?"), random);
         e.draft.tail = vec![0; 4];
     },
 ];
@@ -401,7 +401,7 @@ const NO_FAULTS: &[Way] = &[
     |e, random| e.draft.flags = 1 << random.below(4),
     |e, _| e.draft.application = 0,
     |e, random| {
-        let mut unknown = DraftAvp::new(*random.pick(&UNKNOWN), &random.bytes(5));
+        let mut unknown = DraftAvp::new(*random.pick(&unknown()), &random.bytes(5));
         unknown.flags |= 0x40;
         e.insert(unknown, random);
     },

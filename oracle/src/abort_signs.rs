@@ -5,12 +5,12 @@ use std::sync::LazyLock;
 
 use crate::abort_calls::NOTICE_ROOMS;
 use crate::disconnecting::{ABORT_SESSION, LEAST_ROOM, RESULT_CODE};
-use crate::known_avps::supported;
 use crate::program::{Aborting, Answering, Asked, Operation, Seen};
 use crate::reading_a_message::{
     AVP_RESERVED, Avp, ERROR, HEADER, HEADER_RESERVED, Name, PROXIABLE, REQUEST, RETRANSMITTED,
     SESSION_ID, header, is, number, walk_tests,
 };
+use crate::rules::DOCUMENT_01;
 use crate::the_table::FORMS;
 
 /// What has to come up; of all that could be said of disconnections, the report says no
@@ -339,7 +339,7 @@ fn no_faults(asked: &Answering) -> Vec<&'static str> {
     let application = number(&answer[8..12]);
     say(application == 0, "Application-Id 0");
     say(application == 1, "Application-Id 1");
-    let unknown = avps.iter().any(|avp| supported(avp).is_err());
+    let unknown = avps.iter().any(|avp| (DOCUMENT_01.supported)(avp).is_err());
     say(unknown, "an AVP with M that is not known");
     let session = asked.session.len();
     say(session == 0, "a Session-Id of 0 bytes");

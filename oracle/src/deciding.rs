@@ -72,9 +72,13 @@ fn change(rules: &Rules, table: &mut [u8], asking: &Asking) -> Result<Done, Code
     Ok(done)
 }
 
-/// Type 0: a new access, for which the entry's oldest may have to go.
+/// Type 0: a new access, for which the entry's oldest may have to go, unless it stands
+/// already.
 fn open(rules: &Rules, form: Form, row: &mut Row, request: &Request) -> Result<Done, Code> {
     let entry = (rules.may_open)(row, request)?;
+    if (rules.held)(row, entry, request)? {
+        return Ok((0, None));
+    }
     let mut cut = None;
     let mut freed = None;
     if (rules.at_limit)(row, entry) {
@@ -103,7 +107,7 @@ pub fn realm_to_keep(form: Form, request: &Request) -> Vec<u8> {
     }
 }
 
-/// The tests of type 0; gives the number of the entry.
+/// The tests of label, barring and roaming of type 0; gives the number of the entry.
 pub fn may_open(row: &Row, request: &Request) -> Result<u8, Code> {
     let number = row.entry_of(request.text(W_APN));
     let number = number.ok_or(USER_NO_W_APN_SUBSCRIPTION)?;
@@ -114,10 +118,26 @@ pub fn may_open(row: &Row, request: &Request) -> Result<u8, Code> {
     if request.get(VISITED_NETWORK).is_some() && flags & MAY_ROAM == 0 {
         return Err(ROAMING_NOT_ALLOWED);
     }
-    if row.place_of(request.text(SESSION_ID)).is_some() {
-        return Err(plain(5012));
-    }
     Ok(number)
+}
+
+/// Until W11: a Session-Id that is in the row already is refused.
+pub fn held_is_refused(row: &Row, _entry: u8, request: &Request) -> Result<bool, Code> {
+    match row.place_of(request.text(SESSION_ID)) {
+        Some(_) => Err(plain(5012)),
+        None => Ok(false),
+    }
+}
+
+/// From W11 on: true if the access stands on the entry asked for, and then nothing is
+/// opened, cut or moved; on another entry it is refused as before.
+pub fn held_stands(row: &Row, entry: u8, request: &Request) -> Result<bool, Code> {
+    let place = row.place_of(request.text(SESSION_ID));
+    match place.and_then(|place| row.access(place)) {
+        Some(access) if access.entry == entry => Ok(true),
+        Some(_) => Err(plain(5012)),
+        None => Ok(false),
+    }
 }
 
 /// An entry's accesses are counted on that entry alone.

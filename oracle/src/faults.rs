@@ -3,7 +3,7 @@
 use crate::cases::{Case, Sort, text};
 use crate::damages::any_damage;
 use crate::drafts::{Draft, DraftAvp};
-use crate::known_avps::UNKNOWN;
+use crate::known_avps::unknown;
 use crate::random::Random;
 use crate::reading_a_message::{
     AA, Field, LIST_BOTH, MANDATORY, Name, Needed, ROUTING_POLICY, SESSION_ID, TERMINATION,
@@ -136,11 +136,11 @@ pub fn header_checks(sort: Sort) -> Vec<Vec<Fault>> {
         [4_090, 1 << 16, 0x00FF_FFFF].map(Claim).to_vec(),
         vec![Tail(&[0, 0, 0, 25, 0x80, 0, 0, 8])],
         vec![Tail(&[0, 0, 0, 25, 0x80, 0, 0, 12])],
-        UNKNOWN.map(Unknown).to_vec(),
+        unknown().into_iter().map(Unknown).collect(),
     ]
 }
 
-fn field_checks(field: Field, session_type: Option<u32>) -> Vec<Vec<Fault>> {
+pub fn field_checks(field: Field, session_type: Option<u32>) -> Vec<Vec<Fault>> {
     let needed = match field.needed {
         Needed::ForType(which) => session_type == Some(which),
         other => other != Needed::Never,
@@ -254,7 +254,7 @@ impl Fault {
         }
     }
 
-    fn apply_to(&self, draft: &mut Draft, random: &mut Random) {
+    pub fn apply_to(&self, draft: &mut Draft, random: &mut Random) {
         match self {
             Fault::Size(size) => draft.size = Some(*size),
             Fault::Version(version) => draft.version = *version,
@@ -338,7 +338,7 @@ fn good_avp(field: &Field, random: &mut Random) -> DraftAvp {
 
 /// More copies than may be, before or behind the first, good or of a wrong length, now
 /// and then one more still.
-fn too_often(draft: &mut Draft, field: &Field, most: usize, random: &mut Random) {
+pub fn too_often(draft: &mut Draft, field: &Field, most: usize, random: &mut Random) {
     present(draft, field, random);
     loop {
         let mut copy = good_avp(field, random);

@@ -8,7 +8,7 @@ use crate::cases::{
 use crate::drafts::DraftAvp;
 use crate::faults::Fault;
 use crate::generator::{Deck, add, clear, enter, record};
-use crate::known_avps::UNKNOWN;
+use crate::known_avps::unknown;
 use crate::moves::{Moving, move_to, moves, moving};
 use crate::operators::all_rows;
 use crate::random::Random;
@@ -108,7 +108,7 @@ fn early() -> Vec<(Form, Sort, Fault)> {
         Fault::HeaderFlags(0x20),
         Fault::Application(2),
         Fault::Tail(&[0, 0, 0, 25, 1, 0, 0, 8]),
-        Fault::Unknown(UNKNOWN[0]),
+        Fault::Unknown(unknown()[0]),
         Fault::Tail(&[0; 4]),
     ];
     let mut all = Vec::new();

@@ -9,7 +9,7 @@ use crate::drafts::{Draft, DraftAvp};
 use crate::either_case::{PAIRS, either_case, typed};
 use crate::faults::{Fault, checks, deciding_checks, header_checks, own_checks};
 use crate::forms::{FormDecks, in_forms};
-use crate::known_avps::{UNKNOWN, known_and_ignored};
+use crate::known_avps::{known_and_ignored, unknown};
 use crate::moves::move_to;
 use crate::operators::{Situation, all_rows, entering, namesake, operators, situations};
 use crate::program::{Operation, Room};
@@ -163,10 +163,11 @@ fn all_singles() -> Vec<(Sort, Fault)> {
 fn all_unknown() -> Vec<(Sort, Vec<Fault>)> {
     let mut all = Vec::new();
     for sort in SORTS {
-        let alone = UNKNOWN.map(|name| (sort, vec![Fault::Unknown(name)]));
+        let names = unknown();
+        let alone = names.iter().map(|name| (sort, vec![Fault::Unknown(*name)]));
         all.extend(alone);
         for (turn, failure) in header_checks(sort).iter().enumerate() {
-            let name = UNKNOWN[turn % UNKNOWN.len()];
+            let name = names[turn % names.len()];
             for unknown in [Fault::UnknownFirst(name), Fault::UnknownLast(name)] {
                 all.push((sort, vec![failure[0].clone(), unknown]));
             }

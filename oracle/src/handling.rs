@@ -70,7 +70,7 @@ pub fn no_answer(rules: &Rules, call: &Call) -> u16 {
 }
 
 /// Numbers 5 to 8, on the message alone.
-fn message_number(message: &[u8]) -> u16 {
+pub fn message_number(message: &[u8]) -> u16 {
     let flags = header(message).map_or(0, |header| header.flags);
     match frame_number(message) {
         0 if flags & REQUEST == 0 => 8,
@@ -97,13 +97,13 @@ pub fn frame_number(message: &[u8]) -> u16 {
 
 /// What was read of a message: how far it came, its AVPs once the whole walk passed,
 /// and its request or the code of the first test that failed.
-struct Read<'m> {
-    reached: Reached,
-    avps: Vec<Avp<'m>>,
-    request: Result<Request<'m>, Code>,
+pub struct Read<'m> {
+    pub reached: Reached,
+    pub avps: Vec<Avp<'m>>,
+    pub request: Result<Request<'m>, Code>,
 }
 
-fn read<'m>(rules: &Rules, form: Form, header: &Header, message: &'m [u8]) -> Read<'m> {
+pub fn read<'m>(rules: &Rules, form: Form, header: &Header, message: &'m [u8]) -> Read<'m> {
     let failed = |reached, code| Read {
         reached,
         avps: Vec::new(),

@@ -3,9 +3,10 @@
 
 use crate::reading_a_message::{
     AUTH_APPLICATION_ID, AUTH_REQUEST_TYPE, Avp, DESTINATION_HOST, DESTINATION_REALM, Name,
-    ORIGIN_HOST, ORIGIN_REALM, PROXY_INFO, ROUTING_POLICY, SESSION_ID, SESSION_REQUEST_TYPE,
-    TERMINATION_CAUSE, USER_NAME, VISITED_NETWORK, W_APN, base, is, of_3gpp,
+    ORIGIN_HOST, ORIGIN_REALM, PROXY_INFO, RE_AUTH_REQUEST_TYPE, ROUTING_POLICY, SESSION_ID,
+    SESSION_REQUEST_TYPE, TERMINATION_CAUSE, USER_NAME, VISITED_NETWORK, W_APN, base, is, of_3gpp,
 };
+use crate::rules::DOCUMENT_01;
 use crate::{Code, plain};
 
 /// What document 01 names in requests.
@@ -50,15 +51,20 @@ pub const AA_REQUEST: [u32; 39] = [
 /// What else the Session-Termination-Request grammar of RFC 3588 has: Class.
 pub const TERMINATION_REQUEST: [u32; 1] = [25];
 
-/// The known AVPs that no list asks for and that an answer does not copy.
-pub fn known_and_ignored() -> Vec<Name> {
+fn in_answers_and_grammars() -> impl Iterator<Item = Name> {
     let grammars = AA_REQUEST.into_iter().chain(TERMINATION_REQUEST);
-    IN_ANSWERS.into_iter().chain(grammars.map(base)).collect()
+    IN_ANSWERS.into_iter().chain(grammars.map(base))
+}
+
+/// The known AVPs that no list of the server asks for and that an answer does not copy.
+pub fn known_and_ignored() -> Vec<Name> {
+    let of_w11 = Some(RE_AUTH_REQUEST_TYPE).filter(|name| !is_refused(name));
+    in_answers_and_grammars().chain(of_w11).collect()
 }
 
 /// By code, V bit and vendor together, whatever the command.
 pub fn is_known(avp: &Avp) -> bool {
-    let mut all = IN_REQUESTS.into_iter().chain(known_and_ignored());
+    let mut all = IN_REQUESTS.into_iter().chain(in_answers_and_grammars());
     all.any(|name| is(avp, name))
 }
 
@@ -70,15 +76,39 @@ pub fn supported(avp: &Avp) -> Result<(), Code> {
     Ok(())
 }
 
-/// AVPs that one could take for known, and are not: PDG-Charging-Id (in a table of
-/// TS 29.234, not in the grammar), what stands only inside Proxy-Info,
-/// Re-Auth-Request-Type, two of RFC 4005's grammar alone, known codes with another V
-/// bit or vendor, and codes of no meaning.
-pub const UNKNOWN: [Name; 17] = [
+/// The same from W11 on, and at the gateway: Re-Auth-Request-Type is known too.
+pub fn supported_with_re_auth(avp: &Avp) -> Result<(), Code> {
+    if is(avp, RE_AUTH_REQUEST_TYPE) {
+        return Ok(());
+    }
+    supported(avp)
+}
+
+/// Whether the program as it stands refuses an AVP of this name with M.
+fn is_refused(name: &Name) -> bool {
+    let avp = Avp {
+        code: name.code,
+        vendor: name.vendor,
+        mandatory: true,
+        value: &[],
+        whole: &[],
+    };
+    (DOCUMENT_01.supported)(&avp).is_err()
+}
+
+/// The AVPs that one could take for known, and are not.
+pub fn unknown() -> Vec<Name> {
+    LIKE_KNOWN.into_iter().filter(is_refused).collect()
+}
+
+/// PDG-Charging-Id (in a table of TS 29.234, not in the grammar), what stands only inside
+/// Proxy-Info, Re-Auth-Request-Type (until W11), two of RFC 4005's grammar alone, known
+/// codes with another V bit or vendor, and codes of no meaning.
+const LIKE_KNOWN: [Name; 17] = [
     of_3gpp(896),
     base(33),
     base(280),
-    base(285),
+    RE_AUTH_REQUEST_TYPE,
     base(97),
     base(408),
     of_vendor(263, 0),

@@ -7,6 +7,7 @@ use crate::{Code, plain};
 
 pub const VENDOR_3GPP: u32 = 10_415;
 pub const HEADER: usize = 20;
+pub const RE_AUTH: u32 = 258;
 pub const AA: u32 = 265;
 pub const TERMINATION: u32 = 275;
 
@@ -50,13 +51,19 @@ pub fn number(bytes: &[u8]) -> u32 {
         .fold(0, |sum, &byte| sum << 8 | u32::from(byte))
 }
 
-pub fn header_tests(header: &Header) -> Result<(), Code> {
+/// The tests of the header's flags, which are the same for every command.
+pub fn flag_tests(header: &Header) -> Result<(), Code> {
     if header.flags & HEADER_RESERVED != 0 {
         return Err(plain(5013));
     }
     if header.flags & ERROR != 0 {
         return Err(plain(3008));
     }
+    Ok(())
+}
+
+pub fn header_tests(header: &Header) -> Result<(), Code> {
+    flag_tests(header)?;
     let served = match header.command {
         AA => header.application == 1,
         TERMINATION => header.application <= 1,
@@ -145,6 +152,7 @@ pub const ORIGIN_HOST: Name = base(264);
 pub const AUTH_REQUEST_TYPE: Name = base(274);
 pub const DESTINATION_REALM: Name = base(283);
 pub const PROXY_INFO: Name = base(284);
+pub const RE_AUTH_REQUEST_TYPE: Name = base(285);
 pub const DESTINATION_HOST: Name = base(293);
 pub const TERMINATION_CAUSE: Name = base(295);
 pub const ORIGIN_REALM: Name = base(296);
@@ -226,6 +234,16 @@ pub const LIST_275: [Field; 4] = [
     field(DESTINATION_HOST, Needed::Always, TEXT),
     field(USER_NAME, Needed::Always, TEXT),
     field(W_APN, Needed::Always, LABEL),
+];
+
+/// The gateway's own list (W11).
+pub const LIST_258: [Field; 2] = [
+    field(DESTINATION_HOST, Needed::Always, TEXT),
+    field(
+        RE_AUTH_REQUEST_TYPE,
+        Needed::Always,
+        ValueForm::Number(0, 0),
+    ),
 ];
 
 /// The values of a request that passed its lists, several under one name in the order

@@ -7,13 +7,14 @@ use crate::abort_signs::{WANTED_OF_ABORTS, answered_key, signs_of_aborts};
 use crate::burst_signs::{WANTED_OF_BURSTS, signs_of_bursts};
 use crate::either_case::{PAIRS, PLACES_OF_LABELS, Texts, pair_key, signs};
 use crate::form_signs::{WANTED_OF_FORMS, signs_of_forms};
-use crate::known_avps::{UNKNOWN, known_and_ignored, supported};
+use crate::known_avps::{known_and_ignored, unknown};
 use crate::operator_signs::{Subject, WANTED_OF_OPERATORS, signs_of_operators};
 use crate::program::{Asked, Operation, Seen};
 use crate::reading_a_message::{
     AA, Avp, HEADER, MANDATORY, Name, SESSION_ID, SESSION_REQUEST_TYPE, TERMINATION, USER_NAME,
     VENDOR, W_APN, header, is, number, walk_tests,
 };
+use crate::rules::DOCUMENT_01;
 use crate::the_table::{FORMS, Form, Row, decode, find, row_at};
 
 #[derive(Clone, Debug, Default)]
@@ -66,7 +67,7 @@ fn wanted() -> Vec<String> {
     }
     all.extend(CASES_OF_LETTERS.map(str::to_string));
     all.extend(known_and_ignored().into_iter().map(known_key));
-    all.extend(UNKNOWN.into_iter().map(unknown_key));
+    all.extend(unknown().into_iter().map(unknown_key));
     all.extend([AT_FIRST, LATER, BEFORE_BROKEN, BEHIND_BROKEN].map(str::to_string));
     all.extend([3001, 3007, 3008, 5013].map(beside_key));
     all.extend(WANTED_OF_OPERATORS.iter().cloned());
@@ -189,15 +190,17 @@ impl Report {
     fn count_known(&mut self, message: &[u8], seen: &Seen) {
         let (avps, broken) = loosely_read(message);
         let with_m = avps.iter().filter(|avp| avp.mandatory);
-        let unknown = avps.iter().position(|avp| supported(avp).is_err());
-        match (&seen.numbers[..2], unknown) {
+        let not_known = avps
+            .iter()
+            .position(|avp| (DOCUMENT_01.supported)(avp).is_err());
+        match (&seen.numbers[..2], not_known) {
             ([2001, 1], _) => {
                 let known = known_and_ignored().into_iter();
                 let there = known.filter(|name| with_m.clone().any(|avp| is(avp, *name)));
                 there.for_each(|name| self.add(known_key(name)));
             }
             ([5001, 1], Some(at)) => {
-                let known = UNKNOWN.into_iter().find(|name| is(&avps[at], *name));
+                let known = unknown().into_iter().find(|name| is(&avps[at], *name));
                 known
                     .into_iter()
                     .for_each(|name| self.add(unknown_key(name)));

@@ -8,11 +8,15 @@ use crate::disconnecting::{
     abort_texts, belongs, write_abort,
 };
 use crate::handling::{Call, frame_number, handle, no_answer};
-use crate::known_avps::supported;
+use crate::known_avps::{supported, supported_with_re_auth};
 use crate::moving::{move_table, row_may_move, says_form_1};
 use crate::reading_a_message::{
     Avp, Field, HEADER, Header, Name, Request, header_tests, is, list, read_field, read_list,
     walk_is_over, walk_tests,
+};
+use crate::reauthorizing::{
+    LentAccess, ReAuth, ReAuthorized, aa_avps, aa_header, is_of_access, re_auth_answer,
+    re_auth_header_tests, re_auth_list, re_auth_number, re_authorize,
 };
 use crate::set_up::{
     Account, NewEntry, NewRow, add, clear, enter, may_add, operator_fits, share_is_full,
@@ -77,6 +81,7 @@ pub struct Rules {
     pub store: fn(&Rules, Form, &mut [u8], usize, &Row),
     // Deciding.
     pub may_open: fn(&Row, &Request) -> Result<u8, Code>,
+    pub held: fn(&Row, u8, &Request) -> Result<bool, Code>,
     pub at_limit: fn(&Row, u8) -> bool,
     pub place_to_cut: fn(&Row, u8) -> Option<u8>,
     pub place_to_take: fn(&Row, Option<u8>) -> Option<u8>,
@@ -100,9 +105,31 @@ pub struct Rules {
     pub answer_number: fn(&[u8]) -> u16,
     pub supported_in_answers: fn(&Avp) -> Result<(), Code>,
     pub answer_tests: &'static [AnswerTest],
+    // Re-authorization at the gateway (W11).
+    pub re_authorize: fn(&Rules, &mut ReAuth) -> ReAuthorized,
+    pub re_auth_number: fn(&ReAuth) -> u16,
+    pub re_auth_header_tests: fn(&Header) -> Result<(), Code>,
+    pub supported_at_gateway: fn(&Avp) -> Result<(), Code>,
+    pub re_auth_list: fn(Form, u32) -> Vec<Field>,
+    pub is_of_access: fn(&LentAccess, &Request) -> Result<(), Code>,
+    pub re_auth_answer: fn(&Rules, &Reply) -> Vec<u8>,
+    pub aa_header: fn([u32; 2]) -> [u8; HEADER],
+    pub aa_avps: fn(&ReAuth, &Request) -> Vec<Vec<u8>>,
 }
 
-pub const DOCUMENT_01: Rules = Rules {
+/// The rules as they stand: of document 02 all that has landed. With W11's landing this
+/// becomes `WITH_W11`, and the calls that are made and the report follow.
+pub const DOCUMENT_01: Rules = BEFORE_W11;
+
+/// With the server's rule of W11: a Session-Id that is held on the same entry is granted
+/// and changes nothing, and Re-Auth-Request-Type is known.
+pub const WITH_W11: Rules = Rules {
+    held: deciding::held_stands,
+    supported: supported_with_re_auth,
+    ..BEFORE_W11
+};
+
+const BEFORE_W11: Rules = Rules {
     clear,
     enter,
     add,
@@ -139,6 +166,7 @@ pub const DOCUMENT_01: Rules = Rules {
     find: |_, form, table, operator, name| find(form, table, operator, name),
     store,
     may_open: deciding::may_open,
+    held: deciding::held_is_refused,
     at_limit: deciding::at_limit,
     place_to_cut: deciding::place_to_cut,
     place_to_take: deciding::place_to_take,
@@ -160,4 +188,13 @@ pub const DOCUMENT_01: Rules = Rules {
     answer_number: frame_number,
     supported_in_answers: |_| Ok(()),
     answer_tests: ANSWER_TESTS,
+    re_authorize,
+    re_auth_number,
+    re_auth_header_tests,
+    supported_at_gateway: supported_with_re_auth,
+    re_auth_list,
+    is_of_access,
+    re_auth_answer,
+    aa_header,
+    aa_avps,
 };

@@ -10,7 +10,7 @@ use oracle::{Code, SUCCESS, experimental, plain};
 use crate::calls::then;
 use crate::{RIGHT, Wrong, asked_about};
 
-/// The right tests, for a request without its Session-Id or visited network.
+/// The right tests, for a request without its visited network.
 fn may_open_without(row: &Row, request: &Request, name: Name) -> Result<u8, Code> {
     let mut fewer = request.clone();
     fewer.values.retain(|(n, _)| *n != name);
@@ -34,22 +34,20 @@ fn session_first(row: &Row, request: &Request) -> Result<u8, Code> {
 }
 
 /// A held Session-Id is refused only on the entry asked for.
-fn held_on_entry(row: &Row, request: &Request) -> Result<u8, Code> {
-    let number = may_open_without(row, request, SESSION_ID)?;
+fn held_on_entry(row: &Row, number: u8, request: &Request) -> Result<bool, Code> {
     let place = row.place_of(request.text(SESSION_ID));
     match place.and_then(|p| row.access(p)) {
         Some(access) if access.entry == number => Err(plain(5012)),
-        _ => Ok(number),
+        _ => Ok(false),
     }
 }
 
 /// A held Session-Id is granted where its own access would be cut.
-fn held_but_cut(row: &Row, request: &Request) -> Result<u8, Code> {
-    let number = may_open_without(row, request, SESSION_ID)?;
+fn held_but_cut(row: &Row, number: u8, request: &Request) -> Result<bool, Code> {
     let cut = place_to_cut(row, number).filter(|_| at_limit(row, number));
     match row.place_of(request.text(SESSION_ID)) {
         Some(place) if Some(place) != cut => Err(plain(5012)),
-        _ => Ok(number),
+        _ => Ok(false),
     }
 }
 
@@ -57,10 +55,10 @@ pub fn programs() -> Vec<Wrong> {
     let mut all = wrong! {
         "tests roaming before barring": may_open = roaming_first;
         "tests the session before the label": may_open = session_first;
-        "refuses a held session on its own label only": may_open = held_on_entry;
-        "grants a held session that would be cut": may_open = held_but_cut;
+        "refuses a held session on its own label only": held = held_on_entry;
+        "grants a held session that would be cut": held = held_but_cut;
         "does not test roaming": may_open = |row, q| may_open_without(row, q, VISITED_NETWORK);
-        "does not test the session": may_open = |row, q| may_open_without(row, q, SESSION_ID);
+        "does not test the session": held = |_, _, _| Ok(false);
         "lets roam who is not barred": may_open = |row, q| match may_open(row, q) {
             Err(ROAMING_NOT_ALLOWED) => may_open_without(row, q, VISITED_NETWORK),
             other => other,

@@ -135,8 +135,8 @@ pub fn programs() -> Vec<Wrong> {
             let label = new.label.to_ascii_lowercase();
             add(r, said, table, of, &NewEntry { label: &label, ..*new })
         };
-        "compares Session-Ids in any case on opening": may_open = |row, q| {
-            may_open(&session_in_any_case(row, q), q)
+        "compares Session-Ids in any case on opening": held = |row, entry, q| {
+            (RIGHT.held)(&session_in_any_case(row, q), entry, q)
         };
         "compares Session-Ids in any case for a policy": take_policy = |row, q, wag| {
             *row = session_in_any_case(row, q);

@@ -8,11 +8,14 @@ macro_rules! wrong {
     };
 }
 
+mod aa_requests;
 mod aborts;
 mod bursts;
 mod calls;
 mod deciding;
 mod forms;
+mod gateways;
+mod held_sessions;
 mod labels;
 mod lists;
 mod operators;
@@ -30,8 +33,10 @@ use oracle::handling::{Call, no_answer};
 use oracle::program::{Operation, Program};
 use oracle::random::Random;
 use oracle::reading_a_message::{Name, is, walk};
+use oracle::reauth_calls::{self, re_auth_calls};
+use oracle::reauth_circles::circles;
 use oracle::recorder::Recorder;
-use oracle::rules::{DOCUMENT_01, Rules};
+use oracle::rules::{DOCUMENT_01, Rules, WITH_W11};
 use oracle::script::{Record, judge};
 use oracle::set_up::{Account, NewEntry, NewRow};
 use oracle::the_table::CONDITIONS;
@@ -154,6 +159,41 @@ fn every_wrong_burst_is_told_apart_by_a_script() {
     let mut programs = bursts::programs();
     programs.retain_mut(|(_, rules)| told_apart(rules, &records).is_none());
     let unnoticed: Vec<&str> = programs.iter().map(|(name, _)| *name).collect();
+    assert!(unnoticed.is_empty(), "not told apart: {unnoticed:#?}");
+}
+
+/// The gateways that read or write otherwise (W11).
+#[test]
+fn every_wrong_gateway_is_told_apart() {
+    let calls = re_auth_calls(15, 6_000);
+    let given = |rules: &Rules, at: usize| reauth_calls::given(rules, &calls[at]);
+    let programs = [gateways::programs(), aa_requests::programs()].concat();
+    assert!(programs.len() > 110);
+    every_one_is_told_apart(&programs, calls.len(), given);
+}
+
+/// The servers for which W11's rule is another: whole circles have to tell.
+#[test]
+fn every_wrong_held_session_is_told_apart() {
+    let circles = circles(16, 2_000);
+    let given = |rules: &Rules, at: usize| circles[at].1.go_round(rules);
+    let programs = held_sessions::programs();
+    assert!(programs.len() > 20);
+    every_one_is_told_apart(&programs, circles.len(), given);
+}
+
+/// Each program gives something else than the right one for some call.
+fn every_one_is_told_apart<Given: PartialEq>(
+    programs: &[Wrong],
+    calls: usize,
+    given: impl Fn(&Rules, usize) -> Given,
+) {
+    let expected: Vec<Given> = (0..calls).map(|at| given(&WITH_W11, at)).collect();
+    let unnoticed: Vec<&str> = programs
+        .iter()
+        .filter(|(_, rules)| (0..calls).all(|at| given(rules, at) == expected[at]))
+        .map(|(name, _)| *name)
+        .collect();
     assert!(unnoticed.is_empty(), "not told apart: {unnoticed:#?}");
 }
 
