@@ -1,11 +1,11 @@
 -- The Proxy-Infos of a message whose walk passed, copied in stretches: what is in the room, with the stretch that is open and
 -- the Proxy-Infos ahead, is what all of them make of it.
 use mathlib.Core.Path.{_≡_, refl, sym, ap, _∙_}
-use mathlib.Core.Bool.{true, false, _&&_, not}
+use mathlib.Core.Bool.{Bool, true, false, _&&_, not}
 use mathlib.Core.List.{List, [], _∷_, _++_, append-assoc, append-nil}
 use Prim.Native.Nat.{ℕ, zero, suc, _+_, _-_, _≤_, _<_}
 use native.Mathlib.Omega.{arith}
-use borrow.Author.Tests.{eqb-true, eqb-false, ne-eqb}
+use borrow.Author.Tests.{eqb-true, eqb-false, eq-eqb, ne-eqb}
 use lib.Dec.{eqb}
 use lib.ListN.{length, getD, take, drop, length-append, length-drop}
 use lib.Seq.{drop-drop, getD-drop, take-add}
@@ -18,7 +18,7 @@ use Rattle.octets.proofs.Texts.{length-part, length-put, put-then}
 use Rattle.message.specs.ReadingAMessage.{headerCode, sameName, Avp, Walk, behind, avpLength, avpCode, avpOf, requestCode, avps, walkCode, having, present, proxyInfo}
 use Rattle.message.specs.WritingTheAnswer.{allBytes, proxyAvps}
 use Rattle.message.specs.Spans.{hasProxies}
-use Rattle.answers.specs.Answers.{Written}
+use Rattle.answers.specs.Answers.{copied, Written}
 use Rattle.message.proofs.Heads.{net24-drop, net32-drop, name-v, name-base}
 use Rattle.message.proofs.Walks.{walk-end, walk-bad, walk-one, request-four}
 use Rattle.message.proofs.Gathering.{next-on, having-is, having-not, ahead}
@@ -49,33 +49,53 @@ bytes-none (x ∷ xs) f =
     let z : _≡_ {A = ℕ} 0 1 = cc in
     absurd (omega arith)
 
-pub proxies-none : (m : List ℕ) → false ≡ hasProxies m → proxyAvps m ≡ []
-unfolding hasProxies proxyAvps pick present
-proxies-none m e =
-    by-test (eqb (headerCode m) 0 && eqb (walkCode m) 0)
-    (λ t.
-    let h = and-left (eqb (headerCode m) 0) (eqb (walkCode m) 0) t in
-    let w = and-right (eqb (headerCode m) 0) (eqb (walkCode m) 0) t in
-    let f = rw (h, w) at e in
-    rw t (bytes-none (having proxyInfo (avps m)) f))
-    (λ t. rw t)
+-- what is copied, where it is told whether there is one to copy, whatever the code h of the header's tests
+module _ (h : ℕ) (m : List ℕ) (p : Bool) (e : p ≡ eqb h 0 && (eqb (walkCode m) 0 && present proxyInfo (avps m))) where
+  pub copied-walked : p ≡ true → walkCode m ≡ 0
+  copied-walked t =
+      let r = and-right (eqb h 0) (eqb (walkCode m) 0 && present proxyInfo (avps m)) (sym e ∙ t) in
+      eqb-true (walkCode m) 0 (and-left (eqb (walkCode m) 0) (present proxyInfo (avps m)) r)
 
-pub proxies-start : (m : List ℕ) → true ≡ hasProxies m → proxyAvps m ≡ proxiesFrom m 20
-unfolding hasProxies proxyAvps pick proxiesFrom avps
-proxies-start m e =
-    let h = and-left (eqb (headerCode m) 0) (eqb (walkCode m) 0 && present proxyInfo (avps m)) (sym e) in
-    let r = and-right (eqb (headerCode m) 0) (eqb (walkCode m) 0 && present proxyInfo (avps m)) (sym e) in
-    rw (h, and-left (eqb (walkCode m) 0) (present proxyInfo (avps m)) r)
+  pub copied-is : copied p m ≡ pick (eqb h 0 && eqb (walkCode m) 0) (allBytes (having proxyInfo (avps m))) []
+  unfolding copied pick present
+  copied-is =
+      by-test p
+      (λ t.
+      let a = and-left (eqb h 0) (eqb (walkCode m) 0 && present proxyInfo (avps m)) (sym e ∙ t) in
+      rw (t, a, eq-eqb (walkCode m) 0 (copied-walked t)))
+      (λ t.
+      by-test (eqb h 0 && eqb (walkCode m) 0)
+      (λ u.
+      let a = and-left (eqb h 0) (eqb (walkCode m) 0) u in
+      let w = and-right (eqb h 0) (eqb (walkCode m) 0) u in
+      let f = rw (a, w) at (sym t ∙ e) in
+      rw (t, u) (sym (bytes-none (having proxyInfo (avps m)) f)))
+      (λ u. rw (t, u)))
+
+-- so the server's answer
+pub copied-told : (m : List ℕ) (p : Bool) → p ≡ hasProxies m → copied p m ≡ proxyAvps m
+unfolding hasProxies proxyAvps
+copied-told m p e = copied-is (headerCode m) m p e
+
+pub proxies-walked : (m : List ℕ) (p : Bool) → p ≡ hasProxies m → p ≡ true → walkCode m ≡ 0
+unfolding hasProxies
+proxies-walked m p e t = copied-walked (headerCode m) m p e t
+
+pub copied-not : (m : List ℕ) (p : Bool) → p ≡ false → copied p m ≡ []
+unfolding copied pick
+copied-not m p e = rw e
+
+pub copied-start : (m : List ℕ) (p : Bool) → p ≡ true → copied p m ≡ proxiesFrom m 20
+unfolding copied pick proxiesFrom avps
+copied-start m p e = rw e
 
 pub proxies-end : (m : List ℕ) (from : ℕ) → length m ≤ from → proxiesFrom m from ≡ []
 unfolding proxiesFrom having keep allBytes
 proxies-end m from h = rw (walk-end requestCode request-four (drop from m) (rw length-drop (omega arith)))
 
-pub passed-start : (m : List ℕ) → true ≡ hasProxies m → (ahead m 20) .code ≡ 0
-unfolding hasProxies walkCode
-passed-start m e =
-    let r = and-right (eqb (headerCode m) 0) (eqb (walkCode m) 0 && present proxyInfo (avps m)) (sym e) in
-    eqb-true (walkCode m) 0 (and-left (eqb (walkCode m) 0) (present proxyInfo (avps m)) r)
+passed-start : (m : List ℕ) → walkCode m ≡ 0 → (ahead m 20) .code ≡ 0
+unfolding walkCode
+passed-start m e = e
 
 some : (n : ℕ) → (n ≡ 0 → ⊥) → 0 < n
 some zero h = absurd (h refl)
@@ -91,7 +111,7 @@ module _ (m : List ℕ) (from : ℕ) (h : from < length m) (c : (ahead m from) .
       let w = walk-bad requestCode request-four (drop from m) (rw length-drop (omega arith)) (some (requestCode (drop from m)) n) in
       sym (ap (λ (x : Walk). x .code) w) ∙ c)
 
-  passes-here : avpCode (drop from m) ≡ 0
+  pub passes-here : avpCode (drop from m) ≡ 0
   passes-here = request-four (drop from m) passes-all
 
   pub next-in : (from + 8 ≤ from + up4 (net24 m (from + 5))) × (from + up4 (net24 m (from + 5)) ≤ length m)
@@ -104,7 +124,7 @@ module _ (m : List ℕ) (from : ℕ) (h : from < length m) (c : (ahead m from) .
   unfolding behind
   passed-on = sym (ap (λ (x : Walk). x .code) ahead-is) ∙ c
 
-  avps-are : (ahead m from) .avps ≡ avpOf (drop from m) ∷ (ahead m (from + up4 (net24 m (from + 5)))) .avps
+  pub avps-are : (ahead m from) .avps ≡ avpOf (drop from m) ∷ (ahead m (from + up4 (net24 m (from + 5)))) .avps
   unfolding behind
   avps-are = ap (λ (x : Walk). x .avps) ahead-is
 
@@ -128,20 +148,19 @@ pub record Copied (m before : List ℕ) (at : ℕ) (room : List ℕ) (to start f
   pub same : length room ≡ length before
   pub fits : to + (length m - start) ≤ length before
   pub passed : (ahead m from) .code ≡ 0
-  pub end : to + (from - start + length (proxiesFrom m from)) ≡ at + length (proxyAvps m)
-  pub all : put room to (part m start (from - start) ++ proxiesFrom m from) ≡ put before at (proxyAvps m)
+  pub end : to + (from - start + length (proxiesFrom m from)) ≡ at + length (proxiesFrom m 20)
+  pub all : put room to (part m start (from - start) ++ proxiesFrom m from) ≡ put before at (proxiesFrom m 20)
 
-pub copied-none : (m room : List ℕ) (at : ℕ) → true ≡ hasProxies m → 20 ≤ length m → at + length m ≤ length room → Copied m room at room at 20 20
+pub copied-none : (m room : List ℕ) (at : ℕ) → walkCode m ≡ 0 → 20 ≤ length m → at + length m ≤ length room → Copied m room at room at 20 20
 copied-none m room at e h f =
-    let p = proxies-start m e in
     record {
       open-is = omega arith;
       inside = h;
       same = refl;
       fits = omega arith;
       passed = passed-start m e;
-      end = rw p (omega arith);
-      all = rw p;
+      end = omega arith;
+      all = refl;
     }
 
 module _ (m before room : List ℕ) (at to start from : ℕ) (w : Copied m before at room to start from) where
@@ -155,13 +174,13 @@ module _ (m before room : List ℕ) (at to start from : ℕ) (w : Copied m befor
   pub stretch-fits : to + (from - start) ≤ length room
   stretch-fits = omega (arith, w .fits, w .same, w .open-is, w .inside)
 
-  pub copied-all : (after : List ℕ) (r : ℕ) → length m ≤ from → Written room after to r (part m start (from - start)) → Written before after at r (proxyAvps m)
+  pub copied-all : (after : List ℕ) (r : ℕ) → length m ≤ from → Written room after to r (part m start (from - start)) → Written before after at r (proxiesFrom m 20)
   unfolding stretch
   copied-all after r h v =
       let e = proxies-end m from h in
       let n : length (proxiesFrom m from) ≡ 0 = rw e in
       let k : length (part m start (from - start)) ≡ from - start = stretch-length in
-      let b : put room to (part m start (from - start) ++ []) ≡ put before at (proxyAvps m) = rw e at (w .all) in
+      let b : put room to (part m start (from - start) ++ []) ≡ put before at (proxiesFrom m 20) = rw e at (w .all) in
       record {
         place = omega (arith, v .place, w .end, n, k);
         bytes-put = v .bytes-put ∙ ap (put room to) (sym (append-nil (part m start (from - start)))) ∙ b;
@@ -178,7 +197,7 @@ module _ (m before room : List ℕ) (at to start from : ℕ) (w : Copied m befor
         let k : length (part m start (from - start)) ≡ from - start = stretch-length in
         let l : to + length (part m start (from - start)) ≤ length room = omega (arith, stretch-fits, k) in
         let z : q - q ≡ 0 = omega arith in
-        let b : put room to (part m start (from - start) ++ proxiesFrom m q) ≡ put before at (proxyAvps m) = rw e at (w .all) in
+        let b : put room to (part m start (from - start) ++ proxiesFrom m q) ≡ put before at (proxiesFrom m 20) = rw e at (w .all) in
         record {
           open-is = omega arith;
           inside = n .1;
@@ -201,7 +220,7 @@ module _ (m before room : List ℕ) (at to start from : ℕ) (w : Copied m befor
         ∙ take-add (from - start) u (drop start m)
         ∙ ap (λ (z : List ℕ). part m start (from - start) ++ take u z) (drop-drop (from - start) start m ∙ ap (λ (i : ℕ). drop i m) y) in
         let g : length (part m from u) ≡ u = length-part m from u (n .1) in
-        let b : put room to (part m start (from - start) ++ (part m from u ++ proxiesFrom m (from + u))) ≡ put before at (proxyAvps m) = rw e at (w .all) in
+        let b : put room to (part m start (from - start) ++ (part m from u ++ proxiesFrom m (from + u))) ≡ put before at (proxiesFrom m 20) = rw e at (w .all) in
         record {
           open-is = omega (arith, w .open-is);
           inside = n .1;

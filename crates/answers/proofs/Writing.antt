@@ -22,7 +22,7 @@ use Rattle.message.specs.declared.Kind.{Kind}
 use Rattle.message.specs.declared.Kind.the-variants.{NoAnswer, Plain, Experimental}
 use Rattle.message.specs.Spans.{Holds}
 use Rattle.message.specs.Kinds.{codeFrom}
-use Rattle.answers.specs.Answers.{headBytes, answerHead, Written, Answerable, Answered}
+use Rattle.answers.specs.Answers.{headBytes, answerHead, copied, Written, Answerable, Answered}
 use Rattle.message.proofs.Walks.{Passed, passes, up4-least, request-four}
 
 -- LENGTHS
@@ -64,7 +64,7 @@ written-then d e f at k n a b p q h =
     }
 
 -- bytes written over zeros that end behind them
-over-zeros : (d : List ℕ) (at : ℕ) (s : List ℕ) (q k n : ℕ) → q + k ≡ at + length s + n → n ≤ k → at ≤ q → q + k ≤ length d
+pub over-zeros : (d : List ℕ) (at : ℕ) (s : List ℕ) (q k n : ℕ) → q + k ≡ at + length s + n → n ≤ k → at ≤ q → q + k ≤ length d
     → put (put d q (zeros k)) at s ≡ put d at (s ++ zeros n)
 unfolding put
 over-zeros d at s q k n e h l r =
@@ -191,12 +191,16 @@ bytes-walk (suc k) n s =
     (λ u. rw (z, t, u) (omega (arith, p .whole))))
     (λ t. rw (z, t) (omega arith)))
 
-pub proxies-most : (m : List ℕ) → 20 ≤ length m → length (proxyAvps m) ≤ length m - 20
-unfolding proxyAvps pick avps walkBy
-proxies-most m h =
-    by-test (eqb (headerCode m) 0 && eqb (walkCode m) 0)
+pub copied-most : (m : List ℕ) (p : Bool) → 20 ≤ length m → length (copied p m) ≤ length m - 20
+unfolding copied pick avps walkBy
+copied-most m p h =
+    by-test p
     (λ t. rw t (let b = bytes-walk (suc (length (drop 20 m))) proxyInfo (drop 20 m) in omega (arith, b, length-drop 20 m)))
     (λ t. rw t (omega arith))
+
+proxies-most : (m : List ℕ) → 20 ≤ length m → length (proxyAvps m) ≤ length m - 20
+unfolding proxyAvps copied
+proxies-most m h = copied-most m (eqb (headerCode m) 0 && eqb (walkCode m) 0) h
 
 -- HOW LONG AN ANSWER IS
 

@@ -4,11 +4,12 @@ use mathlib.Core.Bool.{Bool}
 use mathlib.Core.List.{List, [], _∷_, _++_}
 use Prim.Native.Nat.{ℕ, _+_, _-_, _≤_, _<_}
 use lib.ListN.{length}
+use Rattle.octets.specs.Choice.{pick}
 use Rattle.octets.specs.Texts.{part, put}
 use Rattle.octets.specs.Numbers.{in24, in32}
 use Rattle.message.specs.Codes.{Code}
-use Rattle.message.specs.ReadingAMessage.{command, userName}
-use Rattle.message.specs.WritingTheAnswer.{avpBytes, sessionAvp, answerFlags, answer, answerRoom}
+use Rattle.message.specs.ReadingAMessage.{command, avps, having, userName, proxyInfo}
+use Rattle.message.specs.WritingTheAnswer.{avpBytes, sessionAvp, allBytes, answerFlags, answer, answerRoom}
 use Rattle.message.specs.declared.Span.{Span}
 use Rattle.message.specs.Spans.{Holds, hasProxies}
 
@@ -19,6 +20,10 @@ headBytes code n = in32 code ++ (64 ∷ in24 n)
 -- The header of an answer of n bytes.
 unfoldable pub answerHead : List ℕ → Code → ℕ → List ℕ
 answerHead m c n = 1 ∷ in24 n ++ (answerFlags m c ∷ part m 5 15)
+
+-- Every Proxy-Info, as it came, where they are to be copied; else none.
+unfoldable pub copied : (proxies : Bool) → List ℕ → List ℕ
+copied proxies m = pick proxies (allBytes (having proxyInfo (avps m))) []
 
 -- A room in which bytes were written from a place on, and the place behind them.
 pub record Written (before after : List ℕ) (at next : ℕ) (bytes : List ℕ) : Type 0 where

@@ -2,16 +2,17 @@
 use message::Kind;
 use message::Span;
 ghost use mathlib.Core.Path.{_≡_};
+ghost use mathlib.Core.Bool.{true};
 ghost use Prim.Native.Nat.{_+_, _-_, _*_, _≤_, _<_};
 ghost use lib.ListN.{length, drop};
 ghost use Rattle.octets.specs.Texts.{part, put};
 ghost use Rattle.octets.specs.Numbers.{in32};
 ghost use Rattle.message.specs.Codes.{plain};
 ghost use Rattle.message.specs.Kinds.{codeFrom};
-ghost use Rattle.message.specs.ReadingAMessage.{command, sameName, avpOf, userName, proxyInfo};
-ghost use Rattle.message.specs.Spans.{Holds, hasProxies};
-ghost use Rattle.message.specs.WritingTheAnswer.{avpBytes, sessionAvp, authAvps, is3xxx, resultAvp, subscriptionAvp, proxyAvps, answerFlags};
-ghost use Rattle.answers.specs.Answers.{headBytes, answerHead, Written, SessionOf, Answerable, Answered};
+ghost use Rattle.message.specs.ReadingAMessage.{command, sameName, avpOf, walkCode, userName, proxyInfo};
+ghost use Rattle.message.specs.Spans.{Holds};
+ghost use Rattle.message.specs.WritingTheAnswer.{avpBytes, sessionAvp, authAvps, is3xxx, resultAvp, subscriptionAvp, answerFlags};
+ghost use Rattle.answers.specs.Answers.{headBytes, answerHead, copied, Written, SessionOf, Answerable, Answered};
 
 // The first eight bytes of an AVP of ours, whose length is n.
 fn put_head(room: &mut [u8], at: usize, code: u32, n: usize)
@@ -100,7 +101,7 @@ fn session_length(m: &[u8]) -> usize
 }
 
 // Session-Id, from the first AVP alone, behind the header.
-fn put_session(m: &[u8], room: &mut [u8]) -> usize
+pub fn put_session(m: &[u8], room: &mut [u8]) -> usize
     requires { ⌜ (20 ≤ length (now m)) × (512 ≤ length (now room)) ⌝ }
     ensures { λ r. ⌜ Written (now (room .entry)) (now (room .exit)) 20 r (sessionAvp (now (m .entry))) ⌝ }
 {
@@ -196,10 +197,10 @@ fn put_stretch(m: &[u8], start: usize, end: usize, room: &mut [u8], to: usize) -
 }
 
 // Each Proxy-Info with its padding, those that stand together as one stretch: a second walk over AVPs that all passed,
-// made only where there is one to copy.
-fn put_proxies(m: &[u8], proxies: bool, room: &mut [u8], at: usize) -> usize
-    requires { ⌜ (20 ≤ length (now m)) × (at + length (now m) ≤ length (now room)) × (proxies ≡ hasProxies (now m)) ⌝ }
-    ensures { λ r. ⌜ Written (now (room .entry)) (now (room .exit)) at r (proxyAvps (now (m .entry))) ⌝ }
+// made only where there is one to copy. Whoever calls says so, since each side has header tests of its own.
+pub fn put_proxies(m: &[u8], proxies: bool, room: &mut [u8], at: usize) -> usize
+    requires { ⌜ (20 ≤ length (now m)) × (at + length (now m) ≤ length (now room)) × (proxies ≡ true → walkCode (now m) ≡ 0) ⌝ }
+    ensures { λ r. ⌜ Written (now (room .entry)) (now (room .exit)) at r (copied proxies (now (m .entry))) ⌝ }
 {
     if !proxies {
         return at;
@@ -231,7 +232,7 @@ fn answer_flags(m: &[u8], code: u32) -> u8
 }
 
 // The header of an answer of n bytes, which two bytes hold.
-fn put_header(m: &[u8], code: u32, n: usize, room: &mut [u8])
+pub fn put_header(m: &[u8], code: u32, n: usize, room: &mut [u8])
     requires { ⌜ (20 ≤ length (now m)) × (20 ≤ length (now room)) × (n < 65536) ⌝ }
     ensures { λ _. ⌜ now (room .exit) ≡ put (now (room .entry)) 0 (answerHead (now (m .entry)) (plain code) n) ⌝ }
 {

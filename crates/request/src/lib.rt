@@ -29,7 +29,7 @@ pub fn starts(m: &[u8]) -> bool
 }
 
 // The first five fields, which both requests have.
-fn first_five(m: &[u8], index: &[usize]) -> Both
+pub fn first_five(m: &[u8], index: &[usize]) -> Both
     requires { ⌜ (20 ≤ length (now m)) × (walkCode (now m) ≡ 0) × Gathered (now m) (now index) ⌝ }
     ensures { λ r. ⌜ BothRead (now (m .entry)) r ⌝ }
 {

@@ -7,7 +7,8 @@ use Rattle.octets.specs.Texts.{put}
 use Rattle.message.specs.Codes.{plain, numberOf}
 use Rattle.message.specs.WritingTheAnswer.{avpBytes, sessionAvp, authAvps, resultAvp, subscriptionAvp, proxyAvps, answerBody}
 use Rattle.message.specs.Kinds.{codeFrom}
-use Rattle.answers.proofs.Writing.{session-most, auth-most, result-most, avp-most, subscription-most, length-body, proxies-most, auth-from, subscription-from, head-from, user-short, answerable-fits, written-seven, answer-put}
+use Rattle.answers.proofs.Writing.{session-most, auth-most, result-most, avp-most, subscription-most, length-body, copied-most, auth-from, subscription-from, head-from, user-short, answerable-fits, written-seven, answer-put}
+use Rattle.answers.proofs.Proxies.{copied-told, proxies-walked}
 use Rattle.answers.proofs.answer.Statement.{statement}
 use Rattle.answers.proofs.answer.Tie as tie
 
@@ -37,7 +38,7 @@ returns c =
     (sessionAvp m) (authAvps m (codeFrom k n)) (resultAvp (codeFrom k n)) (avpBytes 264 host) (avpBytes 296 realm) (subscriptionAvp m (codeFrom k n))
     (proxyAvps m)
     (w1 .ensures) (rw (auth-from m k n) at (w2 .ensures)) (w3 .ensures) (w4 .ensures) (w5 .ensures) (rw (subscription-from m k n) at (w6 .ensures))
-    (w7 .ensures)
+    (rw (copied-told m (a .proxies) (s .pre .to-copy)) at (w7 .ensures))
     (omega (arith, fits, length-body m host realm (codeFrom k n))) in
     answer-put m host realm (codeFrom k n) room (w7 .last .1 .1 .0) (c .before .before .put-header .last .1 .1 .1 .0) (w7 .result) (s .pre .least)
     fits all
@@ -118,7 +119,8 @@ put-proxies-requires : tie.Need-put-proxies-requires
 put-proxies-requires c κs =
     let p = six (c .before .before .before) in
     let s = c .before .before .before .before .before .before .before .before .before .before .before .before .before .before .before .before .before .before .before .before .before .before .before .before .before .before .before .before .before .pre in
-    (s .least, omega (arith, p .0, p .1, s .room-fits, s .most), s .to-copy)
+    let a = c .before .before .before .before .before .before .before .before .before .before .before .before .before .before .before .before .before .before .before .before .before .before .before .before .before .before .before .before .before .args in
+    (s .least, omega (arith, p .0, p .1, s .room-fits, s .most), λ t. proxies-walked (a .m .now) (a .proxies) (s .to-copy) t)
 
 put-header-requires : tie.Need-put-header-requires
 put-header-requires c κs =
@@ -127,7 +129,7 @@ put-header-requires c κs =
     let a = c .before .before .before .before .before .before .before .before .before .before .before .before .before .before .before .before .before .before .before .before .before .before .before .before .before .before .before .before .before .before .before .before .before .args in (
       s .least,
       omega (arith, p .1, c .before .before .before .put-proxies .kept .1 .1 .0, s .room-fits),
-      omega (arith, p .0, c .before .before .before .put-proxies .ensures .place, proxies-most (a .m .now) (s .least), s .most),
+      omega (arith, p .0, c .before .before .before .put-proxies .ensures .place, copied-most (a .m .now) (a .proxies) (s .least), s .most),
     )
 
 same-length : tie.Need-same-length

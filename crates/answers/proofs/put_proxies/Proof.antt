@@ -6,9 +6,9 @@ use borrow.Author.Needs.{needs}
 use borrow.Author.Tests.{not-true, not-false}
 use lib.ListN.{length}
 use Rattle.octets.specs.Numbers.{up4}
-use Rattle.message.specs.WritingTheAnswer.{proxyAvps}
+use Rattle.answers.specs.Answers.{copied}
 use Rattle.answers.proofs.Writing.{written-none}
-use Rattle.answers.proofs.Proxies.{proxies-none, next-in, Copied, copied-none, copied-over, copied-one, copied-all, stretch-fits}
+use Rattle.answers.proofs.Proxies.{copied-not, copied-start, next-in, Copied, copied-none, copied-over, copied-one, copied-all, stretch-fits}
 use Rattle.answers.proofs.put_proxies.Statement.{statement}
 use Rattle.answers.proofs.put_proxies.Tie as tie
 
@@ -22,13 +22,13 @@ returns : tie.Need-returns Inv-loop μ-loop
 returns c =
     let s = c .before .before .before in
     let a = s .args in
-    written-none (a .room .now) (a .at) (proxyAvps (a .m .now)) (proxies-none (a .m .now) (sym (not-true (a .proxies) (c .if1 .taken)) ∙ s .pre .2))
+    written-none (a .room .now) (a .at) (copied (a .proxies) (a .m .now)) (copied-not (a .m .now) (a .proxies) (not-true (a .proxies) (c .if1 .taken)))
 
 loop-holds : tie.Need-loop-holds Inv-loop μ-loop
 loop-holds c =
     let s = c .before .before .before in
     let a = s .args in
-    copied-none (a .m .now) (a .room .now) (a .at) (sym (not-false (a .proxies) (c .if1 .left)) ∙ s .pre .2) (s .pre .0) (s .pre .1)
+    copied-none (a .m .now) (a .room .now) (a .at) (s .pre .2 (not-false (a .proxies) (c .if1 .left))) (s .pre .0) (s .pre .1)
 
 add-read24 : tie.Need-add-read24 Inv-loop μ-loop
 add-read24 c = search needs
@@ -118,7 +118,9 @@ returns-2 c =
     let l = c .before .before .before .before .before .loop in
     let a = c .before .before .before .before .before .before .before .before .before .args in
     let w = c .before .before .put-stretch2 in
-    copied-all (a .m .now) (a .room .now) (l .room) (a .at) (l .to) (l .start) (l .from) (l .inv) _ (w .result) (c .before .before .before .before .loop-test .left) (w .ensures)
+    let t = not-false (a .proxies) (c .before .before .before .before .before .before .if1 .left) in
+    rw (copied-start (a .m .now) (a .proxies) t)
+    (copied-all (a .m .now) (a .room .now) (l .room) (a .at) (l .to) (l .start) (l .from) (l .inv) _ (w .result) (c .before .before .before .before .loop-test .left) (w .ensures))
 
 pub put-proxies-spec : {M : Type 1} → statement M
 put-proxies-spec =

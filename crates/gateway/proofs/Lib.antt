@@ -1,0 +1,5 @@
+pub mod Calls
+pub mod Types
+pub mod Reading
+pub mod Writing
+pub mod WorkedCases

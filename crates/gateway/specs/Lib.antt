@@ -1,0 +1,3 @@
+pub mod TheGateway
+pub mod Code
+pub mod WorkedCases

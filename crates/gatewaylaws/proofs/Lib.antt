@@ -1,0 +1,3 @@
+pub mod TheGatewaysRules
+pub mod Vendors
+pub mod TheServerReads
