@@ -34,7 +34,7 @@ fn put_head(room: &mut [u8], at: usize, code: u32, n: usize)
 
 // An AVP of ours with a text, and the place behind it. The last word of its room is zeroed first, for the padding.
 pub fn put_avp(room: &mut [u8], at: usize, code: u32, value: &[u8]) -> usize
-    requires { ⌜ (length (now value) ≤ 4096) × (at + length (now value) + 12 ≤ length (now room)) ⌝ }
+    requires { ⌜ (length (now value) ≤ 128) × (at + length (now value) + 12 ≤ length (now room)) ⌝ }
     ensures { λ r. ⌜ Written (now (room .entry)) (now (room .exit)) at r (avpBytes code (now (value .entry))) ⌝ }
 {
     let n = value.len();
@@ -42,7 +42,7 @@ pub fn put_avp(room: &mut [u8], at: usize, code: u32, value: &[u8]) -> usize
     let padding = [0u8; 4];
     octets::put_bytes(room, next - 4, &padding);
     put_head(room, at, code, 8 + n);
-    texts::put_text(room, at + 8, value);
+    texts::put_name(room, at + 8, value);
     next
 }
 

@@ -25,12 +25,31 @@ put-word room at s zero word from end k l h e w =
     let n : end - from ≡ k = omega (arith, e) in
     ap (put room at) (rw n at w ∙ put-whole zero (part s from k) (length-part s from k h ∙ sym l))
 
+-- the word behind the j bytes from f on
+pub part-next : (d : List ℕ) (at : ℕ) (s : List ℕ) (f j k : ℕ) → at + j ≤ length d → f + j ≤ length s
+    → put (put d at (part s f j)) (at + j) (part s (f + j) k) ≡ put d at (part s f (j + k))
+part-next d at s f j k h l =
+    let t : length (part s f j) ≡ j = length-part s f j l in
+    let behind : part s (f + j) k ≡ part (drop f s) j k = ap (take k) (sym (drop-drop j f s)) in
+    put-then d at (part s f j) (part s (f + j) k) (at + j) (rw t) (rw t h)
+    ∙ ap (λ (x : List ℕ). put d at (part s f j ++ x)) behind
+    ∙ ap (put d at) (sym (take-add j k (drop f s)))
+
 -- the word behind the first j bytes
 pub put-next : (d : List ℕ) (at : ℕ) (s : List ℕ) (j k : ℕ) → at + length s ≤ length d → j + k ≤ length s
     → put (put d at (take j s)) (at + j) (part s j k) ≡ put d at (take (j + k) s)
 put-next d at s j k h l =
-    let t : length (take j s) ≡ j = length-take-le j s (omega arith) in
-    put-then d at (take j s) (part s j k) (at + j) (rw t) (rw t (omega arith)) ∙ ap (put d at) (sym (take-add j k s))
+    let start : 0 + j ≡ j = omega arith in
+    let next : put (put d at (take j s)) (at + j) (part s (0 + j) k) ≡ put d at (take (j + k) s) = part-next d at s 0 j k (omega arith) (omega arith) in
+    rw start at next
+
+-- four words, each right behind the one before
+pub words-64 : (d : List ℕ) (at : ℕ) (s : List ℕ) (f : ℕ) → f + 64 ≤ length s → at + 64 ≤ length d
+    → put (put (put (put d at (part s f 16)) (at + 16) (part s (f + 16) 16)) (at + 32) (part s (f + 32) 16)) (at + 48) (part s (f + 48) 16) ≡ put d at (part s f 64)
+words-64 d at s f l h =
+    let two : put (put d at (part s f 16)) (at + 16) (part s (f + 16) 16) ≡ put d at (part s f 32) = part-next d at s f 16 16 (omega arith) (omega arith) in
+    let three : put (put d at (part s f 32)) (at + 32) (part s (f + 32) 16) ≡ put d at (part s f 48) = part-next d at s f 32 16 (omega arith) (omega arith) in
+    rw (two, three) (part-next d at s f 48 16 (omega arith) (omega arith))
 
 -- a last word that starts within the first j bytes
 pub put-last : (d : List ℕ) (at : ℕ) (s : List ℕ) (a j : ℕ) → at + length s ≤ length d → a ≤ j → j ≤ length s

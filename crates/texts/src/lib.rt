@@ -94,3 +94,28 @@ pub fn put_text(room: &mut [u8], at: usize, src: &[u8])
     }
     put_16(room, at + last, src, last);
 }
+
+// The 64 bytes of `src` from `from` on, written into `room` from `at` on: four words, and no loop.
+fn put_64(room: &mut [u8], at: usize, src: &[u8], from: usize)
+    requires { ⌜ (from + 64 ≤ length (now src)) × (at + 64 ≤ length (now room)) ⌝ }
+    ensures { λ _. ⌜ now (room .exit) ≡ put (now (room .entry)) at (part (now (src .entry)) from 64) ⌝ }
+{
+    put_16(room, at, src, from);
+    put_16(room, at + 16, src, from + 16);
+    put_16(room, at + 32, src, from + 32);
+    put_16(room, at + 48, src, from + 48);
+}
+
+// A text of at most 128 bytes: above 64 the first 64 and the last 64, and no loop.
+pub fn put_name(room: &mut [u8], at: usize, src: &[u8])
+    requires { ⌜ (length (now src) ≤ 128) × (at + length (now src) ≤ length (now room)) ⌝ }
+    ensures { λ _. ⌜ now (room .exit) ≡ put (now (room .entry)) at (now (src .entry)) ⌝ }
+{
+    let n = src.len();
+    if n <= 64 {
+        put_text(room, at, src);
+        return;
+    }
+    put_64(room, at, src, 0);
+    put_64(room, at + (n - 64), src, n - 64);
+}

@@ -14,7 +14,7 @@ returns c =
     let v = a .value .now in
     record {
       place = rw (length-avp (a .code) v) (omega arith);
-      bytes-put = rw (c .before .before .put-text .ensures, c .before .before .before .before .before .before .put-head .ensures, c .before .before .before .before .before .before .before .before .before .before .put-bytes .ensures)
+      bytes-put = rw (c .before .before .put-name .ensures, c .before .before .before .before .before .before .put-head .ensures, c .before .before .before .before .before .before .before .before .before .before .put-bytes .ensures)
           (avp-put (a .room .now) (a .at) (a .code) v (omega arith));
     }
 
@@ -45,11 +45,11 @@ add-put-head c = search needs
 put-head-requires : tie.Need-put-head-requires
 put-head-requires c κs = search needs
 
-add-put-text : tie.Need-add-put-text
-add-put-text c = search needs
+add-put-name : tie.Need-add-put-name
+add-put-name c = search needs
 
-put-text-requires : tie.Need-put-text-requires
-put-text-requires c κs = search needs
+put-name-requires : tie.Need-put-name-requires
+put-name-requires c κs = search needs
 
 same-length : tie.Need-same-length
 same-length c = search needs
@@ -67,7 +67,7 @@ put-avp-spec =
     put-bytes-requires
     add-put-head
     put-head-requires
-    add-put-text
-    put-text-requires
+    add-put-name
+    put-name-requires
     same-length
     returns)
