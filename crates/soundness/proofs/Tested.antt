@@ -2,9 +2,9 @@
 use mathlib.Core.Path.{_≡_, refl, sym, ap, _∙_}
 use mathlib.Core.Bool.{Bool, true, false, _&&_}
 use mathlib.Core.List.{List}
-use Prim.Native.Nat.{ℕ, _≤_}
+use Prim.Native.Nat.{ℕ, _≤_, _<_}
 use native.Mathlib.Omega.{arith}
-use borrow.Author.Tests.{eq-eqb, eqb-false, eqb-true}
+use borrow.Author.Tests.{eq-eqb, eqb-false, eqb-true, le-leb}
 use lib.Dec.{eqb, leb}
 use lib.ListN.{length, getD}
 use Rattle.octets.specs.Choice.{pick, within}
@@ -246,3 +246,13 @@ sound-by r row =
     (λ t. by-test (sound r)
     (λ s. absurd (clash (passes r (clauses r s)) t))
     (λ s. s ∙ sym t))
+
+-- that a row has at most four entries says nothing new of a sound one, and one with more is not sound
+sound-few : (r : List ℕ) → sound r ≡ true → getD (head r) 18 0 ≤ 4
+sound-few r s = head-count r (clauses r s .head-form)
+
+pub few-said : (r : List ℕ) (n : ℕ) → n ≡ getD (head r) 18 0 → sound r ≡ true → leb n 4 ≡ sound r
+few-said r n e s = le-leb n 4 (omega (arith, e, sound-few r s)) ∙ sym s
+
+pub many-unsound : (r : List ℕ) (n : ℕ) → n ≡ getD (head r) 18 0 → 4 < n → false ≡ sound r
+many-unsound r n e h = by-test (sound r) (λ s. absurd (omega (arith, e, h, sound-few r s))) (λ s. sym s)

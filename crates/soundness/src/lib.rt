@@ -218,8 +218,8 @@ fn head_sound(r: &[u8]) -> bool
     blocks::limits_sum(entries, n) <= 8
 }
 
-// A row is sound. The cheap tests come first, the sums of block 0 last.
-pub fn row_sound(r: &[u8]) -> bool
+// All tests of a row. The cheap ones come first, the sums of block 0 last.
+fn all_sound(r: &[u8]) -> bool
     requires { ⌜ isRow (now r) ≡ true ⌝ }
     ensures { λ x. ⌜ x ≡ sound (now (r .entry)) ⌝ }
 {
@@ -240,4 +240,23 @@ pub fn row_sound(r: &[u8]) -> bool
         return false;
     }
     blocks::block_sums_agree(row::head(r))
+}
+
+// A row is sound. That it has at most four entries is among the tests, and asked once more: in form 1 behind them, in form 2 before. So the tests have two
+// callers that can not be made one, wherever a row is tested, and the compiler keeps them apart. In a burst they would else be put in line into
+// the request, which would then be too large for the burst's loop (docs/PERFORMANCE.md).
+pub fn row_sound(r: &[u8]) -> bool
+    requires { ⌜ isRow (now r) ≡ true ⌝ }
+    ensures { λ x. ⌜ x ≡ sound (now (r .entry)) ⌝ }
+{
+    if r.len() == 4608 {
+        if !all_sound(r) {
+            return false;
+        }
+        return row::entry_count(r) <= 4;
+    }
+    if 4 < row::entry_count(r) {
+        return false;
+    }
+    all_sound(r)
 }
