@@ -26,7 +26,7 @@ fn is_text(n: usize) -> bool
     if n < 1 {
         return false;
     }
-    n <= 128
+    n <= message::TEXT_MOST
 }
 
 // The number of the first test that fails, for a room of so many bytes.
@@ -47,7 +47,7 @@ fn number(
     if !is_text(realm.len()) {
         return 2;
     }
-    if notice.len() < 384 {
+    if notice.len() < answers::NOTICE_LENGTH_2 {
         return 4;
     }
     if !is_text(cut_session) {
@@ -109,7 +109,7 @@ fn put_request(
     requires { ⌜ Short (saying (now host) (now realm) (now session) (now «gateway_host») (now «gateway_realm») hop end) × (1024 ≤ length (now room)) ⌝ }
     ensures { λ r. ⌜ Sent (saying (now (host .entry)) (now (realm .entry)) (now (session .entry)) (now («gateway_host» .entry)) (now («gateway_realm» .entry)) hop end) r (now (room .entry)) (now (room .exit)) ⌝ }
 {
-    let a = answers::put_avp(room, 20, 263, session);
+    let a = answers::put_avp(room, message::HEADER_LENGTH, 263, session);
     let b = answers::put_avp(room, a, 264, host);
     let c = answers::put_avp(room, b, 296, realm);
     let d = answers::put_avp(room, c, 283, gateway_realm);
@@ -149,11 +149,11 @@ pub fn write(
             length: 0,
         };
     }
-    let host_end = 128 + cut_host;
-    let realm_end = 256 + cut_realm;
+    let host_end = answers::NOTICE_HOST + cut_host;
+    let realm_end = answers::NOTICE_REALM + cut_realm;
     let session = &notice[0..cut_session];
-    let gateway_host = &notice[128..host_end];
-    let gateway_realm = &notice[256..realm_end];
+    let gateway_host = &notice[answers::NOTICE_HOST..host_end];
+    let gateway_realm = &notice[answers::NOTICE_REALM..realm_end];
     let length = put_request(
         host,
         realm,
@@ -296,7 +296,7 @@ fn first_length(answer: &[u8]) -> usize
     requires { ⌜ (28 ≤ length (now answer)) × (length (now answer) ≤ 4096) ⌝ }
     ensures { λ r. ⌜ r ≡ firstLength (drop 20 (now (answer .entry))) ⌝ }
 {
-    if octets::read32(answer, 20) != 263 {
+    if octets::read32(answer, message::HEADER_LENGTH) != 263 {
         return 0;
     }
     let flags = answer[24];
@@ -313,7 +313,7 @@ fn first_length(answer: &[u8]) -> usize
     if n < 8 {
         return 0;
     }
-    if answer.len() - 20 < (n + 3) / 4 * 4 {
+    if answer.len() - message::HEADER_LENGTH < (n + 3) / 4 * 4 {
         return 0;
     }
     n
@@ -328,11 +328,11 @@ fn answers_for(answer: &[u8], session: &[u8]) -> bool
     if n == 0 {
         return false;
     }
-    let end = 20 + n;
+    let end = message::HEADER_LENGTH + n;
     if !octets::same_bytes(&answer[28..end], session) {
         return false;
     }
-    rest_answers(answer, 20 + (n + 3) / 4 * 4)
+    rest_answers(answer, message::HEADER_LENGTH + (n + 3) / 4 * 4)
 }
 
 // Whether an answer belongs to the request that was sent with this Session-Id and these identifiers. One that is too short for any AVP

@@ -14,6 +14,22 @@ ghost use Rattle.message.specs.Spans.{Holds};
 ghost use Rattle.message.specs.WritingTheAnswer.{avpBytes, sessionAvp, authAvps, is3xxx, resultAvp, subscriptionAvp, answerFlags};
 ghost use Rattle.answers.specs.Answers.{headBytes, answerHead, copied, Written, SessionOf, Answerable, Answered};
 
+// THE ROOMS THAT A CALL ASKS FOR
+
+// For an answer.
+pub const ANSWER_LEAST: usize = 5120;
+
+// For a notice: Session-Id and host, in form 2 the realm too, each in its place.
+pub const NOTICE_LENGTH: usize = 256;
+
+pub const NOTICE_LENGTH_2: usize = 384;
+
+pub const NOTICE_HOST: usize = 128;
+
+pub const NOTICE_REALM: usize = 256;
+
+// THE ANSWER
+
 // The first eight bytes of an AVP of ours, whose length is n.
 fn put_head(room: &mut [u8], at: usize, code: u32, n: usize)
     requires { ⌜ at + 8 ≤ length (now room) ⌝ }
@@ -84,7 +100,7 @@ fn session_length(m: &[u8]) -> usize
     if 128 <= flags {
         return 0;
     }
-    if octets::read32(m, 20) != 263 {
+    if octets::read32(m, message::HEADER_LENGTH) != 263 {
         return 0;
     }
     let n = octets::read24(m, 25);
@@ -94,7 +110,7 @@ fn session_length(m: &[u8]) -> usize
     if 136 < n {
         return 0;
     }
-    if m.len() - 20 < (n + 3) / 4 * 4 {
+    if m.len() - message::HEADER_LENGTH < (n + 3) / 4 * 4 {
         return 0;
     }
     n
@@ -107,10 +123,10 @@ pub fn put_session(m: &[u8], room: &mut [u8]) -> usize
 {
     let n = session_length(m);
     if n == 0 {
-        return 20;
+        return message::HEADER_LENGTH;
     }
-    let e = 20 + n;
-    put_avp(room, 20, 263, &m[28..e])
+    let e = message::HEADER_LENGTH + n;
+    put_avp(room, message::HEADER_LENGTH, 263, &m[28..e])
 }
 
 // Auth-Application-Id and Auth-Request-Type of a 265, unless the code is 3xxx.
@@ -206,8 +222,8 @@ pub fn put_proxies(m: &[u8], proxies: bool, room: &mut [u8], at: usize) -> usize
         return at;
     }
     let mut to = at;
-    let mut start: usize = 20;
-    let mut from: usize = 20;
+    let mut start: usize = message::HEADER_LENGTH;
+    let mut from: usize = message::HEADER_LENGTH;
     while from < m.len() {
         let next = from + (octets::read24(m, from + 5) + 3) / 4 * 4;
         if !is_proxy(m, from) {
@@ -244,7 +260,7 @@ pub fn put_header(m: &[u8], code: u32, n: usize, room: &mut [u8])
         answer_flags(m, code),
     ];
     octets::put_bytes(room, 0, &head);
-    texts::put_text(room, 5, &m[5..20]);
+    texts::put_text(room, 5, &m[5..message::HEADER_LENGTH]);
 }
 
 // The answer of a kind and a code at the start of the room: its length. What stands behind it stays.

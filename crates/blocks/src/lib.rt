@@ -39,10 +39,10 @@ pub fn block_sums_agree(b: &[u8]) -> bool
     let s = table::sums_of(b);
     let second = s.second;
     let first = s.first;
-    if octets::half(b[510]) != second {
+    if octets::half(b[table::SECOND_SUM]) != second {
         return false;
     }
-    octets::half(b[511]) == first
+    octets::half(b[table::FIRST_SUM]) == first
 }
 
 // BLOCK 0
@@ -69,11 +69,11 @@ fn name_form(b: &[u8]) -> bool
         return false;
     }
     let n = octets::long(b[1]);
-    let end = 2 + n;
-    if !digits(&b[2..end]) {
+    let end = table::NAME + n;
+    if !digits(&b[table::NAME..end]) {
         return false;
     }
-    zero_behind(&b[2..17], n)
+    zero_behind(&b[table::NAME..table::USED_BITS], n)
 }
 
 // How many places stand on an order line: those before its first zero.
@@ -104,22 +104,22 @@ pub fn head_form(b: &[u8]) -> bool
     if b[0] != 1 {
         return false;
     }
-    if !octets::all_zero(&b[448..510]) {
+    if !octets::all_zero(&b[table::ENTRIES_END..table::SECOND_SUM]) {
         return false;
     }
     if !name_form(b) {
         return false;
     }
-    if 4 < b[18] {
+    if 4 < b[table::ENTRY_COUNT] {
         return false;
     }
-    if 15 < b[19] {
+    if 15 < b[table::OPERATOR] {
         return false;
     }
-    if !line_form(&b[20..28]) {
+    if !line_form(&b[table::LINE..table::LINE_END]) {
         return false;
     }
-    octets::read32(b, 28) == 0
+    octets::read32(b, table::LINE_END) == 0
 }
 
 // THE ENTRIES, in their room of 416 bytes
@@ -131,13 +131,13 @@ fn entry_form(e: &[u8]) -> bool
     if !is_within(1, 100, e[0]) {
         return false;
     }
-    if !zero_behind(&e[1..101], octets::long(e[0])) {
+    if !zero_behind(&e[table::LABEL..table::FLAGS], octets::long(e[0])) {
         return false;
     }
-    if 3 < e[101] {
+    if 3 < e[table::FLAGS] {
         return false;
     }
-    if !is_within(1, 8, e[102]) {
+    if !is_within(1, 8, e[table::LIMIT]) {
         return false;
     }
     e[103] == 0
@@ -150,7 +150,7 @@ pub fn entries_form(room: &[u8], n: usize) -> bool
     let mut i: usize = 0;
     let mut at: usize = 0;
     while i < n {
-        let end = at + 104;
+        let end = at + table::ENTRY_LENGTH;
         if !entry_form(&room[at..end]) {
             return false;
         }
@@ -249,6 +249,9 @@ pub fn labels_differ(room: &[u8], n: usize) -> bool
 
 // A PLACE IN USE: its first block
 
+// How long a text may be, as the byte that says how long it is: its room has no more.
+const TEXT_MOST: u8 = 128;
+
 // Byte 4 is 1 exactly if byte 5, the policy's length, is 1 or more.
 pub fn policy_marked(mark: u8, size: u8) -> bool
     ensures { λ r. ⌜ r ≡ eqb mark (pick (leb 1 size) 1 0) ⌝ }
@@ -266,13 +269,13 @@ fn access_lengths(b: &[u8]) -> bool
     if b[0] != 2 {
         return false;
     }
-    if !is_within(1, 128, b[2]) {
+    if !is_within(1, TEXT_MOST, b[2]) {
         return false;
     }
-    if !is_within(1, 128, b[3]) {
+    if !is_within(1, TEXT_MOST, b[3]) {
         return false;
     }
-    b[5] <= 128
+    b[5] <= TEXT_MOST
 }
 
 // Zeros behind Session-Id, host and policy, and behind the three: the last two are one stretch.
@@ -280,14 +283,20 @@ fn access_rooms(b: &[u8]) -> bool
     requires { ⌜ (length (now b) ≡ 512) × (getD (now b) 2 0 ≤ 128) × (getD (now b) 3 0 ≤ 128) × (getD (now b) 5 0 ≤ 128) ⌝ }
     ensures { λ r. ⌜ r ≡ zeroBehind (getD (now (b .entry)) 2 0) (part (now (b .entry)) 8 128) && (zeroBehind (getD (now (b .entry)) 3 0) (part (now (b .entry)) 136 128) && (zeroBehind (getD (now (b .entry)) 5 0) (part (now (b .entry)) 264 128) && allZero (part (now (b .entry)) 392 118))) ⌝ }
 {
-    if !zero_behind(&b[8..136], octets::long(b[2])) {
+    if !zero_behind(
+        &b[table::FIRST_TEXT..table::SECOND_TEXT],
+        octets::long(b[2]),
+    ) {
         return false;
     }
-    if !zero_behind(&b[136..264], octets::long(b[3])) {
+    if !zero_behind(
+        &b[table::SECOND_TEXT..table::THIRD_TEXT],
+        octets::long(b[3]),
+    ) {
         return false;
     }
-    let from = 264 + octets::long(b[5]);
-    octets::all_zero(&b[from..510])
+    let from = table::THIRD_TEXT + octets::long(b[5]);
+    octets::all_zero(&b[from..table::SECOND_SUM])
 }
 
 pub fn access_form(b: &[u8]) -> bool
@@ -300,7 +309,7 @@ pub fn access_form(b: &[u8]) -> bool
     if 1 < b[4] {
         return false;
     }
-    if !octets::all_zero(&b[6..8]) {
+    if !octets::all_zero(&b[6..table::FIRST_TEXT]) {
         return false;
     }
     access_rooms(b)
@@ -341,13 +350,13 @@ fn second_lengths(c: &[u8]) -> bool
     if c[0] != 3 {
         return false;
     }
-    if 128 < c[1] {
+    if TEXT_MOST < c[1] {
         return false;
     }
-    if 128 < c[3] {
+    if TEXT_MOST < c[3] {
         return false;
     }
-    c[4] <= 128
+    c[4] <= TEXT_MOST
 }
 
 // Zeros behind realm, second and third policy, and behind the three: the last two are one stretch.
@@ -355,14 +364,20 @@ fn second_rooms(c: &[u8]) -> bool
     requires { ⌜ (length (now c) ≡ 512) × (getD (now c) 1 0 ≤ 128) × (getD (now c) 3 0 ≤ 128) × (getD (now c) 4 0 ≤ 128) ⌝ }
     ensures { λ r. ⌜ r ≡ zeroBehind (getD (now (c .entry)) 1 0) (part (now (c .entry)) 8 128) && (zeroBehind (getD (now (c .entry)) 3 0) (part (now (c .entry)) 136 128) && (zeroBehind (getD (now (c .entry)) 4 0) (part (now (c .entry)) 264 128) && allZero (part (now (c .entry)) 392 118))) ⌝ }
 {
-    if !zero_behind(&c[8..136], octets::long(c[1])) {
+    if !zero_behind(
+        &c[table::FIRST_TEXT..table::SECOND_TEXT],
+        octets::long(c[1]),
+    ) {
         return false;
     }
-    if !zero_behind(&c[136..264], octets::long(c[3])) {
+    if !zero_behind(
+        &c[table::SECOND_TEXT..table::THIRD_TEXT],
+        octets::long(c[3]),
+    ) {
         return false;
     }
-    let from = 264 + octets::long(c[4]);
-    octets::all_zero(&c[from..510])
+    let from = table::THIRD_TEXT + octets::long(c[4]);
+    octets::all_zero(&c[from..table::SECOND_SUM])
 }
 
 pub fn second_form(c: &[u8]) -> bool
@@ -375,7 +390,7 @@ pub fn second_form(c: &[u8]) -> bool
     if c[2] != 0 {
         return false;
     }
-    if !octets::all_zero(&c[5..8]) {
+    if !octets::all_zero(&c[5..table::FIRST_TEXT]) {
         return false;
     }
     second_rooms(c)

@@ -27,10 +27,8 @@ pub struct Taken {
 
 // WHERE MESSAGES END
 
-// A message has a header of 20 bytes or more; its length stands in the first four.
+// A message has a header or more; its length stands in the first four bytes.
 const LENGTH_END: usize = 4;
-
-const MESSAGE_LEAST: usize = 20;
 
 // How long the message from `at` on is, 0 where no whole one stands there.
 fn next_length(messages: &[u8], at: usize) -> usize
@@ -42,7 +40,7 @@ fn next_length(messages: &[u8], at: usize) -> usize
         return 0;
     }
     let n = octets::read24(messages, at + 1);
-    if n < MESSAGE_LEAST {
+    if n < message::HEADER_LENGTH {
         return 0;
     }
     if left < n {
@@ -150,15 +148,12 @@ fn take_one(
 
 // ALL OF THEM
 
-// The room that an answer asks for.
-const ANSWER_LEAST: usize = 5120;
-
 // How long the message from `at` on is, 0 where the burst stops: there is no whole message, or too little room is left.
 fn next_taken(messages: &[u8], at: usize, answers: usize, notices: usize, room: usize) -> usize
     requires { ⌜ at ≤ length (now messages) ⌝ }
     ensures { λ r. ⌜ r ≡ pick (leb answerLeast answers && leb room notices) (nextLength (drop at (now (messages .entry)))) 0 ⌝ }
 {
-    if answers < ANSWER_LEAST {
+    if answers < answers::ANSWER_LEAST {
         return 0;
     }
     if notices < room {

@@ -20,8 +20,8 @@ pub fn seal(block: &mut [u8])
     let s = table::sums_of(block);
     let first = s.first as u8;
     let second = s.second as u8;
-    block[510] = second;
-    block[511] = first;
+    block[table::SECOND_SUM] = second;
+    block[table::FIRST_SUM] = first;
 }
 
 // The bit of place k in byte 17.
@@ -48,7 +48,7 @@ fn line_without(line: &[u8], k: u8) -> [u8; 8]
     let mut out = [0u8; 8];
     let mut n: usize = 0;
     let mut i: usize = 0;
-    while i < 8 {
+    while i < table::PLACES {
         let p = line[i];
         if p != k {
             out[n] = p;
@@ -69,11 +69,11 @@ fn put_byte(block: &mut [u8], at: usize, byte: u8)
         return;
     }
     let gain = octets::long(byte) + 255 - octets::long(block[at]);
-    let second = (octets::long(block[510]) + (510 - at) * gain) % 255;
-    let first = (octets::long(block[511]) + gain) % 255;
+    let second = (octets::long(block[table::SECOND_SUM]) + (table::SECOND_SUM - at) * gain) % 255;
+    let first = (octets::long(block[table::FIRST_SUM]) + gain) % 255;
     block[at] = byte;
-    block[510] = second as u8;
-    block[511] = first as u8;
+    block[table::SECOND_SUM] = second as u8;
+    block[table::FIRST_SUM] = first as u8;
 }
 
 // Block 0 with other places in use and another order line.
@@ -81,10 +81,10 @@ fn write_line(block: &mut [u8], bits: u8, line: [u8; 8])
     requires { ⌜ (length (now block) ≡ 512) × (now block ≡ sealed (take 510 (now block))) ⌝ }
     ensures { λ _. ⌜ now (block .exit) ≡ headWith (now (block .entry)) bits line ⌝ }
 {
-    put_byte(block, 17, bits);
+    put_byte(block, table::USED_BITS, bits);
     let mut i: usize = 0;
-    while i < 8 {
-        put_byte(block, 20 + i, line[i]);
+    while i < table::PLACES {
+        put_byte(block, table::LINE + i, line[i]);
         i += 1;
     }
 }
@@ -94,8 +94,8 @@ fn enlist(block: &mut [u8], bits: u8, count: usize, place: u8)
     requires { ⌜ (length (now block) ≡ 512) × (now block ≡ sealed (take 510 (now block))) × (count < 8) ⌝ }
     ensures { λ _. ⌜ now (block .exit) ≡ headWith (now (block .entry)) bits (set (part (now (block .entry)) 20 8) count place) ⌝ }
 {
-    put_byte(block, 17, bits);
-    put_byte(block, 20 + count, place);
+    put_byte(block, table::USED_BITS, bits);
+    put_byte(block, table::LINE + count, place);
 }
 
 // The first block of a new access.
@@ -106,8 +106,8 @@ fn write_first(block: &mut [u8], entry: u8, session: &[u8], host: &[u8])
     octets::clear(block);
     let head = [2, entry, session.len() as u8, host.len() as u8];
     octets::put_bytes(block, 0, &head);
-    texts::put_text(block, 8, session);
-    texts::put_text(block, 136, host);
+    texts::put_text(block, table::FIRST_TEXT, session);
+    texts::put_text(block, table::SECOND_TEXT, host);
     seal(block);
 }
 
@@ -119,7 +119,7 @@ fn write_second(block: &mut [u8], realm: &[u8])
     octets::clear(block);
     let head = [3, realm.len() as u8];
     octets::put_bytes(block, 0, &head);
-    texts::put_text(block, 8, realm);
+    texts::put_text(block, table::FIRST_TEXT, realm);
     seal(block);
 }
 
@@ -128,11 +128,11 @@ fn write_access(place: &mut [u8], entry: u8, session: &[u8], host: &[u8], realm:
     requires { ⌜ (length (now place) ≡ placeLength (length (now place) / 512)) × (1 ≤ length (now place) / 512) × (length (now place) / 512 ≤ 2) × (length (now session) ≤ 128) × (length (now host) ≤ 128) × (length (now realm) ≤ 128) ⌝ }
     ensures { λ _. ⌜ now (place .exit) ≡ openedBytes (length (now (place .entry)) / 512) entry (record { session = now (session .entry); host = now (host .entry); realm = keptIn (length (now (place .entry)) / 512) (now (realm .entry)) }) ⌝ }
 {
-    write_first(&mut place[0..512], entry, session, host);
-    if place.len() == 512 {
+    write_first(&mut place[0..table::BLOCK_LENGTH], entry, session, host);
+    if place.len() == table::BLOCK_LENGTH {
         return;
     }
-    write_second(&mut place[512..1024], realm);
+    write_second(&mut place[table::BLOCK_LENGTH..table::TWO_BLOCKS], realm);
 }
 
 // The first block of a place with another first policy.
@@ -142,8 +142,8 @@ fn write_policy(block: &mut [u8], policy: &[u8])
 {
     block[4] = 1;
     block[5] = policy.len() as u8;
-    octets::put_zeros(block, 264, 128);
-    texts::put_text(block, 264, policy);
+    octets::put_zeros(block, table::THIRD_TEXT, table::TEXT_ROOM);
+    texts::put_text(block, table::THIRD_TEXT, policy);
     seal(block);
 }
 
@@ -154,9 +154,9 @@ fn write_others(block: &mut [u8], second: &[u8], third: &[u8])
 {
     block[3] = second.len() as u8;
     block[4] = third.len() as u8;
-    octets::put_zeros(block, 136, 256);
-    texts::put_text(block, 136, second);
-    texts::put_text(block, 264, third);
+    octets::put_zeros(block, table::SECOND_TEXT, table::TWO_ROOMS);
+    texts::put_text(block, table::SECOND_TEXT, second);
+    texts::put_text(block, table::THIRD_TEXT, third);
     seal(block);
 }
 
@@ -165,11 +165,15 @@ fn write_policies(place: &mut [u8], first: &[u8], second: &[u8], third: &[u8])
     requires { ⌜ (length (now place) ≡ placeLength (length (now place) / 512)) × (1 ≤ length (now place) / 512) × (length (now place) / 512 ≤ 2) × (length (now first) ≤ 128) × (length (now second) ≤ 128) × (length (now third) ≤ 128) ⌝ }
     ensures { λ _. ⌜ now (place .exit) ≡ routedBytes (now (place .entry)) (record { first = now (first .entry); second = now (second .entry); third = now (third .entry) }) ⌝ }
 {
-    write_policy(&mut place[0..512], first);
-    if place.len() == 512 {
+    write_policy(&mut place[0..table::BLOCK_LENGTH], first);
+    if place.len() == table::BLOCK_LENGTH {
         return;
     }
-    write_others(&mut place[512..1024], second, third);
+    write_others(
+        &mut place[table::BLOCK_LENGTH..table::TWO_BLOCKS],
+        second,
+        third,
+    );
 }
 
 // The room of an entry.
@@ -179,9 +183,9 @@ fn write_entry(room: &mut [u8], label: &[u8], flags: u8, limit: u8)
 {
     octets::clear(room);
     room[0] = label.len() as u8;
-    octets::put_bytes(room, 1, label);
+    octets::put_bytes(room, table::LABEL, label);
     let end = [flags, limit];
-    octets::put_bytes(room, 101, &end);
+    octets::put_bytes(room, table::FLAGS, &end);
 }
 
 // Block 0 with one entry more, behind the n that are there.
@@ -189,9 +193,9 @@ fn write_more(block: &mut [u8], n: u8, label: &[u8], flags: u8, limit: u8)
     requires { ⌜ (length (now block) ≡ 512) × (n < 4) × (length (now label) ≤ 100) ⌝ }
     ensures { λ _. ⌜ now (block .exit) ≡ entriesWith (now (block .entry)) n (record { label = now (label .entry); flags = flags; limit = limit }) ⌝ }
 {
-    block[18] = n + 1;
-    let at = 32 + 104 * octets::long(n);
-    let end = at + 104;
+    block[table::ENTRY_COUNT] = n + 1;
+    let at = table::ENTRIES + table::ENTRY_LENGTH * octets::long(n);
+    let end = at + table::ENTRY_LENGTH;
     write_entry(&mut block[at..end], label, flags, limit);
     seal(block);
 }
@@ -203,12 +207,12 @@ pub fn free_place(row: &mut [u8], k: usize)
     requires { ⌜ (sound (now row) ≡ true) × (isOn (orderLine (now row)) k ≡ true) ⌝ }
     ensures { λ _. ⌜ now (row .exit) ≡ rowBytes (formOf (now (row .entry))) (freed k (readRow (now (row .entry)))) ⌝ }
 {
-    let bits = row[17] - bit_of(k);
-    let line = line_without(&row[20..28], k as u8);
+    let bits = row[table::USED_BITS] - bit_of(k);
+    let line = line_without(&row[table::LINE..table::LINE_END], k as u8);
     let at = row::start(row, k);
-    let long = (row.len() - 512) / 8;
+    let long = (row.len() - table::BLOCK_LENGTH) / table::PLACES;
     octets::put_zeros(row, at, long);
-    write_line(&mut row[0..512], bits, line);
+    write_line(&mut row[0..table::BLOCK_LENGTH], bits, line);
 }
 
 // A new access takes the lowest free place and the end of the order line. The ones of byte 17 are the accesses in use.
@@ -217,13 +221,18 @@ pub fn open_place(row: &mut [u8], entry: u8, session: &[u8], host: &[u8], realm:
     ensures { λ r. ⌜ (now (row .exit) ≡ rowBytes (formOf (now (row .entry))) (opened entry (record { session = now (session .entry); host = now (host .entry); realm = keptIn (formOf (now (row .entry))) (now (realm .entry)) }) (readRow (now (row .entry)))))
         × (r ≡ lowestFree ((readRow (now (row .entry))) .accesses)) ⌝ }
 {
-    let bits = row[17];
+    let bits = row[table::USED_BITS];
     let count = u8::count_ones(bits) as usize;
     let place = lowest_free(bits);
     let a = row::start(row, place);
-    let e = a + (row.len() - 512) / 8;
+    let e = a + (row.len() - table::BLOCK_LENGTH) / table::PLACES;
     write_access(&mut row[a..e], entry, session, host, realm);
-    enlist(&mut row[0..512], bits + bit_of(place), count, place as u8);
+    enlist(
+        &mut row[0..table::BLOCK_LENGTH],
+        bits + bit_of(place),
+        count,
+        place as u8,
+    );
     place
 }
 
@@ -240,18 +249,18 @@ pub fn cut_and_open_place(
     ensures { λ r. ⌜ (now (row .exit) ≡ rowBytes (formOf (now (row .entry))) (opened entry (record { session = now (session .entry); host = now (host .entry); realm = keptIn (formOf (now (row .entry))) (now (realm .entry)) }) (freed k (readRow (now (row .entry))))))
         × (r ≡ lowestFree ((freed k (readRow (now (row .entry)))) .accesses)) ⌝ }
 {
-    let bits = row[17] - bit_of(k);
+    let bits = row[table::USED_BITS] - bit_of(k);
     let count = u8::count_ones(bits) as usize;
     let place = lowest_free(bits);
-    let mut line = line_without(&row[20..28], k as u8);
+    let mut line = line_without(&row[table::LINE..table::LINE_END], k as u8);
     line[count] = place as u8;
-    let long = (row.len() - 512) / 8;
+    let long = (row.len() - table::BLOCK_LENGTH) / table::PLACES;
     let cut = row::start(row, k);
     let a = row::start(row, place);
     let e = a + long;
     octets::put_zeros(row, cut, long);
     write_access(&mut row[a..e], entry, session, host, realm);
-    write_line(&mut row[0..512], bits + bit_of(place), line);
+    write_line(&mut row[0..table::BLOCK_LENGTH], bits + bit_of(place), line);
     place
 }
 
@@ -261,7 +270,7 @@ pub fn replace_policies(row: &mut [u8], k: usize, first: &[u8], second: &[u8], t
     ensures { λ _. ⌜ now (row .exit) ≡ rowBytes (formOf (now (row .entry))) (routed k (record { first = now (first .entry); second = now (second .entry); third = now (third .entry) }) (readRow (now (row .entry)))) ⌝ }
 {
     let a = row::start(row, k);
-    let e = a + (row.len() - 512) / 8;
+    let e = a + (row.len() - table::BLOCK_LENGTH) / table::PLACES;
     write_policies(&mut row[a..e], first, second, third);
 }
 
@@ -270,8 +279,8 @@ pub fn append_entry(row: &mut [u8], label: &[u8], flags: u8, limit: u8)
     requires { ⌜ (sound (now row) ≡ true) × (length ((readRow (now row)) .entries) < 4) × (length (now label) ≤ 100) ⌝ }
     ensures { λ _. ⌜ now (row .exit) ≡ rowBytes (formOf (now (row .entry))) (withEntry (record { label = now (label .entry); flags = flags; limit = limit }) (readRow (now (row .entry)))) ⌝ }
 {
-    let n = row[18];
-    write_more(&mut row[0..512], n, label, flags, limit);
+    let n = row[table::ENTRY_COUNT];
+    write_more(&mut row[0..table::BLOCK_LENGTH], n, label, flags, limit);
 }
 
 // A subscriber of that operator with that name, and nothing else.
@@ -281,11 +290,11 @@ pub fn new_row(row: &mut [u8], op: u8, name: &[u8])
 {
     octets::clear(row);
     let operator = [op];
-    octets::put_bytes(row, 19, &operator);
+    octets::put_bytes(row, table::OPERATOR, &operator);
     let head = [1, name.len() as u8];
     octets::put_bytes(row, 0, &head);
-    octets::put_bytes(row, 2, name);
-    seal(&mut row[0..512]);
+    octets::put_bytes(row, table::NAME, name);
+    seal(&mut row[0..table::BLOCK_LENGTH]);
 }
 
 // THE SAME ON ROW i OF A TABLE: every other row stays as it is.

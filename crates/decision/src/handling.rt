@@ -30,13 +30,6 @@ ghost use Rattle.plans.specs.Plans.{planned, planCode, fitPlan, fitting};
 ghost use Rattle.effects.specs.Carrying.{doneFor};
 ghost use Rattle.decision.specs.Outcomes.{Named, answeredBy, brought, callOf, leaves, policiesAt, spansOf, textsOf};
 
-// The rooms that a call asks for.
-const ANSWER_LEAST: usize = 5120;
-
-const NOTICE_LENGTH: usize = 256;
-
-const NOTICE_LENGTH_2: usize = 384;
-
 // An own name of 1 to 128 bytes.
 pub fn name_fits(s: &[u8]) -> bool
     ensures { λ r. ⌜ r ≡ within 1 128 (length (now (s .entry))) ⌝ }
@@ -52,9 +45,9 @@ pub fn notice_length(form: u32) -> usize
     ensures { λ r. ⌜ r ≡ noticeLength form ⌝ }
 {
     if form != 2 {
-        return NOTICE_LENGTH;
+        return answers::NOTICE_LENGTH;
     }
-    NOTICE_LENGTH_2
+    answers::NOTICE_LENGTH_2
 }
 
 // The first of the numbers 1, 33 and 2 to 8 that a call is refused with, 0 where none is.
@@ -80,7 +73,7 @@ pub fn call_number(
     if !name_fits(realm) {
         return 2;
     }
-    if answer.len() < ANSWER_LEAST {
+    if answer.len() < answers::ANSWER_LEAST {
         return 3;
     }
     if notice.len() < notice_length(form) {

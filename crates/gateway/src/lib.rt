@@ -43,32 +43,32 @@ fn is_within(n: usize, low: usize, high: usize) -> bool
 fn access_fits(session: usize, user: usize, label: usize, visited: usize) -> bool
     ensures { λ r. ⌜ r ≡ within 1 128 session && (within 1 128 user && (within 1 100 label && leb visited 128)) ⌝ }
 {
-    if !is_within(session, 1, 128) {
+    if !is_within(session, 1, message::TEXT_MOST) {
         return false;
     }
-    if !is_within(user, 1, 128) {
+    if !is_within(user, 1, message::TEXT_MOST) {
         return false;
     }
-    if !is_within(label, 1, 100) {
+    if !is_within(label, 1, message::LABEL_MOST) {
         return false;
     }
-    visited <= 128
+    visited <= message::TEXT_MOST
 }
 
 // The number of the first test that fails, by the lengths of the own names and of both rooms, and by whether the access fits.
 fn number(host: usize, realm: usize, answer: usize, request: usize, fits: bool, m: &[u8]) -> u32
     ensures { λ r. ⌜ r ≡ numberBy host realm answer request fits (now (m .entry)) ⌝ }
 {
-    if !is_within(host, 1, 128) {
+    if !is_within(host, 1, message::TEXT_MOST) {
         return 2;
     }
-    if !is_within(realm, 1, 128) {
+    if !is_within(realm, 1, message::TEXT_MOST) {
         return 2;
     }
-    if answer < 5120 {
+    if answer < answers::ANSWER_LEAST {
         return 3;
     }
-    if request < 5120 {
+    if request < answers::ANSWER_LEAST {
         return 3;
     }
     if !fits {
@@ -148,7 +148,7 @@ fn type_code(m: &[u8]) -> u32
     requires { ⌜ (20 ≤ length (now m)) × (walkCode (now m) ≡ 0) ⌝ }
     ensures { λ r. ⌜ r ≡ fieldCode (avps (now (m .entry))) (numberField reAuthRequestType 0 0) ⌝ }
 {
-    let first = type_from(m, 20);
+    let first = type_from(m, message::HEADER_LENGTH);
     if m.len() <= first {
         return 5005;
     }
@@ -165,7 +165,7 @@ fn rest_code(m: &[u8], index: &[usize]) -> u32
     requires { ⌜ (20 ≤ length (now m)) × (walkCode (now m) ≡ 0) × Gathered (now m) (now index) ⌝ }
     ensures { λ r. ⌜ r ≡ restCode (avps (now (m .entry))) ⌝ }
 {
-    let g = message::text_field(m, index, 6, 1, 128);
+    let g = message::text_field(m, index, 6, 1, message::TEXT_MOST);
     let Got::Found(_) = g else {
         return message::refusal(g);
     };
@@ -356,7 +356,7 @@ fn put_names(
     requires { ⌜ (length (now session) ≤ 128) × (length (now host) ≤ 128) × (length (now realm) ≤ 128) × (length (now «from_host») ≤ 128) × (length (now «from_realm») ≤ 128) × (5120 ≤ length (now room)) ⌝ }
     ensures { λ r. ⌜ Written (now (room .entry)) (now (room .exit)) 20 r (nameAvps (now (session .entry)) (now (host .entry)) (now (realm .entry)) (now («from_host» .entry)) (now («from_realm» .entry))) ⌝ }
 {
-    let a = answers::put_avp(room, 20, 263, session);
+    let a = answers::put_avp(room, message::HEADER_LENGTH, 263, session);
     let b = answers::put_number(room, a, 258, 1);
     let c = answers::put_avp(room, b, 264, host);
     let d = answers::put_avp(room, c, 296, realm);

@@ -18,6 +18,16 @@ pub enum Kind {
     Experimental,
 }
 
+// THE LIMITS OF A MESSAGE, taken from here by every crate that reads or writes one
+
+// The header, and so the least that a message has.
+pub const HEADER_LENGTH: usize = 20;
+
+// The most bytes of a text, and of the label of a W-APN.
+pub const TEXT_MOST: usize = 128;
+
+pub const LABEL_MOST: usize = 100;
+
 // CALLS THAT GET NO ANSWER
 
 // Whether the length in the header is n, which two of its three bytes can hold: they are read at once.
@@ -36,7 +46,7 @@ pub fn number(m: &[u8]) -> u32
     ensures { λ r. ⌜ r ≡ messageNumber (now (m .entry)) ⌝ }
 {
     let n = m.len();
-    if n < 20 {
+    if n < HEADER_LENGTH {
         return 5;
     }
     if 4096 < n {
@@ -207,8 +217,8 @@ pub fn gather(m: &[u8], index: &mut [usize]) -> u32
     requires { ⌜ (20 ≤ length (now m)) × (now index ≡ zeros 28) ⌝ }
     ensures { λ r. ⌜ (r ≡ walkCode (now (m .entry))) × Gathered (now (m .entry)) (now (index .exit)) ⌝ }
 {
-    let mut at: usize = 20;
-    let mut left: usize = m.len() - 20;
+    let mut at: usize = HEADER_LENGTH;
+    let mut left: usize = m.len() - HEADER_LENGTH;
     'walk: loop {
         let named = loop {
             if left == 0 {
@@ -415,7 +425,7 @@ fn is_fit(r: Route) -> bool
     if r.span.len < 1 {
         return false;
     }
-    r.span.len <= 128
+    r.span.len <= TEXT_MOST
 }
 
 fn all_fit(a: Route, b: Route, c: Route) -> bool
@@ -436,7 +446,7 @@ fn all_routes(m: &[u8], most: usize) -> Routes
     requires { ⌜ (20 ≤ length (now m)) × (walkCode (now m) ≡ 0) × (most ≤ 3) ⌝ }
     ensures { λ r. ⌜ RoutesRead most (now (m .entry)) r ⌝ }
 {
-    let a = route_from(m, 20);
+    let a = route_from(m, HEADER_LENGTH);
     let b = route_from(m, a.next);
     let c = route_from(m, b.next);
     let d = route_from(m, c.next);
@@ -461,7 +471,7 @@ fn one_route(m: &[u8], index: &[usize]) -> Routes
     requires { ⌜ Gathered (now m) (now index) ⌝ }
     ensures { λ r. ⌜ ((most : ℕ) → 1 ≤ most → (getD (now (index .entry)) 13 0 ≡ 1 → most ≡ 1) → RoutesRead most (now (m .entry)) r) ⌝ }
 {
-    let g = text_field(m, index, 13, 1, 128);
+    let g = text_field(m, index, 13, 1, TEXT_MOST);
     match g {
         Got::Found(first) => Routes::Brought(first, Span { at: 0, len: 0 }, Span { at: 0, len: 0 }),
         Got::Absent => Routes::Missing,

@@ -120,13 +120,13 @@ fn move_place(first: &[u8], place: &mut [u8])
 {
     octets::clear(place);
     texts::put_text(place, 0, first);
-    if place.len() < 1024 {
+    if place.len() < table::TWO_BLOCKS {
         return;
     }
     if first[0] != 2 {
         return;
     }
-    place[512] = 3;
+    place[table::BLOCK_LENGTH] = 3;
     place[1023] = 3;
 }
 
@@ -135,9 +135,9 @@ fn move_places(from: &[u8], places: &mut [u8])
     requires { ⌜ (isRow (now from) ≡ true) × (4096 ≤ length (now places)) × (length (now places) ≤ 8192) × (length (now places) % 4096 ≡ 0) ⌝ }
     ensures { λ _. ⌜ now (places .exit) ≡ copiedPlaces (length (now (places .entry)) / 8) (now (from .entry)) ⌝ }
 {
-    let width = places.len() / 8;
+    let width = places.len() / table::PLACES;
     let mut k: usize = 0;
-    while k < 8 {
+    while k < table::PLACES {
         let a = width * k;
         let e = a + width;
         move_place(row::first(from, k + 1), &mut places[a..e]);
@@ -152,7 +152,7 @@ fn move_row(from: &[u8], room: &mut [u8])
 {
     texts::put_text(room, 0, row::head(from));
     let end = room.len();
-    move_places(from, &mut room[512..end]);
+    move_places(from, &mut room[table::BLOCK_LENGTH..end]);
 }
 
 // All rows.

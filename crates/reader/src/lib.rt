@@ -118,7 +118,10 @@ pub struct Reader<'a> {
 pub fn first<'a>(m: &'a [u8]) -> Reader<'a>
     ensures { λ r. ⌜ (r .src ≡ m .entry) × (r .at ≡ 20) ⌝ }
 {
-    Reader { src: m, at: 20 }
+    Reader {
+        src: m,
+        at: message::HEADER_LENGTH,
+    }
 }
 
 // The AVP where the reader stands, or why there is none.

@@ -25,7 +25,7 @@ pub fn starts(m: &[u8]) -> bool
     if 128 <= m[24] {
         return false;
     }
-    octets::read32(m, 20) == 263
+    octets::read32(m, message::HEADER_LENGTH) == 263
 }
 
 // The first five fields, which both requests have.
@@ -36,7 +36,7 @@ pub fn first_five(m: &[u8], index: &[usize]) -> Both
     if !starts(m) {
         return Both::Failed(5005);
     }
-    let g1 = message::text_field(m, index, 0, 1, 128);
+    let g1 = message::text_field(m, index, 0, 1, message::TEXT_MOST);
     let Got::Found(session) = g1 else {
         return Both::Failed(message::refusal(g1));
     };
@@ -44,15 +44,15 @@ pub fn first_five(m: &[u8], index: &[usize]) -> Both
     let Got::Found(_) = g2 else {
         return Both::Failed(message::refusal(g2));
     };
-    let g3 = message::text_field(m, index, 2, 1, 128);
+    let g3 = message::text_field(m, index, 2, 1, message::TEXT_MOST);
     let Got::Found(host) = g3 else {
         return Both::Failed(message::refusal(g3));
     };
-    let g4 = message::text_field(m, index, 3, 1, 128);
+    let g4 = message::text_field(m, index, 3, 1, message::TEXT_MOST);
     let Got::Found(realm) = g4 else {
         return Both::Failed(message::refusal(g4));
     };
-    let g5 = message::text_field(m, index, 4, 1, 128);
+    let g5 = message::text_field(m, index, 4, 1, message::TEXT_MOST);
     let Got::Found(_) = g5 else {
         return Both::Failed(message::refusal(g5));
     };
@@ -74,7 +74,7 @@ fn tunnel_end(
     ensures { λ r. ⌜ ((most : ℕ) → wrong ≡ fieldCode (avps (now (m .entry))) (textsField most routingPolicy false)
         → Listed (now (m .entry)) (tunnelCode most (avps (now (m .entry)))) (tunnelOf visited (avps (now (m .entry)))) r) ⌝ }
 {
-    let g1 = message::text_field(m, index, 12, 1, 100);
+    let g1 = message::text_field(m, index, 12, 1, message::LABEL_MOST);
     let Got::Found(label) = g1 else {
         return Told::Refused(message::refusal(g1));
     };
@@ -99,7 +99,7 @@ fn policy_end(m: &[u8], index: &[usize], user: Span, session: Span, routes: Rout
     ensures { λ r. ⌜ ((most : ℕ) → RoutesRead most (now (m .entry)) routes
         → Listed (now (m .entry)) (policyCode most (avps (now (m .entry)))) (policyOf (avps (now (m .entry)))) r) ⌝ }
 {
-    let g1 = message::text_field(m, index, 12, 1, 100);
+    let g1 = message::text_field(m, index, 12, 1, message::LABEL_MOST);
     if let Got::Code(n) = g1 {
         return Told::Refused(n);
     }
@@ -137,11 +137,11 @@ fn list_265(m: &[u8], index: &[usize], session: Span, host: Span, realm: Span, m
     let Got::Found(_) = g1 else {
         return Told::Refused(message::refusal(g1));
     };
-    let g2 = message::text_field(m, index, 6, 1, 128);
+    let g2 = message::text_field(m, index, 6, 1, message::TEXT_MOST);
     let Got::Found(_) = g2 else {
         return Told::Refused(message::refusal(g2));
     };
-    let g3 = message::text_field(m, index, 7, 1, 128);
+    let g3 = message::text_field(m, index, 7, 1, message::TEXT_MOST);
     let Got::Found(user) = g3 else {
         return Told::Refused(message::refusal(g3));
     };
@@ -149,7 +149,7 @@ fn list_265(m: &[u8], index: &[usize], session: Span, host: Span, realm: Span, m
     let Got::Found(kind) = g4 else {
         return Told::Refused(message::refusal(g4));
     };
-    let g5 = message::text_field(m, index, 10, 1, 128);
+    let g5 = message::text_field(m, index, 10, 1, message::TEXT_MOST);
     if let Got::Code(n) = g5 {
         return Told::Refused(n);
     }
@@ -172,15 +172,15 @@ fn list_275(m: &[u8], index: &[usize], session: Span) -> Told
     let Got::Found(_) = cause else {
         return Told::Refused(message::refusal(cause));
     };
-    let destination = message::text_field(m, index, 6, 1, 128);
+    let destination = message::text_field(m, index, 6, 1, message::TEXT_MOST);
     let Got::Found(_) = destination else {
         return Told::Refused(message::refusal(destination));
     };
-    let name = message::text_field(m, index, 7, 1, 128);
+    let name = message::text_field(m, index, 7, 1, message::TEXT_MOST);
     let Got::Found(user) = name else {
         return Told::Refused(message::refusal(name));
     };
-    let apn = message::text_field(m, index, 12, 1, 100);
+    let apn = message::text_field(m, index, 12, 1, message::LABEL_MOST);
     let Got::Found(label) = apn else {
         return Told::Refused(message::refusal(apn));
     };

@@ -28,7 +28,7 @@ pub fn head(r: &[u8]) -> &[u8]
     requires { ⌜ 512 ≤ length (now r) ⌝ }
     ensures { λ b. ⌜ now b ≡ head (now (r .entry)) ⌝ }
 {
-    &r[0..512]
+    &r[0..table::BLOCK_LENGTH]
 }
 
 // The places in use, bit k for place k + 1.
@@ -36,7 +36,7 @@ pub fn used_bits(r: &[u8]) -> u8
     requires { ⌜ 512 ≤ length (now r) ⌝ }
     ensures { λ x. ⌜ x ≡ getD (head (now (r .entry))) 17 0 ⌝ }
 {
-    r[17]
+    r[table::USED_BITS]
 }
 
 // How many entries there are.
@@ -44,7 +44,7 @@ pub fn entry_count(r: &[u8]) -> u8
     requires { ⌜ 512 ≤ length (now r) ⌝ }
     ensures { λ x. ⌜ x ≡ getD (head (now (r .entry))) 18 0 ⌝ }
 {
-    r[18]
+    r[table::ENTRY_COUNT]
 }
 
 // The room of the order line.
@@ -52,7 +52,7 @@ pub fn line_room(r: &[u8]) -> &[u8]
     requires { ⌜ 512 ≤ length (now r) ⌝ }
     ensures { λ l. ⌜ now l ≡ lineRoom (now (r .entry)) ⌝ }
 {
-    &r[20..28]
+    &r[table::LINE..table::LINE_END]
 }
 
 // The i-th byte of the order line's room: a place, or 0 behind the last.
@@ -60,7 +60,7 @@ pub fn line_place(r: &[u8], i: usize) -> usize
     requires { ⌜ (512 ≤ length (now r)) × (i < 8) ⌝ }
     ensures { λ k. ⌜ (k ≡ getD (lineRoom (now (r .entry))) i 0) × (k < 256) ⌝ }
 {
-    octets::long(r[20 + i])
+    octets::long(r[table::LINE + i])
 }
 
 // The room of the entries.
@@ -68,7 +68,7 @@ pub fn entries_room(r: &[u8]) -> &[u8]
     requires { ⌜ 512 ≤ length (now r) ⌝ }
     ensures { λ e. ⌜ now e ≡ entriesRoom (now (r .entry)) ⌝ }
 {
-    &r[32..448]
+    &r[table::ENTRIES..table::ENTRIES_END]
 }
 
 // A PLACE, 1 to 8
@@ -79,8 +79,8 @@ pub fn start(r: &[u8], k: usize) -> usize
     ensures { λ x. ⌜ (x ≡ placeStart (formOf (now (r .entry))) k) × (512 ≤ x) × (x + 512 * formOf (now (r .entry)) ≤ length (now (r .entry)))
         × (length (now (r .entry)) ≡ 512 + 4096 * formOf (now (r .entry))) × (1 ≤ formOf (now (r .entry))) × (formOf (now (r .entry)) ≤ 2) ⌝ }
 {
-    let stride = (r.len() - 512) / 8;
-    512 + stride * (k - 1)
+    let stride = (r.len() - table::BLOCK_LENGTH) / table::PLACES;
+    table::BLOCK_LENGTH + stride * (k - 1)
 }
 
 // Its bytes.
@@ -89,7 +89,7 @@ pub fn place(r: &[u8], k: usize) -> &[u8]
     ensures { λ p. ⌜ now p ≡ place (now (r .entry)) k ⌝ }
 {
     let at = start(r, k);
-    let end = at + (r.len() - 512) / 8;
+    let end = at + (r.len() - table::BLOCK_LENGTH) / table::PLACES;
     &r[at..end]
 }
 
@@ -99,7 +99,7 @@ pub fn first(r: &[u8], k: usize) -> &[u8]
     ensures { λ b. ⌜ now b ≡ firstBlock (place (now (r .entry)) k) ⌝ }
 {
     let at = start(r, k);
-    let end = at + 512;
+    let end = at + table::BLOCK_LENGTH;
     &r[at..end]
 }
 
@@ -109,8 +109,8 @@ pub fn second(r: &[u8], k: usize) -> &[u8]
     ensures { λ c. ⌜ now c ≡ secondBlock (place (now (r .entry)) k) ⌝ }
 {
     let from = start(r, k);
-    let at = from + 512;
-    let end = from + (r.len() - 512) / 8;
+    let at = from + table::BLOCK_LENGTH;
+    let end = from + (r.len() - table::BLOCK_LENGTH) / table::PLACES;
     &r[at..end]
 }
 
@@ -128,7 +128,7 @@ pub fn session(r: &[u8], k: usize) -> &[u8]
     ensures { λ t. ⌜ now t ≡ (accessAt (now (r .entry)) k) .session ⌝ }
 {
     let from = start(r, k);
-    let at = from + 8;
+    let at = from + table::FIRST_TEXT;
     let end = at + octets::long(r[from + 2]);
     &r[at..end]
 }
@@ -139,7 +139,7 @@ pub fn host(r: &[u8], k: usize) -> &[u8]
     ensures { λ t. ⌜ now t ≡ (accessAt (now (r .entry)) k) .host ⌝ }
 {
     let from = start(r, k);
-    let at = from + 136;
+    let at = from + table::SECOND_TEXT;
     let end = at + octets::long(r[from + 3]);
     &r[at..end]
 }
@@ -156,7 +156,7 @@ pub fn policy(r: &[u8], k: usize) -> &[u8]
     requires { ⌜ (isRow (now r) ≡ true) × (1 ≤ k) × (k ≤ 8) × (getD (firstBlock (place (now r) k)) 5 0 ≤ 248) ⌝ }
     ensures { λ t. ⌜ now t ≡ (accessAt (now (r .entry)) k) .policies .first ⌝ }
 {
-    let at = start(r, k) + 264;
+    let at = start(r, k) + table::THIRD_TEXT;
     let end = at + policy_length(r, k);
     &r[at..end]
 }
@@ -166,8 +166,8 @@ pub fn notice_rooms(r: &[u8], k: usize) -> &[u8]
     requires { ⌜ (isRow (now r) ≡ true) × (1 ≤ k) × (k ≤ 8) ⌝ }
     ensures { λ t. ⌜ now t ≡ part (firstBlock (place (now (r .entry)) k)) 8 256 ⌝ }
 {
-    let at = start(r, k) + 8;
-    let end = at + 256;
+    let at = start(r, k) + table::FIRST_TEXT;
+    let end = at + table::TWO_ROOMS;
     &r[at..end]
 }
 
@@ -181,8 +181,8 @@ pub fn realm(c: &[u8]) -> &[u8]
     if c.len() == 0 {
         return c;
     }
-    let end = 8 + octets::long(c[1]);
-    &c[8..end]
+    let end = table::FIRST_TEXT + octets::long(c[1]);
+    &c[table::FIRST_TEXT..end]
 }
 
 // Its room, where there is a block, as a cut notice of form 2 has it.
@@ -190,7 +190,7 @@ pub fn realm_room(c: &[u8]) -> &[u8]
     requires { ⌜ length (now c) ≡ 512 ⌝ }
     ensures { λ t. ⌜ now t ≡ part (now (c .entry)) 8 128 ⌝ }
 {
-    &c[8..136]
+    &c[table::FIRST_TEXT..table::SECOND_TEXT]
 }
 
 // The second policy.
@@ -201,8 +201,8 @@ pub fn second_policy(c: &[u8]) -> &[u8]
     if c.len() == 0 {
         return c;
     }
-    let end = 136 + octets::long(c[3]);
-    &c[136..end]
+    let end = table::SECOND_TEXT + octets::long(c[3]);
+    &c[table::SECOND_TEXT..end]
 }
 
 // The third, where it ends within the block.
@@ -213,8 +213,8 @@ pub fn third_policy(c: &[u8]) -> &[u8]
     if c.len() == 0 {
         return c;
     }
-    let end = 264 + octets::long(c[4]);
-    &c[264..end]
+    let end = table::THIRD_TEXT + octets::long(c[4]);
+    &c[table::THIRD_TEXT..end]
 }
 
 // AN ENTRY, in the room of the entries, counted from 0
@@ -224,8 +224,8 @@ pub fn entry(room: &[u8], i: usize) -> &[u8]
     requires { ⌜ (length (now room) ≡ 416) × (i < 4) ⌝ }
     ensures { λ b. ⌜ now b ≡ part (now (room .entry)) (104 * i) 104 ⌝ }
 {
-    let at = 104 * i;
-    let end = at + 104;
+    let at = table::ENTRY_LENGTH * i;
+    let end = at + table::ENTRY_LENGTH;
     &room[at..end]
 }
 
@@ -234,7 +234,7 @@ pub fn has_label(room: &[u8], i: usize) -> bool
     requires { ⌜ (length (now room) ≡ 416) × (i < 4) ⌝ }
     ensures { λ x. ⌜ x ≡ within 1 100 (getD (now (room .entry)) (104 * i) 0) ⌝ }
 {
-    let n = room[104 * i];
+    let n = room[table::ENTRY_LENGTH * i];
     if n < 1 {
         return false;
     }
@@ -245,8 +245,8 @@ pub fn label(room: &[u8], i: usize) -> &[u8]
     requires { ⌜ (length (now room) ≡ 416) × (i < 4) × (getD (now room) (104 * i) 0 ≤ 100) ⌝ }
     ensures { λ t. ⌜ now t ≡ (readEntry (part (now (room .entry)) (104 * i) 104)) .label ⌝ }
 {
-    let at = 104 * i + 1;
-    let end = at + octets::long(room[104 * i]);
+    let at = table::ENTRY_LENGTH * i + table::LABEL;
+    let end = at + octets::long(room[table::ENTRY_LENGTH * i]);
     &room[at..end]
 }
 
@@ -254,12 +254,12 @@ pub fn flags(room: &[u8], i: usize) -> u8
     requires { ⌜ (length (now room) ≡ 416) × (i < 4) ⌝ }
     ensures { λ x. ⌜ x ≡ (readEntry (part (now (room .entry)) (104 * i) 104)) .flags ⌝ }
 {
-    room[104 * i + 101]
+    room[table::ENTRY_LENGTH * i + table::FLAGS]
 }
 
 pub fn limit(room: &[u8], i: usize) -> u8
     requires { ⌜ (length (now room) ≡ 416) × (i < 4) ⌝ }
     ensures { λ x. ⌜ x ≡ (readEntry (part (now (room .entry)) (104 * i) 104)) .limit ⌝ }
 {
-    room[104 * i + 102]
+    room[table::ENTRY_LENGTH * i + table::LIMIT]
 }

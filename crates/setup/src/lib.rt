@@ -34,7 +34,7 @@ fn is_name(name: &[u8]) -> bool
     if name.len() < 1 {
         return false;
     }
-    if 15 < name.len() {
+    if table::NAME_MOST < name.len() {
         return false;
     }
     blocks::digits(name)
@@ -65,7 +65,7 @@ fn shares_sum(shares: &[u32]) -> u64
 {
     let mut sum: u64 = 0;
     let mut i: usize = 0;
-    while i < 16 {
+    while i < table::OPERATORS {
         sum += whole(shares[i]);
         i += 1;
     }
@@ -77,7 +77,7 @@ fn shares_fit(table: &[u8], form: usize, shares: &[u32]) -> bool
     requires { ⌜ form ≤ 2 ⌝ }
     ensures { λ r. ⌜ r ≡ sharesFit (lent form (now (table .entry))) (now (shares .entry)) ⌝ }
 {
-    if shares.len() != 16 {
+    if shares.len() != table::OPERATORS {
         return false;
     }
     let count = table.len() / table::row_length(form);
@@ -146,7 +146,7 @@ fn entry_given(label: &[u8], limit: u8, flags: u8) -> bool
     if label.len() < 1 {
         return false;
     }
-    if 100 < label.len() {
+    if table::LABEL_MOST < label.len() {
         return false;
     }
     if 3 < flags {
@@ -171,7 +171,7 @@ fn next_number(row: &[u8], label: &[u8], limit: u8, flags: u8) -> u32
     if !label_new(entries, n, label) {
         return 15;
     }
-    if 4 <= n {
+    if table::ENTRIES_MOST <= n {
         return 16;
     }
     if 8 < blocks::limits_sum(entries, n) + octets::wide(limit) {

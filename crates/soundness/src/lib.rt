@@ -40,7 +40,7 @@ pub fn line_exact(r: &[u8]) -> bool
     let mut i: usize = 0;
     while i < n {
         let k = row::line_place(r, i);
-        if 8 < k {
+        if table::PLACES < k {
             return false;
         }
         if in_use(used, k) {
@@ -123,7 +123,7 @@ fn places_sound(r: &[u8], n: u8) -> bool
     if !firsts_sound(r, n) {
         return false;
     }
-    if r.len() == 4608 {
+    if r.len() == table::ROW_LENGTH_1 {
         return true;
     }
     seconds_sound(r)
@@ -249,7 +249,7 @@ pub fn row_sound(r: &[u8]) -> bool
     requires { ⌜ isRow (now r) ≡ true ⌝ }
     ensures { λ x. ⌜ x ≡ sound (now (r .entry)) ⌝ }
 {
-    if r.len() == 4608 {
+    if r.len() == table::ROW_LENGTH_1 {
         if !all_sound(r) {
             return false;
         }

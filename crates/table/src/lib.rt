@@ -10,13 +10,72 @@ ghost use Rattle.table.specs.TheTable.{firstNumber, firstRow, hasName, i
 ghost use Rattle.table.specs.Columns.{columnFirst, columnBefore};
 ghost use Rattle.table.specs.Answers.{found, lent, rowEnd};
 
-// A row is block 0 and eight places, each of as many blocks as the form says.
+// WHERE THINGS STAND, by a name for each number. Every crate that reads or writes the bytes of a row takes it from here.
+
+// A row is block 0 and eight places, each of as many blocks as the form says. Form 2 is the last, with two.
 pub const BLOCK_LENGTH: usize = 512;
 
-const PLACES: usize = 8;
+pub const TWO_BLOCKS: usize = 1024;
+
+pub const PLACES: usize = 8;
+
+pub const ROW_LENGTH_1: usize = 4608;
 
 // A table has at most 1,024 rows.
 const MOST_ROWS: usize = 1024;
+
+// The operators are 0 to 15.
+pub const OPERATORS: usize = 16;
+
+// A block ends in its sums, the second before the first.
+pub const SECOND_SUM: usize = 510;
+
+pub const FIRST_SUM: usize = 511;
+
+// Block 0: the name, up to the byte whose bits are the places in use; how many entries there are; the operator; the order line; four zeros; the
+// entries, and zeros up to the sums.
+pub const NAME: usize = 2;
+
+pub const NAME_MOST: usize = 15;
+
+pub const USED_BITS: usize = 17;
+
+pub const ENTRY_COUNT: usize = 18;
+
+pub const OPERATOR: usize = 19;
+
+pub const LINE: usize = 20;
+
+pub const LINE_END: usize = 28;
+
+pub const ENTRIES: usize = 32;
+
+pub const ENTRIES_END: usize = 448;
+
+pub const ENTRIES_MOST: usize = 4;
+
+// An entry: its label behind the byte that says how long it is, then its flags, its limit, and a zero.
+pub const ENTRY_LENGTH: usize = 104;
+
+pub const LABEL: usize = 1;
+
+pub const LABEL_MOST: usize = 100;
+
+pub const FLAGS: usize = 101;
+
+pub const LIMIT: usize = 102;
+
+// A block of a place has three texts, each in a room of its own; their lengths stand before the first. In the first block they are Session-Id,
+// host and policy, in the second the realm and two more policies.
+pub const FIRST_TEXT: usize = 8;
+
+pub const SECOND_TEXT: usize = 136;
+
+pub const THIRD_TEXT: usize = 264;
+
+pub const TEXT_ROOM: usize = 128;
+
+pub const TWO_ROOMS: usize = 256;
 
 // The bytes of a row: 4,608 in form 1, 8,704 in form 2.
 pub fn row_length(form: usize) -> usize
@@ -86,8 +145,8 @@ pub fn sums_of(s: &[u8]) -> Sums
         weight -= 1;
         j += 1;
     }
-    let p = octets::half(s[510]);
-    let q = octets::half(s[511]);
+    let p = octets::half(s[SECOND_SUM]);
+    let q = octets::half(s[FIRST_SUM]);
     let first = (a + 510 - p - q) % 255;
     let second = (b + 1530 - 2 * first - 2 * p - q) % 255;
     Sums {
@@ -154,14 +213,14 @@ fn has_name(r: &[u8], name: &[u8]) -> bool
     if n < 1 {
         return false;
     }
-    if 15 < n {
+    if NAME_MOST < n {
         return false;
     }
     if n != name.len() {
         return false;
     }
-    let end = 2 + n;
-    octets::same_bytes(&r[2..end], name)
+    let end = NAME + n;
+    octets::same_bytes(&r[NAME..end], name)
 }
 
 // Whether a row is that of an account.
@@ -169,7 +228,7 @@ fn is_row_of(r: &[u8], op: u32, name: &[u8]) -> bool
     requires { ⌜ 20 ≤ length (now r) ⌝ }
     ensures { λ x. ⌜ x ≡ isRowOf (record { operator = op; name = now (name .entry) }) (now (r .entry)) ⌝ }
 {
-    if octets::wide(r[19]) != op {
+    if octets::wide(r[OPERATOR]) != op {
         return false;
     }
     has_name(r, name)
@@ -203,7 +262,7 @@ fn rows_passed(t: &[u8], form: usize, op: u32, name: &[u8], i: usize) -> usize
     if n < 8 {
         return i;
     }
-    if 15 < n {
+    if NAME_MOST < n {
         return i;
     }
     let end = octets::eight(name, n - 8);
@@ -246,7 +305,7 @@ fn is_own(r: &[u8], op: u32) -> bool
     if r[0] != 1 {
         return false;
     }
-    octets::wide(r[19]) == op
+    octets::wide(r[OPERATOR]) == op
 }
 
 // How many rows are an operator's.
