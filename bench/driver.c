@@ -7,6 +7,7 @@
  *   driver tally LISTS SEED        the same on lists of results by chance, counted into a report (tally.c)
  *   driver answers FILE CALLS      the proved library's answers to such calls, one behind the other, into a file
  *   driver aborts FILE CALLS       its Abort-Session-Requests for the cuts of such calls on a table of form 2, the same way
+ *   driver reauths FILE CALLS      its Re-Auth-Answers and AA-Requests for Re-Auth-Requests by chance, the same way
  *   driver count LINE LIBRARY N    N calls of one line, for the counting of instructions; LIBRARY is proved, plain or none
  *   driver time                    one table of time ratios, the libraries measured in turn
  */
@@ -20,6 +21,7 @@ struct timespec {
 };
 int clock_gettime(int, struct timespec *);
 int mix(uint32_t calls, uint64_t seed, const char *written, bool aborts);
+int re_auths(uint32_t calls, const char *written);
 /* the lines of the report, behind those of this file */
 size_t tally_lines(void);
 const char *tally_name(size_t line);
@@ -39,6 +41,9 @@ typedef struct wm_taken burst_function(uint8_t *, size_t, uint32_t, uint32_t, co
 typedef uint32_t move_function(const uint8_t *, size_t, uint8_t *, size_t, uint32_t);
 typedef struct wm_written abort_function(const uint8_t *, size_t, const uint8_t *, size_t, const uint8_t *, size_t, uint32_t, uint32_t,
                                          uint32_t, uint32_t, uint32_t, uint8_t *, size_t);
+typedef struct wm_reauthorized reauth_function(const uint8_t *, size_t, const uint8_t *, size_t, const uint8_t *, size_t, const uint8_t *, size_t,
+                                               const uint8_t *, size_t, const uint8_t *, size_t, const uint8_t *, size_t, uint32_t, uint32_t,
+                                               uint8_t *, size_t, uint8_t *, size_t);
 typedef uint32_t answered_function(const uint8_t *, size_t, const uint8_t *, size_t, uint32_t, uint32_t);
 
 /* What a call costs without a library: the loop around it. */
@@ -72,6 +77,14 @@ static uint32_t none_answered(const uint8_t *a, size_t al, const uint8_t *s, siz
     return 0;
 }
 
+static struct wm_reauthorized none_reauth(const uint8_t *h, size_t hl, const uint8_t *r, size_t rl, const uint8_t *s, size_t sl, const uint8_t *u,
+                                          size_t ul, const uint8_t *l, size_t ll, const uint8_t *v, size_t vl, const uint8_t *m, size_t ml,
+                                          uint32_t hop, uint32_t end, uint8_t *a, size_t al, uint8_t *q, size_t ql) {
+    (void)h, (void)hl, (void)r, (void)rl, (void)s, (void)sl, (void)u, (void)ul, (void)l, (void)ll, (void)v, (void)vl, (void)m, (void)ml;
+    (void)hop, (void)end, (void)a, (void)al, (void)q, (void)ql;
+    return (struct wm_reauthorized){0};
+}
+
 /* volatile: the compiler must not see which function it is, or it takes the loop around the empty one away. */
 static const struct library {
     const char *name;
@@ -80,9 +93,10 @@ static const struct library {
     move_function *volatile move;
     abort_function *volatile abort;
     answered_function *volatile answered;
-} libraries[3] = {{"proved", wm_handle, wm_burst, wm_move, wm_abort, wm_abort_answered},
-                  {"plain", plain_handle, plain_burst, plain_move, plain_abort, plain_abort_answered},
-                  {"none", none_handle, none_burst, none_move, none_abort, none_answered}};
+    reauth_function *volatile reauth;
+} libraries[3] = {{"proved", wm_handle, wm_burst, wm_move, wm_abort, wm_abort_answered, wm_reauth},
+                  {"plain", plain_handle, plain_burst, plain_move, plain_abort, plain_abort_answered, plain_reauth},
+                  {"none", none_handle, none_burst, none_move, none_abort, none_answered, none_reauth}};
 
 /* Everything that a library is lent. */
 struct lent {
@@ -165,8 +179,8 @@ static void put_termination(uint32_t i, uint32_t session, uint32_t row) {
 /* ---- lines ---- */
 
 /* What a line calls: a request is handled, a hundred of them are, by a call each or by one for all, the table is moved to the other form, an Abort-Session-Request is written from the notice that `cut` has, with the
- * identifiers of the message, or the message is an answer that is judged. */
-enum what { HANDLE, EACH, ALL, MOVE, WRITE, JUDGE };
+ * identifiers of the message, the message is an answer that is judged, or a Re-Auth-Request about the access that `held` has. */
+enum what { HANDLE, EACH, ALL, MOVE, WRITE, JUDGE, REAUTH };
 
 /* restore: the subscriber's row is set back before each call. form: of the table. */
 struct line {
@@ -184,6 +198,13 @@ static struct {
     uint8_t notice[WM_NOTICE_2_LEAST];
     uint32_t session, host, realm;
 } cut;
+
+/* The access that the gateway has: its Session-Id, and the visited network. */
+static struct {
+    uint8_t session[128];
+    size_t session_length;
+    const char *visited;
+} held;
 
 static uint8_t *table;
 static uint32_t rows, form;
@@ -480,6 +501,58 @@ static void answered_tiny(void) {
         put_tiny(r);
 }
 
+/* A Re-Auth-Request as a server sends it. */
+static void put_re_auth(uint32_t i, uint32_t session, uint32_t type) {
+    struct request *r = &messages[i];
+    start(r, 0xC0, 258, 1, i);
+    put_session(r, session);
+    put_value(r, 258, false, 1);
+    put_text(r, 264, host);
+    put_text(r, 296, realm);
+    put_text(r, 283, realm);
+    put_text(r, 293, gateway);
+    put_value(r, 285, false, type);
+    finish(r);
+}
+
+/* The access is that of session 7; at home. */
+static void re_authorizing(void) {
+    subscribers(2, 0);
+    for (uint32_t i = 0; i < MESSAGES; i++)
+        put_re_auth(i, 7, 0);
+    held.session_length = 72;
+    memcpy(held.session, messages[0].bytes + 28, 72);
+    held.visited = "";
+}
+
+static void re_authorizing_abroad(void) {
+    re_authorizing();
+    held.visited = "wlan.mnc002.mcc002.3gppnetwork.org";
+}
+
+static void re_authorizing_another(void) {
+    re_authorizing();
+    for (uint32_t i = 0; i < MESSAGES; i++)
+        put_re_auth(i, 8, 0);
+}
+
+static void re_authenticating(void) {
+    re_authorizing();
+    for (uint32_t i = 0; i < MESSAGES; i++)
+        put_re_auth(i, 7, 1);
+}
+
+static void re_authorizing_tiny(void) {
+    re_authorizing();
+    for (struct request *r = messages; r < messages + MESSAGES; r++)
+        put_tiny(r);
+}
+
+static void re_authorizing_none(void) {
+    re_authorizing();
+    held.session_length = 0;
+}
+
 static const struct line lines[] = {
     {"opening with a cut, 1 row", cutting, 1, MESSAGES, false, {2001, 1, 0, 0, 1, 72, 39, 0}, 1, HANDLE},
     {"opening with a cut, 64 rows", cutting, 64, MESSAGES, false, {2001, 1, 0, 0, 1, 72, 39, 0}, 1, HANDLE},
@@ -523,6 +596,12 @@ static const struct line lines[] = {
     {"an answer of another Session-Id", answered_another, 1, MESSAGES, false, {0, 0, 0, 0, 0, 0, 0, 0}, 2, JUDGE},
     {"an answer with two Result-Codes", answered_twice, 1, MESSAGES, false, {0, 0, 0, 0, 0, 0, 0, 0}, 2, JUDGE},
     {"an answer that belongs, 486 more AVPs", answered_tiny, 1, MESSAGES, false, {1, 0, 0, 0, 0, 0, 0, 0}, 2, JUDGE},
+    {"re-authorization, going on", re_authorizing, 1, MESSAGES, false, {2001, 1, 0, 0, 0, 0, 0, 0}, 1, REAUTH},
+    {"re-authorization, at a visited network", re_authorizing_abroad, 1, MESSAGES, false, {2001, 1, 0, 0, 0, 0, 0, 0}, 1, REAUTH},
+    {"re-authorization, 482 more AVPs", re_authorizing_tiny, 1, MESSAGES, false, {2001, 1, 0, 0, 0, 0, 0, 0}, 1, REAUTH},
+    {"re-authorization, refused: type 1", re_authenticating, 1, MESSAGES, false, {5004, 1, 0, 0, 0, 0, 0, 0}, 1, REAUTH},
+    {"re-authorization, refused: Session-Id", re_authorizing_another, 1, MESSAGES, false, {5002, 1, 0, 0, 0, 0, 0, 0}, 1, REAUTH},
+    {"re-authorization, refused: number 22", re_authorizing_none, 1, MESSAGES, false, {22, 0, 0, 0, 0, 0, 0, 0}, 1, REAUTH},
 };
 enum { LINES = sizeof lines / sizeof *lines };
 
@@ -551,6 +630,15 @@ static inline struct wm_outcome write_abort(const struct library *library, struc
         library->abort((const uint8_t *)host, sizeof host - 1, (const uint8_t *)realm, sizeof realm - 1, cut.notice, sizeof cut.notice,
                        cut.session, cut.host, cut.realm, hop, end, l->answer, WM_ABORT_LEAST);
     return (struct wm_outcome){.code = w.number, .kind = w.number == 0, .length = w.length};
+}
+
+/* The AA-Request goes where the target of a move does, and its length is told as a place. */
+static inline struct wm_outcome re_authorize(const struct library *library, struct lent *l, const struct request *r, uint32_t hop, uint32_t end) {
+    struct wm_reauthorized w = library->reauth(
+        (const uint8_t *)gateway, sizeof gateway - 1, (const uint8_t *)realm, sizeof realm - 1, held.session, held.session_length, name_of(0), 15,
+        (const uint8_t *)label, sizeof label - 1, (const uint8_t *)held.visited, strlen(held.visited), r->bytes, r->length, hop, end, l->answer,
+        WM_ANSWER_LEAST, l->target, WM_ANSWER_LEAST);
+    return (struct wm_outcome){.code = w.code, .kind = w.kind, .length = w.length, .place = w.request_length};
 }
 
 /* The outcome of the last message; whether all were taken, and each with a cut, stands in its kind and its cut. */
@@ -597,6 +685,8 @@ static inline struct wm_outcome call(const struct library *library, struct lent 
     if (line->what == JUDGE)
         return (struct wm_outcome){
             .code = library->answered(m, messages[i].length, cut.notice, cut.session, four(m + 12), four(m + 16))};
+    if (line->what == REAUTH)
+        return re_authorize(library, l, &messages[i], four(m + 12), four(m + 16));
     if (line->restore)
         memcpy(l->table + (line->rows - 1) * size, saved, size);
     return library->handle(l->table, line->rows * size, line->form, 0, (const uint8_t *)host, sizeof host - 1, (const uint8_t *)realm,
@@ -757,6 +847,8 @@ int main(int count, char **words) {
         return tally_mix((uint32_t)strtoul(words[2], 0, 10), strtoul(words[3], 0, 10));
     else if ((!strcmp(what, "answers") || !strcmp(what, "aborts")) && count == 4)
         return mix((uint32_t)strtoul(words[3], 0, 10), 1, words[2], !strcmp(what, "aborts"));
+    else if (!strcmp(what, "reauths") && count == 4)
+        return re_auths((uint32_t)strtoul(words[3], 0, 10), words[2]);
     else if (!strcmp(what, "time")) {
         for (size_t i = 0; i < LINES; i++)
             if (!time_line(&lines[i]))
@@ -765,7 +857,7 @@ int main(int count, char **words) {
     } else if (!strcmp(what, "count") && count == 5)
         return count_any(strtoul(words[2], 0, 10) % (LINES + tally_lines()), words[3], (uint32_t)strtoul(words[4], 0, 10));
     else {
-        printf("driver: lines, check, mix CALLS SEED, tally LISTS SEED, answers FILE CALLS, aborts FILE CALLS, count LINE LIBRARY N, or time\n");
+        printf("driver: lines, check, mix CALLS SEED, tally LISTS SEED, answers FILE CALLS, aborts FILE CALLS, reauths FILE CALLS, count LINE LIBRARY N, or time\n");
         return 2;
     }
     return 0;

@@ -1,4 +1,4 @@
-/* Calls by chance: set-up operations, requests, bursts of them, moves and disconnections, good and damaged, on tables of both forms that live on. After each one both libraries must
+/* Calls by chance: set-up operations, requests, bursts of them, moves, disconnections and re-authorizations, good and damaged, on tables of both forms that live on. After each one both libraries must
  * have given the same and left the same bytes everywhere. */
 #include "requests.h"
 
@@ -154,8 +154,8 @@ static void value_field(struct request *r, uint32_t code, bool of_3gpp, uint32_t
 
 /* An AVP that no list names: a known one with M, or one that is not known, mostly without. */
 static void stranger(struct request *r) {
-    static const uint16_t known[] = {282, 25, 32, 4, 278, 401, 402, 443, 444, 450, 578, 279, 298};
-    static const uint16_t unknown[] = {33, 280, 97, 408, 285, 100, 312, 600, 304, 26, 3, 579, 0};
+    static const uint16_t known[] = {282, 25, 32, 4, 278, 401, 402, 443, 444, 450, 578, 279, 298, 285};
+    static const uint16_t unknown[] = {33, 280, 97, 408, 286, 100, 312, 600, 304, 26, 3, 579, 0};
     size_t flags = r->length + 4, length = one_in(2) ? 17 : 0;
     if (one_in(8))
         put_avp(r, 304, true, "relay.example.org", length);
@@ -610,6 +610,55 @@ static bool judge(uint32_t *belongs) {
     return *belongs == plain_abort_answered(r.bytes, r.length, (const uint8_t *)sent->bytes, sent->length, hop, end);
 }
 
+/* ---- the gateway ---- */
+
+/* A Re-Auth-Request by chance about this Session-Id. */
+static void by_chance_re_auth(struct request *r, const struct text *session) {
+    start(r, one_in(20) ? below(256) : 0xC0, one_in(30) ? decoded ? 275 : 257 + below(19) : 258, one_in(30) ? below(3) : 1, below(9999));
+    if (one_in(40))
+        put_text(r, one_in(2) ? 25 : 33, "before");
+    text_field(r, 263, false, session);
+    other(r);
+    value_field(r, 258, false, 1);
+    text_field(r, 264, false, PICK(texts));
+    text_field(r, 296, false, PICK(texts));
+    other(r);
+    text_field(r, 283, false, PICK(texts));
+    text_field(r, 293, false, PICK(texts));
+    value_field(r, 285, false, one_in(12) ? 1 : 0);
+    other(r);
+    if (one_in(60))
+        while (r->length < MESSAGE_MOST - 8 + 4 * below(4))
+            put_avp(r, 25, false, "", 0);
+    finish(r);
+    if (!decoded && one_in(8))
+        damage(r->bytes, r->length, 1);
+    if (!decoded && one_in(20))
+        r->length = one_in(2) ? below(24) : r->length - below(6);
+}
+
+static size_t re_auth_room(void) {
+    return one_in(20) ? WM_ANSWER_LEAST + below(3) - 1 : WM_ANSWER_LEAST;
+}
+
+/* The gateway's own operation; the AA-Request goes where the target of a move does. */
+static bool re_authorize(struct wm_reauthorized *w) {
+    static struct request r;
+    const struct text *host = PICK(texts), *realm = PICK(texts), *session = PICK(sessions), *user = pick_name(), *label = pick_label();
+    const struct text *visited = one_in(2) ? &texts[4] : PICK(texts), *asked = one_in(8) ? PICK(sessions) : session;
+    size_t answer = re_auth_room(), request = re_auth_room();
+    uint32_t hop = 0x1234567 + below(9999), end = 0x89ABCDE0 + below(9999);
+    by_chance_re_auth(&r, asked);
+    *w = wm_reauth((const uint8_t *)host->bytes, host->length, (const uint8_t *)realm->bytes, realm->length, (const uint8_t *)session->bytes,
+                   session->length, (const uint8_t *)user->bytes, user->length, (const uint8_t *)label->bytes, label->length,
+                   (const uint8_t *)visited->bytes, visited->length, r.bytes, r.length, hop, end, proved.answer, answer, proved.target, request);
+    struct wm_reauthorized mine =
+        plain_reauth((const uint8_t *)host->bytes, host->length, (const uint8_t *)realm->bytes, realm->length, (const uint8_t *)session->bytes,
+                     session->length, (const uint8_t *)user->bytes, user->length, (const uint8_t *)label->bytes, label->length,
+                     (const uint8_t *)visited->bytes, visited->length, r.bytes, r.length, hop, end, plain.answer, answer, plain.target, request);
+    return w->code == mine.code && w->kind == mine.kind && w->length == mine.length && w->request_length == mine.request_length;
+}
+
 /* Each outcome that was seen, once. */
 static uint32_t outcomes(uint32_t outcome) {
     static uint32_t seen[128], count;
@@ -655,6 +704,12 @@ static uint32_t one_call(struct wm_outcome *o, bool *same) {
         o->code = t.number;
         return 50000 + 100 * t.number + (uint32_t)t.messages;
     }
+    if (chance == 7) {
+        struct wm_reauthorized r;
+        *same = re_authorize(&r);
+        o->code = r.code;
+        return 60000 + r.code;
+    }
     *same = request(o);
     return o->code + 10000 * (o->kind == 2);
 }
@@ -692,5 +747,25 @@ int mix(uint32_t calls, uint64_t from, const char *name, bool aborts) {
         fclose(file);
     printf("mix: %u calls, %u differ, %u outcomes seen", calls, differ, kinds);
     printf(file ? ", %u messages written\n" : "\n", written);
+    return differ != 0;
+}
+
+/* What the proved gateway writes for Re-Auth-Requests by chance: each answer, and behind it the AA-Request, go into the file. */
+int re_auths(uint32_t calls, const char *name) {
+    uint32_t differ = 0, written = 0;
+    FILE *file = fopen(name, "wb");
+    if (!file)
+        return 2;
+    begin_chance(1);
+    decoded = true;
+    for (uint32_t n = 0; n < calls; n++) {
+        struct wm_reauthorized w;
+        differ += !re_authorize(&w) || !same_rooms();
+        written += keep(file, w.length);
+        if (w.request_length != 0)
+            written += fwrite(proved.target, 1, w.request_length, file) == w.request_length;
+    }
+    fclose(file);
+    printf("reauths: %u calls, %u differ, %u messages written\n", calls, differ, written);
     return differ != 0;
 }

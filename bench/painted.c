@@ -1,5 +1,5 @@
 /* A stack of 4 KiB with nothing behind it, as of a request task: how deep the C library's memory functions go on it, a request that cuts
- * a tunnel, a burst of two that do, the request for a disconnection, and the answer to that. What was not touched still has its paint. Ends with 1 where a memory function takes over LIBRARY bytes; a call that needs more
+ * a tunnel, a burst of two that do, the request for a disconnection, the answer to that, and a Re-Auth-Request at the gateway. What was not touched still has its paint. Ends with 1 where a memory function takes over LIBRARY bytes; a call that needs more
  * than 4 KiB does not come back at all. */
 
 /* The kit's compiler comes without headers, so the types and the functions of the C library stand here. */
@@ -76,6 +76,7 @@ static size_t end;
 static struct wm_outcome outcome;
 static struct wm_written written;
 static uint32_t belongs;
+static struct wm_reauthorized reauthorized;
 
 #define TEXT(s) (const uint8_t *)(s), sizeof(s) - 1
 
@@ -165,6 +166,30 @@ static void judge(void) {
     belongs = wm_abort_answered(message, end, notice, outcome.cut_session, 7, 8);
 }
 
+/* Re-Auth-Request about the access with the Session-Id "d". */
+static void ask_again(void) {
+    end = 20;
+    put_avp(263, false, TEXT("d"));
+    put_avp(258, false, TEXT("\0\0\0\1"));
+    put_avp(264, false, TEXT("server.example"));
+    put_avp(296, false, TEXT("example"));
+    put_avp(283, false, TEXT("example"));
+    put_avp(293, false, TEXT("gateway.example"));
+    put_avp(285, false, TEXT("\0\0\0\0"));
+    size_t whole = end;
+    end = 0;
+    put_number(4, 0x01000000 + (uint32_t)whole);
+    put_number(4, 0xC0000000 + 258);
+    put_number(4, 1);
+    put_number(8, 7);
+    end = whole;
+}
+
+static void authorize_again(void) {
+    reauthorized = wm_reauth(TEXT("gateway.example"), TEXT("example"), TEXT("d"), TEXT("001010123456789"), TEXT("board"), TEXT("net.example"), message,
+                             end, 7, 8, answers, WM_ANSWER_LEAST, answers + WM_ANSWER_LEAST, WM_ANSWER_LEAST);
+}
+
 int main(void) {
     uint8_t *pages = mmap(0, 2 * PAGE, 3, 0x22, -1, 0);
     stack = pages + PAGE;
@@ -191,5 +216,7 @@ int main(void) {
     put_answer();
     size_t judging = depth_of(judge);
     printf("of 4 KiB, the same way: writing an Abort-Session-Request %zu bytes, judging the answer %zu\n", writing, judging);
-    return outcome.code == 2001 && outcome.cut == 1 && written.number == 0 && belongs == 1 && taken.messages == 2 && taken.notices == 2 ? 0 : 1;
+    ask_again();
+    printf("of 4 KiB, the same way: a Re-Auth-Request that goes on %zu bytes\n", depth_of(authorize_again));
+    return reauthorized.code == 2001 && outcome.code == 2001 && outcome.cut == 1 && written.number == 0 && belongs == 1 && taken.messages == 2 && taken.notices == 2 ? 0 : 1;
 }

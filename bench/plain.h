@@ -39,6 +39,11 @@ struct wm_written plain_abort(const uint8_t *host, size_t host_length, const uin
                               uint32_t cut_realm, uint32_t hop, uint32_t end, uint8_t *room, size_t room_length);
 uint32_t plain_abort_answered(const uint8_t *answer, size_t answer_length, const uint8_t *session, size_t session_length,
                               uint32_t hop, uint32_t end);
+struct wm_reauthorized plain_reauth(const uint8_t *host, size_t host_length, const uint8_t *realm, size_t realm_length,
+                                    const uint8_t *session, size_t session_length, const uint8_t *user, size_t user_length,
+                                    const uint8_t *label, size_t label_length, const uint8_t *visited, size_t visited_length,
+                                    const uint8_t *message, size_t message_length, uint32_t hop, uint32_t end, uint8_t *answer,
+                                    size_t answer_length, uint8_t *request, size_t request_length);
 uint32_t plain_report_count(struct wm_report *report, const struct wm_told *told, size_t told_length);
 
 #endif

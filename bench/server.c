@@ -454,6 +454,7 @@ enum slot {
     ROUTING_POLICY,
     CAUSE,
     PROXY_INFO,
+    RE_AUTH_TYPE,
     SLOTS,
     KNOWN = SLOTS
 };
@@ -461,7 +462,7 @@ enum slot {
 /* M in the word of flags and length. */
 enum { MANDATORY = 0x40000000 };
 
-/* Codes without V. KNOWN are those that no list asks for. */
+/* Codes without V. KNOWN are those that no list asks for; Re-Auth-Request-Type is asked for by the gateway alone. */
 static const uint8_t base_slot[579] = {
     [1] = USER_NAME,   [258] = AUTH_APPLICATION,  [263] = SESSION_ID, [264] = ORIGIN_HOST,
     [274] = AUTH_TYPE, [283] = DESTINATION_REALM, [284] = PROXY_INFO, [293] = DESTINATION_HOST,
@@ -471,7 +472,7 @@ static const uint8_t base_slot[579] = {
     [24 ... 25] = KNOWN, [30 ... 32] = KNOWN,     [34 ... 36] = KNOWN, [60 ... 63] = KNOWN,
     [70] = KNOWN,      [73 ... 74] = KNOWN,       [77] = KNOWN,       [87] = KNOWN,
     [94 ... 96] = KNOWN, [98] = KNOWN,            [276 ... 278] = KNOWN, [282] = KNOWN,
-    [291] = KNOWN,     [401 ... 402] = KNOWN,     [578] = KNOWN};
+    [291] = KNOWN,     [401 ... 402] = KNOWN,     [578] = KNOWN,      [285] = RE_AUTH_TYPE};
 
 struct value {
     const uint8_t *start;
@@ -637,14 +638,19 @@ static inline uint32_t value(const struct avps *a, enum slot s, uint32_t least, 
             return c;      \
     } while (0)
 
-static uint32_t lists(const uint8_t *m, const struct avps *a, uint32_t form, bool opening_or_policy) {
+/* What every list begins with, the gateway's too. */
+static inline uint32_t first_five(const uint8_t *m, const struct avps *a) {
     if (!(a->seen >> SESSION_ID & 1) || number(m + 20) != 263 || m[24] >> 7)
         return 5005;
     TRY(text(a, SESSION_ID, TEXT_MOST));
     TRY(value(a, AUTH_APPLICATION, 1, 1));
     TRY(text(a, ORIGIN_HOST, TEXT_MOST));
     TRY(text(a, ORIGIN_REALM, TEXT_MOST));
-    TRY(text(a, DESTINATION_REALM, TEXT_MOST));
+    return text(a, DESTINATION_REALM, TEXT_MOST);
+}
+
+static uint32_t lists(const uint8_t *m, const struct avps *a, uint32_t form, bool opening_or_policy) {
+    TRY(first_five(m, a));
     if (opening_or_policy)
         TRY(value(a, AUTH_TYPE, 2, 2));
     else
@@ -751,9 +757,12 @@ static void decide_opening(struct call *c, struct wm_outcome *o) {
     } else if ((c->a.seen >> VISITED_NETWORK & 1) && !(e[101] & MAY_ROAM)) {
         o->kind = EXPERIMENTAL;
         o->code = 5004;
-    } else if (find_session(c->row, c->form, field(c, SESSION_ID), c->a.of[SESSION_ID].length, PLACES)) {
-        o->code = 5012;
     } else {
+        uint32_t held = find_session(c->row, c->form, field(c, SESSION_ID), c->a.of[SESSION_ID].length, PLACES);
+        if (held) { /* on this entry it stands as it is */
+            o->code = block(c, held)[1] == entry ? 2001 : 5012;
+            return;
+        }
         if (c->use.of_entry[entry] == e[102])
             cut_first(c, entry, o);
         o->place = open_access(c, entry);
@@ -878,28 +887,41 @@ struct own {
     size_t host_length, realm_length;
 };
 
+/* The header but for the length, and Session-Id. */
+static inline uint8_t *start_answer(uint8_t *answer, const uint8_t *m, uint32_t session, bool error) {
+    memcpy(answer + 4, m + 4, 16);
+    answer[4] = (uint8_t)((m[4] & 0x40) | (error ? 0x20 : 0));
+    return session ? put_text(answer + 20, 263, m + 28, session) : answer + 20;
+}
+
+static inline uint8_t *put_own(uint8_t *to, const struct own *own) {
+    to = put_text(to, 264, own->host, own->host_length);
+    return put_text(to, 296, own->realm, own->realm_length);
+}
+
+/* Proxy-Info, if there is one, and the header's length, which is given back. */
+static inline uint32_t finish_answer(uint8_t *answer, uint8_t *to, const struct avps *a) {
+    if (a->seen >> PROXY_INFO & 1)
+        to = put_proxies(to, a);
+    uint32_t length = (uint32_t)(to - answer);
+    put_number(answer, 0x01000000 | length);
+    return length;
+}
+
 static void write_answer(uint8_t *answer, const struct call *c, const struct own *own, uint32_t session,
                          struct wm_outcome *o) {
     const uint8_t *m = c->m;
     bool error = o->code - 3000 < 1000, aa = (number(m + 4) & 0xFFFFFF) == 265;
-    memcpy(answer + 4, m + 4, 16);
-    answer[4] = (uint8_t)((m[4] & 0x40) | (error ? 0x20 : 0));
-    uint8_t *to = answer + 20;
-    if (session)
-        to = put_text(to, 263, m + 28, session);
+    uint8_t *to = start_answer(answer, m, session, error);
     if (aa && !error) {
         to = put_avp_number(to, 258, 1);
         to = put_avp_number(to, 274, 2);
     }
     to = put_result(to, o);
-    to = put_text(to, 264, own->host, own->host_length);
-    to = put_text(to, 296, own->realm, own->realm_length);
+    to = put_own(to, own);
     if (aa && o->code == 2001)
         to = put_subscription(to, field(c, USER_NAME), c->a.of[USER_NAME].length);
-    if (c->a.seen >> PROXY_INFO & 1)
-        to = put_proxies(to, &c->a);
-    o->length = (uint32_t)(to - answer);
-    put_number(answer, 0x01000000 | o->length);
+    o->length = finish_answer(answer, to, &c->a);
 }
 
 /* ---- a request ---- */
@@ -1073,6 +1095,88 @@ uint32_t plain_abort_answered(const uint8_t *answer, size_t answer_length, const
         left -= padded;
     }
     return sessions == 1 && results == 1;
+}
+
+/* ---- the gateway ---- */
+
+enum { RE_AUTH = 258 };
+
+static inline uint8_t *put_vendor_text(uint8_t *to, uint32_t code, const uint8_t *from, size_t length) {
+    size_t padded = (length + 3) & ~(size_t)3;
+    put_number(to, code);
+    put_number(to + 4, 0xC0000000 | (uint32_t)(12 + length));
+    put_number(to + 8, VENDOR);
+    put_number(to + 12 + padded - 4, 0);
+    memcpy(to + 12, from, length);
+    return to + 12 + padded;
+}
+
+static uint32_t re_auth_code(const uint8_t *m, size_t length, const uint8_t *session, size_t session_length, struct avps *a) {
+    uint32_t code = 0;
+    if (m[4] & 0x0F)
+        return 5013;
+    if (m[4] & 0x20)
+        return 3008;
+    if ((number(m + 4) & 0xFFFFFF) != RE_AUTH)
+        return 3001;
+    if (number(m + 8) != 1)
+        return 3007;
+    code = walk(m, m + length, a);
+    if (code) {
+        a->seen = 0; /* no Proxy-Info is copied */
+        return code;
+    }
+    TRY(first_five(m, a));
+    TRY(text(a, DESTINATION_HOST, TEXT_MOST));
+    TRY(value(a, RE_AUTH_TYPE, 0, 0));
+    return a->of[SESSION_ID].length == session_length && memcmp(a->of[SESSION_ID].start, session, session_length) == 0 ? 0 : 5002;
+}
+
+struct wm_reauthorized plain_reauth(const uint8_t *host, size_t host_length, const uint8_t *realm, size_t realm_length,
+                                    const uint8_t *session, size_t session_length, const uint8_t *user, size_t user_length,
+                                    const uint8_t *label, size_t label_length, const uint8_t *visited, size_t visited_length,
+                                    const uint8_t *message, size_t message_length, uint32_t hop, uint32_t end, uint8_t *answer,
+                                    size_t answer_length, uint8_t *request, size_t request_length) {
+    static const uint8_t zero[4];
+    struct own own = {host, realm, host_length, realm_length};
+    struct avps a;
+    if (host_length - 1 >= TEXT_MOST || realm_length - 1 >= TEXT_MOST)
+        return (struct wm_reauthorized){2, 0, 0, 0};
+    if (answer_length < WM_ANSWER_LEAST || request_length < WM_ANSWER_LEAST)
+        return (struct wm_reauthorized){3, 0, 0, 0};
+    if (session_length - 1 >= TEXT_MOST || user_length - 1 >= TEXT_MOST || label_length - 1 >= LABEL_MOST || visited_length > TEXT_MOST)
+        return (struct wm_reauthorized){22, 0, 0, 0};
+    uint32_t code = frame_number(message, message_length);
+    if (code == 0 && !(message[4] & 0x80))
+        code = 8;
+    if (code)
+        return (struct wm_reauthorized){code, 0, 0, 0};
+    a.seen = a.twice = a.policies = 0;
+    code = re_auth_code(message, message_length, session, session_length, &a);
+    bool goes_on = code == 0;
+    code = goes_on ? 2001 : code;
+    uint8_t *to = start_answer(answer, message, first_session(message, (uint32_t)message_length), code - 3000 < 1000);
+    to = put_own(put_avp_number(to, 268, code), &own);
+    struct wm_reauthorized r = {code, RESULT, finish_answer(answer, to, &a), 0};
+    if (!goes_on)
+        return r;
+    to = put_text(request + 20, 263, session, session_length);
+    to = put_own(put_avp_number(to, 258, 1), &own);
+    to = put_text(to, 283, a.of[ORIGIN_REALM].start, a.of[ORIGIN_REALM].length);
+    to = put_avp_number(to, 274, 2);
+    to = put_text(to, 293, a.of[ORIGIN_HOST].start, a.of[ORIGIN_HOST].length);
+    to = put_text(to, 1, user, user_length);
+    to = put_vendor_text(to, 311, zero, 4);
+    if (visited_length)
+        to = put_vendor_text(to, 600, visited, visited_length);
+    to = put_vendor_text(to, 100, label, label_length);
+    r.request_length = (uint32_t)(to - request);
+    put_number(request, 0x01000000 | r.request_length);
+    put_number(request + 4, 0xC0000000 | 265);
+    put_number(request + 8, 1);
+    put_number(request + 12, hop);
+    put_number(request + 16, end);
+    return r;
 }
 
 /* ---- the year by hour ---- */

@@ -1,6 +1,6 @@
 /* A table of two rows, one for each of two operators, who have a subscriber of the same name: one of them opens a tunnel on its one W-APN, the other has
  * no W-APN. Prints the outcome, the answer's bytes, what the other operator is told, what comes of moving the table to form 2 and back, what is cut there and how its
- * gateway is asked to end it, what comes of three messages in one call, the report of that hour, and what the screen board shows of the request, of its result and of a notice. */
+ * gateway is asked to end it, what comes of three messages in one call, how a gateway is asked to have an access authorized again, the report of that hour, and what the screen board shows of the request, of its result and of a notice. */
 
 /* The kit's compiler comes without headers, so the types and the one function of the C library stand here. */
 #define WM_OWN_TYPES
@@ -18,7 +18,7 @@ int printf(const char *, ...);
 static struct wm_report report;
 static struct wm_screen screens[2] = {{WM_OFF, 0, 1, "a"}, {WM_OFF, 0, 1, "b"}};
 static uint8_t table[2 * WM_ROW], moved[2 * WM_ROW_2], back[2 * WM_ROW], message[512], answer[WM_ANSWER_LEAST], notice[WM_NOTICE_2_LEAST],
-    room[WM_ABORT_LEAST];
+    room[WM_ABORT_LEAST], request[WM_ANSWER_LEAST];
 static uint8_t messages[4 * 512], answers[2 * WM_ANSWER_LEAST], notices[4 * WM_NOTICE_2_LEAST];
 static struct wm_outcome results[4];
 
@@ -82,6 +82,20 @@ static size_t ended(const char *session) {
     at = put_avp(at, 264, false, TEXT("gateway.example"));
     at = put_avp(at, 296, false, TEXT("example"));
     put_header(at, 0x40000000 + 274);
+    return at;
+}
+
+/* A server's Re-Auth-Request about the access with a Session-Id of one letter. */
+static size_t asking(const char *session) {
+    size_t at = 20;
+    at = put_avp(at, 263, false, (const uint8_t *)session, 1);
+    at = put_avp(at, 258, false, TEXT("\0\0\0\1"));
+    at = put_avp(at, 264, false, TEXT("server.example"));
+    at = put_avp(at, 296, false, TEXT("example"));
+    at = put_avp(at, 283, false, TEXT("example"));
+    at = put_avp(at, 293, false, TEXT("gateway.example"));
+    at = put_avp(at, 285, false, TEXT("\0\0\0\0"));
+    put_header(at, 0xC0000000 + 258);
     return at;
 }
 
@@ -154,6 +168,14 @@ static void take_all(const char *sessions, size_t answer_room) {
     } while (t.messages != 0);
 }
 
+/* The gateway has the access with the Session-Id "j", at home. */
+static void authorize_again(const char *session) {
+    struct wm_reauthorized r =
+        wm_reauth(TEXT("gateway.example"), TEXT("example"), TEXT("j"), TEXT("001010123456789"), TEXT("board"), TEXT(""), message, asking(session), 11,
+                  12, answer, sizeof answer, request, sizeof request);
+    printf("authorize %s again: code %u, kind %u, an answer of %u bytes, an AA-Request of %u\n", session, r.code, r.kind, r.length, r.request_length);
+}
+
 int main(void) {
     printf("clear: %u\n", wm_clear(table, sizeof table, 1));
     printf("enter: %u\n", wm_enter(table, sizeof table, 1, 0, shares, WM_OPERATORS, TEXT("001010123456789")));
@@ -174,6 +196,8 @@ int main(void) {
     cut_and_ask("d");
     take_all("efg", sizeof answers);
     take_all("hij", WM_ANSWER_LEAST);
+    authorize_again("h");
+    authorize_again("j");
     struct wm_told told = {21, 0, o.code, o.kind, o.place, o.cut};
     printf("count: %u\n", wm_report_count(&report, &told, 1));
     struct wm_rate rate = wm_report_rate(&report);

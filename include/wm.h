@@ -1,5 +1,6 @@
 /* The Wm side of a tunnel access server: three set-up operations; requests, one at a time or in a burst; moving a table from one form to the other; asking a gateway
- * to end an access that was cut; a report of what came of requests, by hour; and a board that shows which screens are connected.
+ * to end an access that was cut; the gateway's own side of re-authorization; a report of what came of requests, by hour; and a board that shows which screens are
+ * connected.
  * docs/RULES.md has the rules.
  *
  * A table may serve several operators, 0 to 15. A row is one operator's: two of them may have a subscriber of one name, and neither finds or changes
@@ -21,9 +22,10 @@
  * - Any alignment will do for bytes. Shares, the results of a burst, a report, the list that is counted into it and a list of screens are aligned as their
  *   types ask.
  * - Buffers of one call do not overlap where one of them is not const: table, answer and notice, of a burst table, answers, notices and results, stand apart
- *   from each other and from all the rest, the target of a move from the table, the room of wm_abort from its notice and names, a report that is changed
+ *   from each other and from all the rest, the target of a move from the table, the room of wm_abort from its notice and names, both rooms of wm_reauth
+ *   from each other and from all the rest, a report that is changed
  *   from the other one and from the list, and a list of screens from the Session-Id. Those that are const may overlap each other: host, realm, message,
- *   messages, wags, name, label, shares; of wm_abort host, realm and notice, of wm_abort_answered both.
+ *   messages, wags, name, label, shares; of wm_abort host, realm and notice, of wm_abort_answered both, of wm_reauth names, access and message.
  * - While a call runs no other thread writes to anything that was lent to it, and none reads what is not const: table, answers, notices, results, target, room. A
  *   move reads its table only, wm_abort its notice.
  *   So calls on one table come one after another, in any threads, with whatever lock the caller likes. Calls with tables and rooms of
@@ -62,13 +64,13 @@ enum wm_kind { WM_NO_ANSWER = 0, WM_RESULT_CODE = 1, WM_EXPERIMENTAL_RESULT = 2 
 
 /* The numbers of refusals that are no Diameter codes. A set-up operation gives 0, 1, 33, 26, 27 or 9 to 17. A request gives 1, 33 or 2 to 8, with the
  * kind WM_NO_ANSWER, or a code that goes into its answer. A burst gives 0, 1, 33, 2 or 18; a move 0, 1 or 19 to 21; wm_abort 0, 2, 4, 22
- * or 23. A board gives 0, 25 or 24, tested in this order; a report 0, 29 or 30. Of the others the first that holds is given, in the order of these lines. */
+ * or 23; wm_reauth 2, 3, 22 or 5 to 8, tested in this order, with the kind WM_NO_ANSWER, or a code. A board gives 0, 25 or 24, tested in this order; a report 0, 29 or 30. Of the others the first that holds is given, in the order of these lines. */
 enum wm_number {
     WM_DONE = 0,             /* set-up, a burst, a move, wm_abort, a board and a report: it is done */
     WM_TABLE_LENGTH = 1,     /* the form is neither 1 nor 2, or the table is not 1 to 1,024 rows of its form: WM_ROW or WM_ROW_2 bytes each */
     WM_NO_OPERATOR = 33,     /* entering, adding, a request and a burst: the operator is over 15 */
     WM_OWN_NAMES = 2,        /* the own host or realm has not 1 to 128 bytes */
-    WM_ANSWER_ROOM = 3,      /* the answer room is under WM_ANSWER_LEAST */
+    WM_ANSWER_ROOM = 3,      /* the answer room, and of wm_reauth either room, is under WM_ANSWER_LEAST */
     WM_NOTICE_ROOM = 4,      /* the notice room is under WM_NOTICE_LEAST, in form 2 and for wm_abort under WM_NOTICE_2_LEAST */
     WM_MESSAGE_LENGTH = 5,   /* the message is under 20 or over 4,096 bytes */
     WM_VERSION = 6,          /* the message's version is not 1 */
@@ -89,7 +91,8 @@ enum wm_number {
     WM_TARGET_LENGTH = 19,   /* moving: the target is not as many rows of the other form */
     WM_UNSOUND_MOVE = 20,    /* moving: some row is damaged, and not wholly zero */
     WM_MORE_THAN_FORM_1 = 21, /* moving to form 1: some access keeps a realm or a second policy */
-    WM_CUT_LENGTHS = 22,     /* wm_abort: a length of the cut access's texts is not 1 to 128 */
+    WM_CUT_LENGTHS = 22,     /* wm_abort: a length of the cut access's texts is not 1 to 128; wm_reauth: the Session-Id or the user has not 1 to 128 bytes,
+                              * the label not 1 to 100, or the visited network over 128 */
     WM_ABORT_ROOM = 23,      /* wm_abort: the room is under WM_ABORT_LEAST */
     WM_NO_SCREEN = 24,       /* the board: the Session-Id is on no entry */
     WM_SCREENS = 25,         /* the board: over 64 entries, or a Session-Id on it twice or not of 1 to 128 bytes */
@@ -139,7 +142,7 @@ struct wm_taken {
  * either than there are whole messages before the first bad boundary is WM_BURST_PLACES, however many the rooms would let in.
  * answers, notices: the rooms. Answers stand one behind the other, each of its result's length. Notices stand one behind the other too, WM_NOTICE_LEAST bytes
  * each, WM_NOTICE_2_LEAST in form 2: the first belongs to the first result with a cut, the second to the second. What is behind them, and the results
- * behind those of the messages that were taken, stay as they were. It is in the archive libwm_burst.a, all other functions in libwm.a. */
+ * behind those of the messages that were taken, stay as they were. It is in the archive libwm_burst.a, wm_reauth in libwm_gateway.a, all other functions in libwm.a. */
 struct wm_taken wm_burst(uint8_t *table, size_t table_length, uint32_t form, uint32_t op, const uint8_t *host, size_t host_length,
                          const uint8_t *realm, size_t realm_length, const uint8_t *messages, size_t messages_length, const uint8_t *wags,
                          size_t wags_length, uint8_t *answers, size_t answers_length, uint8_t *notices, size_t notices_length,
@@ -166,6 +169,25 @@ struct wm_written wm_abort(const uint8_t *host, size_t host_length, const uint8_
 /* 1 if a message is the answer to the request with this Session-Id and these identifiers, else 0. It may be any bytes. */
 uint32_t wm_abort_answered(const uint8_t *answer, size_t answer_length, const uint8_t *session, size_t session_length, uint32_t hop,
                            uint32_t end);
+
+/* RE-AUTHORIZATION AT THE GATEWAY. A server asks a gateway by a Re-Auth-Request to have one of its accesses authorized again. The gateway answers it, and where the request is
+ * good sends an AA-Request for that access back to the server. Here the caller is the gateway.
+ * code: a number of enum wm_number, with the kind WM_NO_ANSWER and nothing written; or the Result-Code of the answer, 2001 where the gateway goes on.
+ * length: of the Re-Auth-Answer, at the front of the answer room. request_length: of the AA-Request, at the front of the request room; 0, and the room as it was,
+ * unless the code is 2001. */
+struct wm_reauthorized {
+    uint32_t code, kind, length, request_length;
+};
+
+/* host, realm: the gateway's own names. session, user, label, visited: the access that it has; visited_length is 0 where it is at home.
+ * message: the Re-Auth-Request, any bytes. hop, end: the identifiers that the AA-Request is to have, Hop-by-Hop and End-to-End; those of the answer are the
+ * message's. answer, request: rooms of at least WM_ANSWER_LEAST bytes each. A gateway with several accesses lends the one whose Session-Id the message has, or any:
+ * a message about another one gets 5002, DIAMETER_UNKNOWN_SESSION_ID. It is in the archive libwm_gateway.a, for which none of the others is needed. */
+struct wm_reauthorized wm_reauth(const uint8_t *host, size_t host_length, const uint8_t *realm, size_t realm_length,
+                                 const uint8_t *session, size_t session_length, const uint8_t *user, size_t user_length,
+                                 const uint8_t *label, size_t label_length, const uint8_t *visited, size_t visited_length,
+                                 const uint8_t *message, size_t message_length, uint32_t hop, uint32_t end, uint8_t *answer,
+                                 size_t answer_length, uint8_t *request, size_t request_length);
 
 /* THE YEAR BY HOUR. A report is numbers alone: all zero to begin with, and it may be stored and lent again as the caller likes. It may hold anything:
  * where its own totals pass 64 bits the number is WM_OVER_64_BITS.

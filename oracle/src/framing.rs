@@ -1,10 +1,11 @@
 //! Scripts as bytes. The README gives the format byte by byte.
 
 use crate::program::{Aborting, Answering, Asked, Bursting, Operation, Room};
+use crate::reauth_calls::ReAuthCall;
 use crate::script::{Changes, Expected, K1, Record, digest};
 
 pub const MAGIC: &[u8; 8] = b"WMSCRIPT";
-pub const VERSION: u32 = 5;
+pub const VERSION: u32 = 6;
 
 /// No record is longer, its type and length included.
 pub const LONGEST_RECORD: usize = 65_536;
@@ -12,7 +13,8 @@ pub const LONGEST_RECORD: usize = 65_536;
 pub const LONGEST_TABLE: usize = 8_921_664;
 /// No target of a move is longer.
 pub const LONGEST_TARGET: u32 = 65_536;
-/// No room for an answer or an Abort-Session-Request is longer.
+/// No room for an answer or an Abort-Session-Request is longer; none for an AA-Request
+/// is longer than `LONGEST_NOTICES`.
 pub const LONGEST_ANSWER: u32 = 8_192;
 /// No messages of a burst have more bytes together, and no rooms of it are longer.
 pub const LONGEST_BURST: usize = 40_960;
@@ -35,6 +37,7 @@ const MOVE: u8 = 9;
 const ABORT: u8 = 10;
 const ANSWERED: u8 = 11;
 const BURST: u8 = 12;
+const RE_AUTH: u8 = 13;
 
 /// Appends a record: type, length of the rest, body, check.
 fn frame(script: &mut Vec<u8>, kind: u8, body: &[u8]) {
@@ -155,6 +158,10 @@ fn write_operation(body: &mut Vec<u8>, operation: &Operation) -> u8 {
             write_bursting(body, asked);
             BURST
         }
+        Operation::ReAuth(call) => {
+            write_re_auth(body, call);
+            RE_AUTH
+        }
     }
 }
 
@@ -171,6 +178,23 @@ fn write_aborting(body: &mut Vec<u8>, aborting: &Aborting) {
     bytes(body, &aborting.host);
     bytes(body, &aborting.realm);
     bytes(body, &aborting.notice);
+}
+
+fn write_re_auth(body: &mut Vec<u8>, call: &ReAuthCall) {
+    words(body, call.identifiers);
+    write_room(body, call.answer_room);
+    write_room(body, call.request_room);
+    for text in [
+        &call.host,
+        &call.realm,
+        &call.session,
+        &call.user,
+        &call.label,
+        &call.visited,
+        &call.message,
+    ] {
+        bytes(body, text);
+    }
 }
 
 fn write_asked(body: &mut Vec<u8>, asked: &Asked) {
@@ -373,6 +397,7 @@ fn read_record(kind: u8, fields: &mut Fields) -> Result<Record, Defect> {
             answer: fields.bytes()?,
         }),
         BURST => Operation::Burst(read_bursting(fields)?),
+        RE_AUTH => Operation::ReAuth(read_re_auth(fields)?),
         _ => return Err("a record of no known type"),
     };
     let results = match &operation {
@@ -404,6 +429,25 @@ fn read_bursting(fields: &mut Fields) -> Result<Bursting, Defect> {
         && asked.wags.len() <= MOST_MESSAGES
         && asked.places <= MOST_MESSAGES;
     fit.then_some(asked).ok_or("a burst too long")
+}
+
+fn read_re_auth(fields: &mut Fields) -> Result<ReAuthCall, Defect> {
+    let (identifiers, answer_room) = (fields.words()?, fields.room()?);
+    let call = ReAuthCall {
+        identifiers,
+        answer_room,
+        request_room: fields.room()?,
+        host: fields.bytes()?,
+        realm: fields.bytes()?,
+        session: fields.bytes()?,
+        user: fields.bytes()?,
+        label: fields.bytes()?,
+        visited: fields.bytes()?,
+        message: fields.bytes()?,
+    };
+    let fit =
+        call.answer_room.length <= LONGEST_ANSWER && call.request_room.length <= LONGEST_NOTICES;
+    fit.then_some(call).ok_or("a room too long")
 }
 
 fn read_results(fields: &mut Fields, places: usize) -> Result<Vec<[u32; 8]>, Defect> {

@@ -15,6 +15,7 @@ use crate::operators::{Situation, all_rows, entering, namesake, operators, situa
 use crate::program::{Operation, Room};
 use crate::random::Random;
 use crate::reading_a_message::{Name, PROXY_INFO, VISITED_NETWORK};
+use crate::reauth_calls::{ReAuthDecks, re_auths};
 use crate::recorder::Recorder;
 use crate::rules::DOCUMENT_01;
 use crate::sequences::sequence;
@@ -52,6 +53,7 @@ struct Decks {
     forms: FormDecks,
     aborts: AbortDecks,
     bursts: BurstDecks,
+    re_auths: ReAuthDecks,
 }
 
 /// The calls of a script.
@@ -69,6 +71,7 @@ pub fn generate(seed: u64, calls: usize) -> Recorder {
         forms: FormDecks::new(),
         aborts: AbortDecks::new(),
         bursts: BurstDecks::new(),
+        re_auths: ReAuthDecks::default(),
     };
     for turn in 0.. {
         if recorder.is_full() {
@@ -91,6 +94,7 @@ fn round(recorder: &mut Recorder, decks: &mut Decks, random: &mut Random) {
     }
     disconnections(recorder, &mut decks.aborts, random);
     bursts(recorder, &mut decks.bursts, random);
+    re_auths(recorder, &mut decks.re_auths, random);
     for _ in 0..14 {
         let (sort, fault) = decks.singles.draw(random).clone();
         faulty(recorder, sort, &[fault], random);

@@ -43,6 +43,7 @@ pub mod program;
 pub mod random;
 pub mod reauth_calls;
 pub mod reauth_circles;
+pub mod reauth_signs;
 pub mod recorder;
 pub mod report;
 pub mod rollover;

@@ -119,7 +119,8 @@ pub fn signs_of_operators(
         | Operation::Move { .. }
         | Operation::Abort(_)
         | Operation::Answered(_)
-        | Operation::Burst(_) => return Vec::new(),
+        | Operation::Burst(_)
+        | Operation::ReAuth(_) => return Vec::new(),
         Operation::Enter { shares, .. } => {
             let new = NewRow {
                 operator: subject.operator,

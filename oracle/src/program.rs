@@ -4,10 +4,12 @@ use crate::Outcome;
 use crate::burst::{Burst, Taken};
 use crate::disconnecting::{Abort, Sent, Written};
 use crate::handling::Call;
+use crate::reauth_calls::{ReAuthCall, given_by};
+use crate::reauthorizing::{ReAuth, ReAuthorized};
 use crate::rules::Rules;
 use crate::set_up::{Account, NewEntry, NewRow};
 
-/// A program that offers the eight operations: the oracle, or one compared with it. `form`
+/// A program that offers the nine operations: the oracle, or one compared with it. `form`
 /// is the one in which the table is lent; for a move, the one to move to.
 pub trait Program {
     fn clear(&mut self, form: u32, table: &mut [u8]) -> u8;
@@ -18,6 +20,7 @@ pub trait Program {
     fn abort(&mut self, abort: &Abort, room: &mut [u8]) -> Written;
     fn belongs(&mut self, sent: &Sent, answer: &[u8]) -> bool;
     fn burst(&mut self, burst: &mut Burst) -> Taken;
+    fn re_authorize(&mut self, call: &mut ReAuth) -> ReAuthorized;
 }
 
 impl Program for Rules {
@@ -51,6 +54,10 @@ impl Program for Rules {
 
     fn burst(&mut self, burst: &mut Burst) -> Taken {
         (self.burst)(self, burst)
+    }
+
+    fn re_authorize(&mut self, call: &mut ReAuth) -> ReAuthorized {
+        (self.re_authorize)(self, call)
     }
 }
 
@@ -177,6 +184,8 @@ pub enum Operation {
     Abort(Aborting),
     Answered(Answering),
     Burst(Bursting),
+    /// The gateway's; it has no table either.
+    ReAuth(ReAuthCall),
 }
 
 impl Operation {
@@ -189,7 +198,7 @@ impl Operation {
             | Operation::Move { form, .. } => Some(*form),
             Operation::Handle(asked) => Some(asked.form),
             Operation::Burst(asked) => Some(asked.form),
-            Operation::Abort(_) | Operation::Answered(_) => None,
+            Operation::Abort(_) | Operation::Answered(_) | Operation::ReAuth(_) => None,
         }
     }
 
@@ -202,7 +211,7 @@ impl Operation {
             | Operation::Move { form, .. } => *form = number,
             Operation::Handle(asked) => asked.form = number,
             Operation::Burst(asked) => asked.form = number,
-            Operation::Abort(_) | Operation::Answered(_) => (),
+            Operation::Abort(_) | Operation::Answered(_) | Operation::ReAuth(_) => (),
         }
         self
     }
@@ -212,9 +221,10 @@ impl Operation {
 /// place, cut, and the lengths of the cut texts; set-up and moving have only the first,
 /// writing an Abort-Session-Request the length too, and of an answer the first is 1 if it
 /// belongs. A burst has its own number, how many messages and bytes were taken, and how many
-/// bytes of answers and notices were written; it alone has places for results. Set-up has
+/// bytes of answers and notices were written; it alone has places for results. A call of the
+/// gateway has code, kind, the length of the answer and that of the AA-Request. Set-up has
 /// no rooms; the target of a move, and the room for an Abort-Session-Request, stand where
-/// the answer room does.
+/// the answer room does, and that for an AA-Request where the notice room does.
 #[derive(Clone, Debug, PartialEq, Eq, Default)]
 pub struct Seen {
     pub numbers: [u32; 8],
@@ -259,6 +269,7 @@ pub fn perform(program: &mut dyn Program, operation: &Operation, table: &mut [u8
         }
         Operation::Handle(asked) => return perform_handle(program, asked, table),
         Operation::Burst(asked) => return perform_burst(program, asked, table),
+        Operation::ReAuth(call) => return perform_re_auth(program, call),
         Operation::Move { form, target } => {
             seen.answer_room = target.fresh();
             program.move_table(table, &mut seen.answer_room, *form)
@@ -317,5 +328,16 @@ fn perform_burst(program: &mut dyn Program, asked: &Bursting, table: &mut [u8]) 
         results: &mut seen.results,
     });
     seen.numbers = taken.numbers();
+    seen
+}
+
+fn perform_re_auth(program: &mut dyn Program, call: &ReAuthCall) -> Seen {
+    let given = given_by(|lent| program.re_authorize(lent), call);
+    let mut seen = Seen {
+        answer_room: given.answer_room,
+        notice_room: given.request_room,
+        ..Seen::default()
+    };
+    seen.numbers[..4].copy_from_slice(&given.result.numbers());
     seen
 }

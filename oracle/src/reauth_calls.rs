@@ -6,15 +6,16 @@ use crate::drafts::{Draft, DraftAvp};
 use crate::faults::{Fault, field_checks, too_often};
 use crate::generator::Deck;
 use crate::known_avps::{known_and_ignored, unknown};
-use crate::program::Room;
+use crate::program::{Operation, Room};
 use crate::random::Random;
 use crate::reading_a_message::{
-    AA, AUTH_APPLICATION_ID, AUTH_REQUEST_TYPE, DESTINATION_HOST, DESTINATION_REALM, Name,
-    ORIGIN_HOST, ORIGIN_REALM, PROXIABLE, PROXY_INFO, RE_AUTH, RE_AUTH_REQUEST_TYPE, REQUEST,
+    AA, AUTH_APPLICATION_ID, AUTH_REQUEST_TYPE, DESTINATION_HOST, DESTINATION_REALM, LIST_258,
+    Name, ORIGIN_HOST, ORIGIN_REALM, PROXIABLE, PROXY_INFO, RE_AUTH, RE_AUTH_REQUEST_TYPE, REQUEST,
     ROUTING_POLICY, SESSION_ID, SESSION_REQUEST_TYPE, TERMINATION, TERMINATION_CAUSE, USER_NAME,
     VENDOR_3GPP, VISITED_NETWORK, W_APN, base,
 };
 use crate::reauthorizing::{LentAccess, ReAuth, ReAuthorized, re_auth_list};
+use crate::recorder::Recorder;
 use crate::rules::Rules;
 use crate::the_table::Form;
 
@@ -52,6 +53,14 @@ impl Given {
 }
 
 pub fn given(rules: &Rules, call: &ReAuthCall) -> Given {
+    given_by(|lent| (rules.re_authorize)(rules, lent), call)
+}
+
+/// The same by whatever program there is.
+pub fn given_by(
+    re_authorize: impl FnOnce(&mut ReAuth) -> ReAuthorized,
+    call: &ReAuthCall,
+) -> Given {
     let mut answer_room = call.answer_room.fresh();
     let mut request_room = call.request_room.fresh();
     let mut lent = ReAuth {
@@ -68,7 +77,7 @@ pub fn given(rules: &Rules, call: &ReAuthCall) -> Given {
         answer_room: &mut answer_room,
         request_room: &mut request_room,
     };
-    let result = (rules.re_authorize)(rules, &mut lent);
+    let result = re_authorize(&mut lent);
     Given {
         result,
         answer_room,
@@ -163,6 +172,8 @@ enum Way {
     Message(Fault),
     /// The Session-Id of another access.
     OtherSession,
+    /// A User-Name, of which nothing is asked.
+    NameToo,
 }
 
 /// For each check, in the order in which they are made, the ways to fail it.
@@ -252,6 +263,43 @@ fn within() -> Vec<Way> {
     all
 }
 
+/// What the report asks for, one by one: each limit from both sides, two numbers at once,
+/// and the ways of the gateway's own list.
+fn edges() -> Vec<Vec<Way>> {
+    use Fault::*;
+    let mut all: Vec<Vec<Way>> = within().into_iter().map(|way| vec![way]).collect();
+    let alone = [0, 129].map(|n| [Way::Host(n), Way::Realm(n), Way::Session(n), Way::User(n)]);
+    all.extend(alone.concat().into_iter().map(|way| vec![way]));
+    let others = [Way::Label(0), Way::Label(101), Way::Visited(129)];
+    all.extend(others.map(|way| vec![way]));
+    let rooms = [Way::AnswerRoom(5_119), Way::RequestRoom(5_119)];
+    all.extend(rooms.map(|way| vec![way]));
+    let numbers = [
+        Way::Host(129),
+        Way::RequestRoom(0),
+        Way::User(0),
+        Way::Message(Size(19)),
+    ];
+    for (place, first) in numbers.iter().enumerate() {
+        let later = numbers[place + 1..].iter();
+        all.extend(later.map(|second| vec![first.clone(), second.clone()]));
+    }
+    let [host, kind] = [LIST_258[0], LIST_258[1]];
+    let of_message = [
+        NotRequest,
+        Command(AA),
+        Absent(host.name),
+        Absent(kind.name),
+        TooOften(kind),
+        Length(kind, 5),
+        Value(kind.name, 1),
+        Value(kind.name, 1 << 24),
+    ];
+    all.extend(of_message.map(|fault| vec![Way::Message(fault)]));
+    all.extend([vec![Way::OtherSession], vec![Way::NameToo]]);
+    all
+}
+
 /// A message and its call in the making.
 struct Making {
     draft: Draft,
@@ -287,6 +335,9 @@ impl Making {
                 }
             }
             Way::OtherSession => other_session(&mut call.session, random),
+            Way::NameToo => draft
+                .avps
+                .push(DraftAvp::new(USER_NAME, b"001010123456789")),
             Way::Message(Fault::TooOften(field)) => too_often(draft, field, 1, random),
             Way::Message(fault) => fault.apply_to(draft, random),
         }
@@ -353,6 +404,7 @@ pub struct ReAuthDecks {
     pairs: Deck<[Vec<Way>; 2]>,
     early_pairs: Deck<[Vec<Way>; 2]>,
     within: Deck<Way>,
+    edges: Deck<Vec<Way>>,
 }
 
 /// Every two of these checks.
@@ -373,18 +425,33 @@ impl Default for ReAuthDecks {
             pairs: Deck::new(pairs(&checks)),
             early_pairs: Deck::new(pairs(&checks[..EARLY])),
             within: Deck::new(within()),
+            edges: Deck::new(edges()),
         }
     }
 }
 
 /// A call of some sort.
 pub fn re_auth_call(decks: &mut ReAuthDecks, random: &mut Random) -> ReAuthCall {
+    let sort = random.below(12);
+    call_of(sort, decks, random)
+}
+
+/// What the report asks for; it comes up in scripts alone.
+const EDGE: usize = 12;
+
+/// A call of this sort: one fault, two early ones, two, a limit, a long message, or damage.
+fn call_of(sort: usize, decks: &mut ReAuthDecks, random: &mut Random) -> ReAuthCall {
     let mut making = Making::new(random);
-    match random.below(12) {
+    match sort {
         0..3 => making.apply(decks.singles.draw(random), random),
         3 => making.apply_both(decks.early_pairs.draw(random), random),
         4..8 => making.apply_both(decks.pairs.draw(random), random),
         8..10 => making.apply(decks.within.draw(random), random),
+        EDGE => {
+            for way in decks.edges.draw(random).clone() {
+                making.apply(&way, random);
+            }
+        }
         10 => fill(
             &mut making.draft,
             *random.pick(&[4_096, 4_096, 4_100]),
@@ -407,6 +474,14 @@ fn fill(draft: &mut Draft, size: usize, random: &mut Random) {
     let rest = size.saturating_sub(draft.bytes().len() + 8);
     let name = *random.pick(&[PROXY_INFO, base(25)]);
     draft.avps.push(DraftAvp::new(name, &random.bytes(rest)));
+}
+
+/// The calls of a round of a script: of each sort as many as let every card come up soon.
+pub fn re_auths(recorder: &mut Recorder, decks: &mut ReAuthDecks, random: &mut Random) {
+    for sort in [0, 0, 0, 0, 3, 4, 4, 8, 10, 11, EDGE, EDGE, EDGE, EDGE, EDGE] {
+        let call = call_of(sort, decks, random);
+        recorder.call(Operation::ReAuth(call), false);
+    }
 }
 
 /// So many calls, the same for one seed on every machine.

@@ -14,6 +14,7 @@ use crate::reading_a_message::{
     AA, Avp, HEADER, MANDATORY, Name, SESSION_ID, SESSION_REQUEST_TYPE, TERMINATION, USER_NAME,
     VENDOR, W_APN, header, is, number, walk_tests,
 };
+use crate::reauth_signs::{WANTED_OF_RE_AUTHS, re_auth_key, signs_of_re_auths};
 use crate::rules::DOCUMENT_01;
 use crate::the_table::{FORMS, Form, Row, decode, find, row_at};
 
@@ -66,6 +67,7 @@ fn wanted() -> Vec<String> {
         all.extend(PAIRS.map(|pair| pair_key(pair, place)));
     }
     all.extend(CASES_OF_LETTERS.map(str::to_string));
+    all.extend(HELD.map(str::to_string));
     all.extend(known_and_ignored().into_iter().map(known_key));
     all.extend(unknown().into_iter().map(unknown_key));
     all.extend([AT_FIRST, LATER, BEFORE_BROKEN, BEHIND_BROKEN].map(str::to_string));
@@ -74,6 +76,7 @@ fn wanted() -> Vec<String> {
     all.extend(WANTED_OF_FORMS.iter().cloned());
     all.extend(WANTED_OF_ABORTS.iter().cloned());
     all.extend(WANTED_OF_BURSTS.iter().cloned());
+    all.extend(WANTED_OF_RE_AUTHS.iter().cloned());
     all
 }
 
@@ -104,6 +107,12 @@ const CASES_OF_LETTERS: [&str; 12] = [
     "Session-Id in another case, 265 type 1: 5012",
     "Session-Id in another case, 275: E5042",
     "name in another case, 265 type 0: E5001",
+];
+
+/// A request of type 0 whose Session-Id stands in the row (W11).
+const HELD: [&str; 2] = [
+    "Session-Id held on that label, 265 type 0: 2001",
+    "Session-Id held on another label, 265 type 0: 5012",
 ];
 
 const RETAKEN: &str = "cut, the freed place taken again";
@@ -153,6 +162,7 @@ impl Report {
             Operation::Abort(_) => number_key("abort", code),
             Operation::Answered(_) => answered_key(code).to_string(),
             Operation::Burst(_) => number_key("burst", code),
+            Operation::ReAuth(_) => re_auth_key(seen.numbers[1], code),
             Operation::Handle(_) if seen.numbers[1] == 0 => number_key("handle", code),
             Operation::Handle(asked) => {
                 self.count_place(asked, table, seen);
@@ -161,6 +171,9 @@ impl Report {
                 format!("{}: {mark}{code}", sort(&asked.message))
             }
         };
+        if let Some(held) = held_sign(operation, table) {
+            self.add(format!("{held}, {key}"));
+        }
         let form = operation.form().and_then(Form::numbered);
         let subject = subject(operation);
         for sign in form.map_or(Vec::new(), |form| signs(&texts(operation), form, table)) {
@@ -181,6 +194,9 @@ impl Report {
             self.add(sign);
         }
         for sign in signs_of_bursts(operation, table, seen) {
+            self.add(sign);
+        }
+        for sign in signs_of_re_auths(operation, seen) {
             self.add(sign);
         }
         self.add(key);
@@ -325,7 +341,8 @@ fn subject(operation: &Operation) -> Subject<'_> {
         | Operation::Move { .. }
         | Operation::Abort(_)
         | Operation::Answered(_)
-        | Operation::Burst(_) => (0, &[][..]),
+        | Operation::Burst(_)
+        | Operation::ReAuth(_) => (0, &[][..]),
         Operation::Enter { operator, name, .. } | Operation::Add { operator, name, .. } => {
             (*operator, name.as_slice())
         }
@@ -370,6 +387,25 @@ fn texts(operation: &Operation) -> Texts<'_> {
         }
         _ => Texts::default(),
     }
+}
+
+/// Whether a request of type 0 finds its Session-Id in the row, and on which label.
+fn held_sign(operation: &Operation, table: &[u8]) -> Option<&'static str> {
+    let Operation::Handle(asked) = operation else {
+        return None;
+    };
+    if sort(&asked.message) != "265 type 0" {
+        return None;
+    }
+    let row = row_of(asked, table)?;
+    let place = row.place_of(readable(&asked.message, SESSION_ID)?)?;
+    let entry = row.entry_of(readable(&asked.message, W_APN)?)?;
+    let same = row.access(place)?.entry == entry;
+    Some(if same {
+        "Session-Id held on that label"
+    } else {
+        "Session-Id held on another label"
+    })
 }
 
 fn row_of(asked: &Asked, table: &[u8]) -> Option<Row> {

@@ -117,9 +117,8 @@ pub struct Rules {
     pub aa_avps: fn(&ReAuth, &Request) -> Vec<Vec<u8>>,
 }
 
-/// The rules as they stand: of document 02 all that has landed. With W11's landing this
-/// becomes `WITH_W11`, and the calls that are made and the report follow.
-pub const DOCUMENT_01: Rules = BEFORE_W11;
+/// The rules as they stand: of document 02 all that has landed.
+pub const DOCUMENT_01: Rules = WITH_W11;
 
 /// With the server's rule of W11: a Session-Id that is held on the same entry is granted
 /// and changes nothing, and Re-Auth-Request-Type is known.

@@ -96,6 +96,7 @@ fn written(operation: &Operation, seen: &Seen) -> (usize, usize) {
     match operation {
         Operation::Burst(_) => (numbers[3], numbers[4] * slot),
         Operation::Move { target, .. } if numbers[0] == 0 => (target.length as usize, 0),
+        Operation::ReAuth(_) => (numbers[2], numbers[3]),
         _ => (numbers[2], numbers[4] * slot),
     }
 }
@@ -160,6 +161,9 @@ fn compare(operation: &Operation, seen: &Seen, expected: &Expected) -> Result<()
         Operation::Burst(asked) => {
             compare_rooms(asked.answer_room, asked.notice_room, seen, expected)?;
         }
+        Operation::ReAuth(call) => {
+            compare_rooms(call.answer_room, call.request_room, seen, expected)?;
+        }
         Operation::Move { target, .. }
             if !room_holds(*target, &seen.answer_room, &expected.answer) =>
         {
@@ -214,7 +218,7 @@ fn compare_table(table: &[u8], expected: &Expected) -> Result<(), &'static str> 
 }
 
 /// So many calls are spoiled.
-pub const SPOILED: usize = 32;
+pub const SPOILED: usize = 40;
 
 /// Spoils what is expected of these calls, a different thing of each: of requests the eight
 /// numbers, the answer, the notice, the table, and both digests; of moves the number, the target, and
@@ -222,7 +226,8 @@ pub const SPOILED: usize = 32;
 /// Abort-Session-Requests the number, the length, the request, and a room that is expected to be written though it is
 /// refused; whether an answer belongs; of bursts the five numbers, the answers, the notices, the
 /// table, the result of the last message, a place behind it, and a room that is expected to be
-/// written though the burst is refused. Whoever plays the script must
+/// written though the burst is refused; of calls of the gateway the four numbers, the answer,
+/// the AA-Request, and either room that is expected to be written though it is not. Whoever plays the script must
 /// report just these calls; a player that reports none of them can not be trusted with a script that is
 /// right. It says how many were spoiled.
 pub fn spoil(records: &mut [Record]) -> usize {
@@ -258,7 +263,7 @@ fn spoil_record(record: &mut Record, kind: usize) -> bool {
             expected.numbers[0] ^= 1;
             true
         }
-        Record::Call(Operation::Burst(asked), expected) if kind > 20 => match kind {
+        Record::Call(Operation::Burst(asked), expected) if kind > 20 && kind < 32 => match kind {
             21..26 => spoil_number(expected, kind - 21),
             26 => spoil_last(&mut expected.answer),
             27 => spoil_last(&mut expected.notice),
@@ -266,6 +271,14 @@ fn spoil_record(record: &mut Record, kind: usize) -> bool {
             29 => spoil_result(expected, |taken| taken.checked_sub(1)),
             30 => spoil_result(expected, Some),
             _ => expected.numbers[0] > 0 && spoil_refused(asked.answer_room, expected),
+        },
+        Record::Call(Operation::ReAuth(call), expected) => match kind {
+            32..36 => spoil_number(expected, kind - 32),
+            36 => spoil_last(&mut expected.answer),
+            37 => spoil_last(&mut expected.notice),
+            38 => spoil_refused(call.answer_room, expected),
+            39 => spoil_unwritten(call.request_room, &mut expected.notice),
+            _ => false,
         },
         _ => false,
     }
@@ -278,11 +291,15 @@ fn spoil_number(expected: &mut Expected, which: usize) -> bool {
 
 /// A byte that was written, of a room that nothing is written into.
 fn spoil_refused(room: Room, expected: &mut Expected) -> bool {
-    let refused = room.length > 0 && expected.answer.is_empty();
-    if refused {
-        expected.answer = vec![room.fill(0) ^ 1];
+    spoil_unwritten(room, &mut expected.answer)
+}
+
+fn spoil_unwritten(room: Room, front: &mut Vec<u8>) -> bool {
+    let unwritten = room.length > 0 && front.is_empty();
+    if unwritten {
+        *front = vec![room.fill(0) ^ 1];
     }
-    refused
+    unwritten
 }
 
 fn spoil_request(expected: &mut Expected, kind: usize) -> bool {

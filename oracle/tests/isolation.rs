@@ -479,7 +479,8 @@ fn called_by(operation: &Operation, by: u32, form: Form, table: &[u8]) -> Operat
         Operation::Clear { .. }
         | Operation::Move { .. }
         | Operation::Abort(_)
-        | Operation::Answered(_) => (),
+        | Operation::Answered(_)
+        | Operation::ReAuth(_) => (),
         Operation::Enter {
             operator, shares, ..
         } => {

@@ -20,7 +20,7 @@ fn run(operation: &Operation, table: &mut [u8]) -> Seen {
 /// Whether a call ended in success: number 0 of a set-up, or 2001.
 fn succeeded(operation: &Operation, seen: &Seen) -> bool {
     match operation {
-        Operation::Handle(_) => seen.numbers[0] == 2001,
+        Operation::Handle(_) | Operation::ReAuth(_) => seen.numbers[0] == 2001,
         Operation::Answered(_) => seen.numbers[0] == 1,
         _ => seen.numbers[0] == 0,
     }
@@ -55,6 +55,9 @@ fn refusals_change_nothing() {
         if let Operation::Abort(aborting) = operation {
             assert_eq!(seen.numbers[2], 0);
             assert!(seen.answer_room == aborting.room.fresh());
+        }
+        if let Operation::ReAuth(call) = operation {
+            assert!(seen.notice_room == call.request_room.fresh());
         }
         if let Operation::Burst(asked) = operation {
             assert_eq!(seen.numbers[1..3], [0; 2]);

@@ -4,7 +4,7 @@ use oracle::handling::Call;
 use oracle::rules::DOCUMENT_01;
 use oracle::set_up::{Account, NewEntry, NewRow};
 use oracle::the_table::{Form, sums};
-use oracle::{Outcome, experimental, plain};
+use oracle::{Outcome, SUCCESS, experimental, plain};
 
 const NAME: &[u8] = b"001010123456789";
 
@@ -206,7 +206,8 @@ fn case_5_session_held() {
     let mut bench = after_3();
     let before = bench.table.clone();
     let outcome = bench.open(b'b');
-    assert_eq!((outcome.code, outcome.cut), (plain(5012), None));
+    assert_eq!((outcome.code, outcome.cut), (SUCCESS, None));
+    assert_eq!(outcome.place, 0);
     assert_eq!(bench.table, before);
 }
 

@@ -1,27 +1,27 @@
 -- What a request that succeeds makes of a row's accesses: which Session-Ids stand, and where.
 use mathlib.Core.Path.{_≡_, refl, sym, ap, _∙_}
 use mathlib.Core.Bool.{Bool, true, false, _&&_, _||_, not}
-use mathlib.Core.List.{List, [], _∷_, _++_, map}
+use mathlib.Core.List.{List, [], _∷_, map}
 use Prim.Native.Nat.{ℕ}
 use native.Mathlib.Omega.{arith}
-use borrow.Author.Tests.{eqb-true}
+use borrow.Author.Tests.{eqb-true, not-true}
 use lib.Dec.{eqb}
 use lib.ListN.{length}
 use Rattle.octets.specs.Choice.{pick, within}
-use Rattle.octets.specs.Lists.{every, firstOr, keep}
+use Rattle.octets.specs.Lists.{firstOr, keep}
 use Rattle.octets.specs.Texts.{same}
 use Rattle.octets.proofs.Lists.{and-left, and-right, by-test, keep-none, same-eq, same-refl}
-use Rattle.message.specs.Codes.{Code}
 use Rattle.message.specs.ReadingAMessage.{Ask, tunnel, policy, termination}
 use Rattle.table.specs.TheTable.{Access, Policies, Subscriber, line}
 use Rattle.table.specs.Soundness.{onEntry}
-use Rattle.table.proofs.Good.{Good, goodAccess, standing}
-use Rattle.changes.specs.Changes.{freed, hold, keptIn, leave, newAccess, opened, routed}
-use Rattle.rules.specs.Deciding.{entryNamed, none, placeOf, withSession}
-use Rattle.order.specs.ChecksInOrder.{Failure, check, decidingChecks, noneFails}
-use Rattle.order.specs.Demand2.{afterwards, cutFor, exceeds, firstAlone, onAsked, placeTaken, spared}
+use Rattle.table.proofs.Good.{Good}
+use Rattle.changes.specs.Changes.{Opening, freed, hold, leave, lowestFree, newAccess, opened, routed}
+use Rattle.rules.specs.Deciding.{entryNamed, none, placeOf, standsOn, withSession}
+use Rattle.order.specs.ChecksInOrder.{decidingChecks, noneFails}
+use Rattle.order.specs.Demand2.{afterwards, cutFor, exceeds, firstAlone, onAsked, opens as isNew, placeTaken, spared}
 use Rattle.order.proofs.Cuts.{cut-first}
-use Rattle.order.proofs.History.{First, first, first-alone}
+use Rattle.order.proofs.Decided.{four-pass, storing}
+use Rattle.order.proofs.History.{First, first, first-alone, new-placed}
 use Rattle.order.proofs.Taken.{keep-twice, kept-first, leaves-own}
 use Rattle.agreement.specs.TheBoardAgrees.{some}
 use Rattle.agreement.proofs.Some.{below, not-both, or-false, some-append, some-gone, some-imp, some-kept, some-none, some-one}
@@ -104,15 +104,6 @@ ended-left form sid session label s g (first a others e) =
 
 -- AN OPENING
 
-four-pass : (v w x y : Failure) (e f g h : Code) (a b c d : Bool)
-    → noneFails (check v a e ∷ check w b f ∷ check x c g ∷ check y d h ∷ []) ≡ true → d ≡ true
-unfolding check noneFails
-four-pass v w x y e f g h true true true true p = refl
-four-pass v w x y e f g h true true true false p = p
-four-pass v w x y e f g h true true false d p = not-both false p refl
-four-pass v w x y e f g h true false c d p = not-both false p refl
-four-pass v w x y e f g h false b c d p = not-both false p refl
-
 -- the Session-Id is new in the row; it stands at the place that it took; what was cut is another; and so with each other Session-Id
 pub record Opened (session : List ℕ) (place : ℕ) (cut before now' : List Access) : Type 0 where
   pub fresh : some (has session) before ≡ false
@@ -120,15 +111,42 @@ pub record Opened (session : List ℕ) (place : ℕ) (cut before now' : List Acc
   pub spared-own : some (has session) cut ≡ false
   pub others : (sid : List ℕ) → same session sid ≡ false → Became sid (some (has sid) cut) before now'
 
+-- a tunnel that does not stand on its entry yet
+module _ (session host realm label : List ℕ) (visited : Bool) (s : Subscriber) (new : isNew (tunnel session host realm label visited) s ≡ true) where
+  new-after : (form : ℕ)
+      → afterwards form (tunnel session host realm label visited) s ≡ opened (entryNamed label s) (storing form session host realm) (spared (tunnel session host realm label visited) s)
+  unfolding afterwards pick
+  new-after form = rw new
+
+  new-place : placeTaken (tunnel session host realm label visited) s ≡ lowestFree ((spared (tunnel session host realm label visited) s) .accesses)
+  unfolding placeTaken pick
+  new-place = rw new
+
+  nowhere-yet : standsOn (entryNamed label s) session s ≡ false
+  unfolding isNew
+  nowhere-yet = not-true _ new
+
+-- the new access stands behind the others
+new-behind : (sid : List ℕ) (k n : ℕ) (o : Opening) (s : Subscriber)
+    → some (at sid k) ((opened n o s) .accesses) ≡ some (at sid k) (s .accesses) || (same (o .session) sid && eqb (lowestFree (s .accesses)) k)
+unfolding opened newAccess
+new-behind sid k n o s = some-append (at sid k) (s .accesses) _ ∙ ap (λ (b : Bool). some (at sid k) (s .accesses) || b) (some-one (at sid k) _)
+
 module _ {fm : ℕ} (form : ℕ) (s : Subscriber) (g : Good fm s) (session host realm label : List ℕ) (visited wag : Bool) where
   abbrev asked : Ask
   asked = tunnel session host realm label visited
 
-  module _ (h : noneFails (decidingChecks asked wag s) ≡ true) where
+  -- where it stands already, the row stays
+  pub goes-on : (sid : List ℕ) → isNew asked s ≡ false → Became sid false (s .accesses) ((afterwards form asked s) .accesses)
+  unfolding afterwards pick
+  goes-on sid old = rw old (unmoved sid (s .accesses) (s .accesses) (λ k. refl))
+
+  module _ (new : isNew asked s ≡ true) (h : noneFails (decidingChecks asked wag s) ≡ true) where
     new-there : some (has session) (s .accesses) ≡ false
     unfolding decidingChecks none withSession
     new-there =
-        let z : none (withSession session (s .accesses)) ≡ true = four-pass _ _ _ _ _ _ _ _ _ _ _ _ h in
+        let y : none (withSession session (s .accesses)) || standsOn (entryNamed label s) session s ≡ true = (four-pass _ _ _ _ _ _ _ _ _ _ _ _ h) .3 in
+        let z : none (withSession session (s .accesses)) ≡ true = sym (or-false _) ∙ (rw (nowhere-yet session host realm label visited s new) at y) in
         some-none (has session) (has session) (s .accesses) (λ x p. p) (keep-none _ (s .accesses) (eqb-true _ 0 z))
 
     cut-left : (sid : List ℕ) → exceeds asked s ≡ true → First (onAsked asked s) → Became sid (some (has sid) (cutFor asked s)) (s .accesses) ((spared asked s) .accesses)
@@ -152,8 +170,10 @@ module _ {fm : ℕ} (form : ℕ) (s : Subscriber) (g : Good fm s) (session host 
 
     -- the new access stands behind those that are left
     behind : (sid : List ℕ) (k : ℕ) → some (at sid k) ((afterwards form asked s) .accesses) ≡ some (at sid k) ((spared asked s) .accesses) || (same session sid && eqb (placeTaken asked s) k)
-    unfolding afterwards opened newAccess placeTaken
-    behind sid k = some-append (at sid k) ((spared asked s) .accesses) _ ∙ ap (λ (b : Bool). some (at sid k) ((spared asked s) .accesses) || b) (some-one (at sid k) _)
+    behind sid k =
+        ap (λ (u : Subscriber). some (at sid k) (u .accesses)) (new-after session host realm label visited s new form)
+        ∙ new-behind sid k _ _ (spared asked s)
+        ∙ ap (λ (p : ℕ). some (at sid k) ((spared asked s) .accesses) || (same session sid && eqb p k)) (sym (new-place session host realm label visited s new))
 
     pub opens : Opened session (placeTaken asked s) (cutFor asked s) (s .accesses) ((afterwards form asked s) .accesses)
     opens =
@@ -173,16 +193,7 @@ module _ {fm : ℕ} (form : ℕ) (s : Subscriber) (g : Good fm s) (session host 
             record { stood = b .stood; left = λ q k. as-spared sid ne k ∙ b .left q k; rest = λ q k. as-spared sid ne k ∙ b .rest q k }
 
 -- the place that is taken is one of the eight
-last-passes : (f : Access → Bool) (xs : List Access) (y : Access) → every f (xs ++ (y ∷ [])) ≡ true → f y ≡ true
-unfolding every
-last-passes f [] y h = and-left (f y) _ h
-last-passes f (x ∷ xs) y h = last-passes f xs y (and-right (f x) _ h)
-
 pub place-taken : (form : ℕ) (session host realm label : List ℕ) (visited : Bool) (s : Subscriber) → Good form (afterwards form (tunnel session host realm label visited) s)
-    → within 1 8 (placeTaken (tunnel session host realm label visited) s) ≡ true
-unfolding afterwards opened newAccess placeTaken
-place-taken form session host realm label visited s g =
-    let a : List Access = (spared (tunnel session host realm label visited) s) .accesses in
-    let n : Access = newAccess a (entryNamed label s) (record { session = session; host = host; realm = keptIn form realm }) in
-    let fits : goodAccess form (length ((afterwards form (tunnel session host realm label visited) s) .entries)) n ≡ true = last-passes _ a n (g .accesses-good .each) in
-    (standing _ n fits) .place-in
+    → isNew (tunnel session host realm label visited) s ≡ true → within 1 8 (placeTaken (tunnel session host realm label visited) s) ≡ true
+place-taken form session host realm label visited s g new =
+    rw (new-place session host realm label visited s new) (new-placed form _ _ _ (rw (new-after session host realm label visited s new form) at g))

@@ -80,11 +80,6 @@ module _ (form : ℕ) (c : Call) (place : ℕ) where
   kind-told [] = refl
   kind-told (a ∷ others) = refl
 
-  pub place-told : (cut : List Access) → (reply form c (plain 2001) place cut) .result .place ≡ place
-  unfolding reply resultOf
-  place-told [] = refl
-  place-told (a ∷ others) = refl
-
   pub no-cut-told : (reply form c (plain 2001) place []) .result .cut ≡ 0
   unfolding reply resultOf
   no-cut-told = refl

@@ -1,7 +1,7 @@
 -- One screen through one call: it shows connected exactly where its Session-Id then stands.
 use mathlib.Core.Path.{_≡_, refl, sym, ap, _∙_}
 use mathlib.Core.Bool.{Bool, true, false, and-false}
-use mathlib.Core.List.{List}
+use mathlib.Core.List.{List, []}
 use Prim.Native.Nat.{ℕ}
 use borrow.Author.Tests.{eq-eqb}
 use lib.Dec.{eqb, leb}
@@ -9,22 +9,23 @@ use Rattle.octets.specs.Choice.{pick, within}
 use Rattle.octets.specs.Texts.{same}
 use Rattle.octets.proofs.Choice.{by-pick}
 use Rattle.octets.proofs.Lists.{by-test, same-eq, same-refl}
+use Rattle.message.specs.Codes.{plain}
 use Rattle.message.specs.ReadingAMessage.{Ask, tunnel, policy, termination}
 use Rattle.table.specs.TheTable.{Access, Subscriber, Table, formOf, rowAt, readRow}
 use Rattle.table.proofs.Good.{Good}
 use Rattle.table.proofs.Sound.{says-good}
-use Rattle.rules.specs.Calls.{Call, Reply}
-use Rattle.order.specs.Demand2.{afterwards, cutFor, exceeds, placeTaken}
+use Rattle.rules.specs.Calls.{Call, Reply, reply}
+use Rattle.order.specs.Demand2.{afterwards, cutFor, exceeds, opens as isNew, placeTaken}
 use Rattle.order.specs.OpenedFirst.{sessionCut}
-use Rattle.order.proofs.History.{ended-one}
+use Rattle.order.proofs.History.{ended-one, place-told}
 use Rattle.order.proofs.Taken.{same-comm}
 use Rattle.screen.specs.TheBoard.{Screen, sessionOf, Event, nothing, asks, opens, ends, cuts, requestSays, success, resultSays, told}
 use Rattle.agreement.specs.TheBoardAgrees.{some, standsAt, standsOnce, connectedAt, Truthful, kindAsked, sessionAsked, Way, resultFirst, noticeFirst, refusedLeftOut}
 use Rattle.agreement.proofs.Some.{not-both, or-false, some-one}
-use Rattle.agreement.proofs.Accesses.{Became, Opened, ended-left, has, opens as opens-row, place-taken, routed-stays}
-use Rattle.agreement.proofs.Tables.{New, Turned, new, turned}
+use Rattle.agreement.proofs.Accesses.{Became, Opened, ended-left, goes-on, has, opens as opens-row, place-taken, routed-stays}
+use Rattle.agreement.proofs.Tables.{New, Turned, new as new-in, turned}
 use Rattle.agreement.proofs.Screens.{Alike, Dark, Lit, alike-self, quiet, session-stays, told-cuts, told-ends, told-opens, told-other, told-quiet}
-use Rattle.agreement.proofs.Calls.{CutTold, Done, code-told, cut-is-told, kind-told, no-cut, no-cut-told, one-cut, place-told}
+use Rattle.agreement.proofs.Calls.{CutTold, Done, code-told, cut-is-told, kind-told, no-cut, no-cut-told, one-cut}
 
 -- WHAT A SCREEN IS TOLD OF A CALL
 
@@ -140,7 +141,7 @@ module _ (t u : Table) (c : Call) (q : Ask) (r : Reply) (d : Done t u c q r) whe
   kind-is = ap (λ (x : Reply). x .result .kind) (d .replied) ∙ kind-told (t .form) c _ (cutFor q sub)
 
   place-is : r .result .place ≡ placeTaken q sub
-  place-is = ap (λ (x : Reply). x .result .place) (d .replied) ∙ place-told (t .form) c _ (cutFor q sub)
+  place-is = ap (λ (x : Reply). x .result .place) (d .replied) ∙ place-told (t .form) c (plain 2001) _ (cutFor q sub)
 
   turned-by : (sid : List ℕ) (gone : Bool) → Became sid gone (sub .accesses) ((afterwards (t .form) q sub) .accesses) → Turned t u sid gone
   turned-by sid gone b =
@@ -199,7 +200,7 @@ module _ (t u : Table) (c : Call) (session label : List ℕ) (r : Reply) (d : Do
       (λ other. let stays : through way ending r s ≡ s = ends-through way s ∙ ap (told session ends) (told-other session nothing s other) ∙ told-other session ends s other in
       rw stays (still-true t u s s refl i (alike-self s (i .one-of-four)) ((ended-turned (sessionOf s)) .rest (same-comm session (sessionOf s) ∙ other))))
 
--- an opening: its screen is connected, and that of the cut is marked
+-- a tunnel that is asked for: it stands already, or it is opened
 module _ (t u : Table) (c : Call) (session host realm label : List ℕ) (visited : Bool) (r : Reply) (d : Done t u c (tunnel session host realm label visited) r) where
   abbrev opening : Ask
   opening = tunnel session host realm label visited
@@ -210,85 +211,113 @@ module _ (t u : Table) (c : Call) (session host realm label : List ℕ) (visited
   good-before : Good (formOf (rowAt t (d .i))) says-before
   good-before = says-good (rowAt t (d .i)) (d .was-sound)
 
-  place-fits : within 1 8 (placeTaken opening says-before) ≡ true
-  place-fits =
-      place-taken (t .form) session host realm label visited says-before
-      (rw (d .form-after, d .says) at (says-good (rowAt u (d .i)) (d .is-sound)))
+  -- one that stands already goes on: nothing moves
+  module _ (old : isNew opening says-before ≡ false) where
+    uncut-yet : cutFor opening says-before ≡ []
+    unfolding cutFor exceeds pick
+    uncut-yet = rw old
 
-  row-opened : Opened session (placeTaken opening says-before) (cutFor opening says-before) (says-before .accesses) ((afterwards (t .form) opening says-before) .accesses)
-  row-opened = opens-row (t .form) says-before good-before session host realm label visited (c .wag) (d .passes)
+    none-cut : r .result .cut ≡ 0
+    none-cut = ap (λ (x : Reply). x .result .cut) (d .replied) ∙ ap (λ (l : List Access). (reply (t .form) c (plain 2001) (placeTaken opening says-before) l) .result .cut) uncut-yet ∙ no-cut-told (t .form) c _
 
-  cut-told : CutTold (cutFor opening says-before) r
-  cut-told = rw (d .replied) (cut-is-told (t .form) c _ session host realm label visited (c .wag) says-before good-before (d .passes))
+    nowhere-new : r .result .place ≡ 0
+    unfolding placeTaken pick
+    nowhere-new = place-is t u c opening r d ∙ rw old
 
-  -- what its screen is told
-  asks-by : (s : Screen) → requested opening s ≡ told session asks s
-  unfolding kindAsked sessionAsked requestSays pick
-  asks-by s = refl
+    hushed : quiet (resultSays (kindAsked opening) (r .result .code) (r .result .kind) (r .result .place)) ≡ true
+    unfolding kindAsked resultSays success quiet within pick
+    hushed = rw (code-is t u c opening r d, kind-is t u c opening r d, nowhere-new)
 
-  opens-by : (s : Screen) → answered opening r s ≡ told session (opens (placeTaken opening says-before)) s
-  unfolding kindAsked sessionAsked resultSays success pick
-  opens-by s = rw (code-is t u c opening r d, kind-is t u c opening r d, place-is t u c opening r d, place-fits)
+    pub goes-on-true : (way : Way) (s : Screen) → Truthful t s → Truthful u (through way opening r s)
+    goes-on-true way s i =
+        still-true t u s _ (session-through way opening r s) i
+        (alike-through opening r none-cut hushed way s (i .one-of-four))
+        ((turned-by t u c opening r d (sessionOf s) false (goes-on (t .form) says-before good-before session host realm label visited (c .wag) (sessionOf s) old)) .rest refl)
 
-  -- the screen of the Session-Id that is opened
-  module _ (s : Screen) (own : sessionOf s ≡ session) where
-    unnoticed : (v : Screen) → sessionOf v ≡ sessionOf s → noticed r v ≡ v
-    unnoticed v e = notice-other (cutFor opening says-before) r cut-told v (ap (λ (x : List ℕ). some (has x) (cutFor opening says-before)) (e ∙ own) ∙ row-opened .spared-own)
+  -- an opening: its screen is connected, and that of the cut is marked
+  module _ (new : isNew opening says-before ≡ true) where
+    place-fits : within 1 8 (placeTaken opening says-before) ≡ true
+    place-fits =
+        place-taken (t .form) session host realm label visited says-before
+        (rw (d .form-after, d .says) at (says-good (rowAt u (d .i)) (d .is-sound))) new
 
-    both-told : answered opening r (requested opening s) ≡ told session (opens (placeTaken opening says-before)) (told session asks s)
-    both-told = opens-by (requested opening s) ∙ ap (told session (opens (placeTaken opening says-before))) (asks-by s)
+    row-opened : Opened session (placeTaken opening says-before) (cutFor opening says-before) (says-before .accesses) ((afterwards (t .form) opening says-before) .accesses)
+    row-opened = opens-row (t .form) says-before good-before session host realm label visited (c .wag) new (d .passes)
 
-    own-through : (way : Way) → through way opening r s ≡ told session (opens (placeTaken opening says-before)) (told session asks s)
-    unfolding through
-    own-through resultFirst = unnoticed _ (session-stays _ _ _ ∙ session-stays _ _ s) ∙ both-told
-    own-through noticeFirst = ap (answered opening r) (unnoticed _ (session-stays _ _ s)) ∙ both-told
-    own-through refusedLeftOut = fed-success t u c opening r d s ∙ unnoticed _ (session-stays _ _ _ ∙ session-stays _ _ s) ∙ both-told
+    cut-told : CutTold (cutFor opening says-before) r
+    cut-told = rw (d .replied) (cut-is-told (t .form) c _ session host realm label visited (c .wag) says-before good-before (d .passes))
 
-    own-true : (way : Way) → Truthful t s → standsOnce u (sessionOf s) ≡ true → Truthful u (through way opening r s)
-    own-true way i once =
-        let n : New t u session (placeTaken opening says-before) =
-        new t u (d .i) (d .rows-changed) (d .was-sound) (d .is-sound) session _ (cutFor opening says-before) (rw (d .says) row-opened) (rw own at once) in
-        let dark : connectedAt (s .place) s ≡ false = i .exactly (s .place) ∙ ap (λ (x : List ℕ). standsAt t x (s .place)) own ∙ n .nowhere (s .place) in
-        let lit : Lit (through way opening r s) (placeTaken opening says-before) =
-        rw (own-through way) (told-opens session _ s (i .one-of-four) (ap (λ (x : List ℕ). same x session) own ∙ same-refl session) dark) in
-        lit-true t u s _ (session-through way opening r s) _ lit (λ k. ap (λ (x : List ℕ). standsAt u x k) own ∙ n .there k)
+    -- what its screen is told
+    asks-by : (s : Screen) → requested opening s ≡ told session asks s
+    unfolding kindAsked sessionAsked requestSays pick
+    asks-by s = refl
 
-  -- any other screen
-  module _ (s : Screen) (other : same (sessionOf s) session ≡ false) where
-    not-asked : requested opening s ≡ s
-    not-asked = asks-by s ∙ told-other session asks s other
+    opens-by : (s : Screen) → answered opening r s ≡ told session (opens (placeTaken opening says-before)) s
+    unfolding kindAsked sessionAsked resultSays success pick
+    opens-by s = rw (code-is t u c opening r d, kind-is t u c opening r d, place-is t u c opening r d, place-fits)
 
-    not-answered : (v : Screen) → sessionOf v ≡ sessionOf s → answered opening r v ≡ v
-    not-answered v e = opens-by v ∙ told-other session _ v (ap (λ (x : List ℕ). same x session) e ∙ other)
+    -- the screen of the Session-Id that is opened
+    module _ (s : Screen) (own : sessionOf s ≡ session) where
+      unnoticed : (v : Screen) → sessionOf v ≡ sessionOf s → noticed r v ≡ v
+      unnoticed v e = notice-other (cutFor opening says-before) r cut-told v (ap (λ (x : List ℕ). some (has x) (cutFor opening says-before)) (e ∙ own) ∙ row-opened .spared-own)
 
-    first-way : noticed r (answered opening r (requested opening s)) ≡ noticed r s
-    first-way = ap (λ (v : Screen). noticed r (answered opening r v)) not-asked ∙ ap (noticed r) (not-answered s refl)
+      both-told : answered opening r (requested opening s) ≡ told session (opens (placeTaken opening says-before)) (told session asks s)
+      both-told = opens-by (requested opening s) ∙ ap (told session (opens (placeTaken opening says-before))) (asks-by s)
 
-    other-through : (way : Way) → through way opening r s ≡ noticed r s
-    unfolding through
-    other-through resultFirst = first-way
-    other-through noticeFirst = ap (λ (v : Screen). answered opening r (noticed r v)) not-asked ∙ not-answered (noticed r s) (session-noticed r s)
-    other-through refusedLeftOut = fed-success t u c opening r d s ∙ first-way
+      own-through : (way : Way) → through way opening r s ≡ told session (opens (placeTaken opening says-before)) (told session asks s)
+      unfolding through
+      own-through resultFirst = unnoticed _ (session-stays _ _ _ ∙ session-stays _ _ s) ∙ both-told
+      own-through noticeFirst = ap (answered opening r) (unnoticed _ (session-stays _ _ s)) ∙ both-told
+      own-through refusedLeftOut = fed-success t u c opening r d s ∙ unnoticed _ (session-stays _ _ _ ∙ session-stays _ _ s) ∙ both-told
 
-    other-true : (way : Way) → Truthful t s → standsOnce t (sessionOf s) ≡ true → Truthful u (through way opening r s)
-    other-true way i once =
-        let gone : Bool = some (has (sessionOf s)) (cutFor opening says-before) in
-        let b : Turned t u (sessionOf s) gone = turned-by t u c opening r d (sessionOf s) gone (row-opened .others (sessionOf s) (same-comm session (sessionOf s) ∙ other)) in
-        by-test gone
-        (λ g. dark-true t u s _ (session-through way opening r s)
-        (rw (other-through way) (notice-own (cutFor opening says-before) r cut-told s (i .one-of-four) g)) (b .left g once))
-        (λ g. let stays : through way opening r s ≡ s = other-through way ∙ notice-other (cutFor opening says-before) r cut-told s g in
-        rw stays (still-true t u s s refl i (alike-self s (i .one-of-four)) (b .rest g)))
+      own-true : (way : Way) → Truthful t s → standsOnce u (sessionOf s) ≡ true → Truthful u (through way opening r s)
+      own-true way i once =
+          let n : New t u session (placeTaken opening says-before) =
+          new-in t u (d .i) (d .rows-changed) (d .was-sound) (d .is-sound) session _ (cutFor opening says-before) (rw (d .says) row-opened) (rw own at once) in
+          let dark : connectedAt (s .place) s ≡ false = i .exactly (s .place) ∙ ap (λ (x : List ℕ). standsAt t x (s .place)) own ∙ n .nowhere (s .place) in
+          let lit : Lit (through way opening r s) (placeTaken opening says-before) =
+          rw (own-through way) (told-opens session _ s (i .one-of-four) (ap (λ (x : List ℕ). same x session) own ∙ same-refl session) dark) in
+          lit-true t u s _ (session-through way opening r s) _ lit (λ k. ap (λ (x : List ℕ). standsAt u x k) own ∙ n .there k)
 
-  pub open-true : (way : Way) (s : Screen) → Truthful t s → standsOnce t (sessionOf s) ≡ true → standsOnce u (sessionOf s) ≡ true → Truthful u (through way opening r s)
-  open-true way s i before now' =
-      by-test (same (sessionOf s) session)
-      (λ own. own-true s (same-eq (sessionOf s) session own) way i now')
-      (λ other. other-true s other way i before)
+    -- any other screen
+    module _ (s : Screen) (other : same (sessionOf s) session ≡ false) where
+      not-asked : requested opening s ≡ s
+      not-asked = asks-by s ∙ told-other session asks s other
+
+      not-answered : (v : Screen) → sessionOf v ≡ sessionOf s → answered opening r v ≡ v
+      not-answered v e = opens-by v ∙ told-other session _ v (ap (λ (x : List ℕ). same x session) e ∙ other)
+
+      first-way : noticed r (answered opening r (requested opening s)) ≡ noticed r s
+      first-way = ap (λ (v : Screen). noticed r (answered opening r v)) not-asked ∙ ap (noticed r) (not-answered s refl)
+
+      other-through : (way : Way) → through way opening r s ≡ noticed r s
+      unfolding through
+      other-through resultFirst = first-way
+      other-through noticeFirst = ap (λ (v : Screen). answered opening r (noticed r v)) not-asked ∙ not-answered (noticed r s) (session-noticed r s)
+      other-through refusedLeftOut = fed-success t u c opening r d s ∙ first-way
+
+      other-true : (way : Way) → Truthful t s → standsOnce t (sessionOf s) ≡ true → Truthful u (through way opening r s)
+      other-true way i once =
+          let gone : Bool = some (has (sessionOf s)) (cutFor opening says-before) in
+          let b : Turned t u (sessionOf s) gone = turned-by t u c opening r d (sessionOf s) gone (row-opened .others (sessionOf s) (same-comm session (sessionOf s) ∙ other)) in
+          by-test gone
+          (λ g. dark-true t u s _ (session-through way opening r s)
+          (rw (other-through way) (notice-own (cutFor opening says-before) r cut-told s (i .one-of-four) g)) (b .left g once))
+          (λ g. let stays : through way opening r s ≡ s = other-through way ∙ notice-other (cutFor opening says-before) r cut-told s g in
+          rw stays (still-true t u s s refl i (alike-self s (i .one-of-four)) (b .rest g)))
+
+    pub open-true : (way : Way) (s : Screen) → Truthful t s → standsOnce t (sessionOf s) ≡ true → standsOnce u (sessionOf s) ≡ true → Truthful u (through way opening r s)
+    open-true way s i before now' =
+        by-test (same (sessionOf s) session)
+        (λ own. own-true s (same-eq (sessionOf s) session own) way i now')
+        (λ other. other-true s other way i before)
 
 -- any of them
 pub done-true : (t u : Table) (c : Call) (q : Ask) (r : Reply) → Done t u c q r
     → (way : Way) (s : Screen) → Truthful t s → standsOnce t (sessionOf s) ≡ true → standsOnce u (sessionOf s) ≡ true → Truthful u (through way q r s)
-done-true t u c (tunnel session host realm label visited) r d way s i before now' = open-true t u c session host realm label visited r d way s i before now'
+done-true t u c (tunnel session host realm label visited) r d way s i before now' =
+    by-test (isNew (tunnel session host realm label visited) (readRow (rowAt t (d .i))))
+    (λ new. open-true t u c session host realm label visited r d new way s i before now')
+    (λ old. goes-on-true t u c session host realm label visited r d old way s i)
 done-true t u c (policy session one two three) r d way s i before now' = policy-true t u c session one two three r d way s i
 done-true t u c (termination session label) r d way s i before now' = end-true t u c session label r d way s i before

@@ -14,7 +14,7 @@ use Rattle.message.specs.ReadingAMessage.{tunnel, policy, termination}
 use Rattle.table.specs.Soundness.{onEntry}
 use Rattle.table.specs.TheTable.{Access, Entry, Policies, Subscriber, barred, line, mayRoam, places}
 use Rattle.changes.specs.Changes.{Opening, freed, hold, keptIn, leave, lowestFree, newAccess, opened, routed, vacant, withAccesses}
-use Rattle.rules.specs.Deciding.{Verdict, admit, atLimit, atPlace, decide, entryAt, entryNamed, firstOn, grant, heldAlready, none, openOn, placeOf, refuse, terminate, type0, type1, withSession}
+use Rattle.rules.specs.Deciding.{Verdict, admit, atLimit, atPlace, decide, entryAt, entryNamed, firstOn, grant, heldAlready, none, openOn, placeOf, refuse, standsOn, terminate, type0, type1, withSession}
 use Rattle.changeover.specs.TheChangeOver.{DecidedAlike, decidedWithout, withoutRealm, withoutRealms}
 
 -- ACCESSES
@@ -112,6 +112,13 @@ place-said : (q : List ℕ) (s : Subscriber) → placeOf (withSession q ((withou
 unfolding withoutRealms
 place-said q s = ap placeOf (session-without q (s .accesses)) ∙ place-without (withSession q (s .accesses))
 
+stands-said : (n : ℕ) (q : List ℕ) (s : Subscriber) → standsOn n q (withoutRealms s) ≡ standsOn n q s
+unfolding withoutRealms standsOn
+stands-said n q s =
+    ap (λ (a : List Access). not (none (withSession q a))) (on-without n (s .accesses))
+    ∙ ap (λ (a : List Access). not (none a)) (session-without q (onEntry n (s .accesses)))
+    ∙ ap not (none-without (withSession q (onEntry n (s .accesses))))
+
 mine-said : (q l : List ℕ) (s : Subscriber)
     → withSession q (onEntry (entryNamed l (withoutRealms s)) ((withoutRealms s) .accesses)) ≡ map withoutRealm (withSession q (onEntry (entryNamed l s) (s .accesses)))
 unfolding withoutRealms entryNamed
@@ -131,9 +138,11 @@ grant-without : (s : Subscriber) → grant (withoutRealms s) ≡ decidedWithout 
 unfolding grant decidedWithout
 grant-without s = refl
 
-already-without : (s : Subscriber) → heldAlready (withoutRealms s) ≡ decidedWithout (heldAlready s)
+already-without : (n : ℕ) (session : List ℕ) (s : Subscriber) → heldAlready n session (withoutRealms s) ≡ decidedWithout (heldAlready n session s)
 unfolding heldAlready
-already-without s = refuse-without (plain 5012) s
+already-without n session s =
+    ap (λ (b : Bool). pick b (grant (withoutRealms s)) (refuse (plain 5012) (withoutRealms s))) (stands-said n session s)
+    ∙ either (standsOn n session s) _ _ (grant-without s) (refuse-without (plain 5012) s)
 
 -- an opening, with the realm and without
 module _ (session host realm : List ℕ) where
@@ -181,19 +190,19 @@ module _ (session host realm : List ℕ) where
       (λ (m : ℕ). pick (eqb m 0) (refuse noSubscription (withoutRealms s))
       (pick (barred (entryAt m (withoutRealms s))) (refuse (plain 5003) (withoutRealms s))
       (pick (visited && not (mayRoam (entryAt m (withoutRealms s)))) (refuse roamingNotAllowed (withoutRealms s))
-      (pick (not (none (withSession session ((withoutRealms s) .accesses)))) (heldAlready (withoutRealms s))
+      (pick (not (none (withSession session ((withoutRealms s) .accesses)))) (heldAlready m session (withoutRealms s))
       (admit m old (withoutRealms s))))))
       ∙ entry-said n s
       (λ (e : Entry). pick (eqb n 0) (refuse noSubscription (withoutRealms s))
       (pick (barred e) (refuse (plain 5003) (withoutRealms s))
       (pick (visited && not (mayRoam e)) (refuse roamingNotAllowed (withoutRealms s))
-      (pick (not (none (withSession session ((withoutRealms s) .accesses)))) (heldAlready (withoutRealms s))
+      (pick (not (none (withSession session ((withoutRealms s) .accesses)))) (heldAlready n session (withoutRealms s))
       (admit n old (withoutRealms s))))))
       ∙ either (eqb n 0) _ _ (refuse-without noSubscription s)
       (either (barred (entryAt n s)) _ _ (refuse-without (plain 5003) s)
       (either (visited && not (mayRoam (entryAt n s))) _ _ (refuse-without roamingNotAllowed s)
-      (ap (λ (b : Bool). pick (not b) (heldAlready (withoutRealms s)) (admit n old (withoutRealms s))) (none-said session s)
-      ∙ either (not (none (withSession session (s .accesses)))) _ _ (already-without s) (admit-without n s))))
+      (ap (λ (b : Bool). pick (not b) (heldAlready n session (withoutRealms s)) (admit n old (withoutRealms s))) (none-said session s)
+      ∙ either (not (none (withSession session (s .accesses)))) _ _ (already-without n session s) (admit-without n s))))
 
 type1-without : (session : List ℕ) (p : Policies) (wag : Bool) (s : Subscriber) → type1 session p wag (withoutRealms s) ≡ decidedWithout (type1 session p wag s)
 unfolding type1

@@ -28,7 +28,7 @@ use Rattle.table.proofs.Form.{is-sized}
 use Rattle.table.proofs.Good.{by-form}
 use Rattle.table.proofs.Rows.{form-in, row-form}
 use Rattle.plans.specs.declared.Plan.{Plan}
-use Rattle.plans.specs.declared.Plan.the-variants.{NotSubscribed, Barred, RoamingNotAllowed, UnableToComply, UnusedByUser, Open, Route, Free}
+use Rattle.plans.specs.declared.Plan.the-variants.{NotSubscribed, Barred, RoamingNotAllowed, UnableToComply, UnusedByUser, Stands, Open, Route, Free}
 use Rattle.message.specs.WritingTheAnswer.{answer, answerRoom}
 use Rattle.effects.specs.declared.Done.{Done}
 use Rattle.decision.specs.declared.Decided.{Decided}
@@ -62,6 +62,7 @@ plan-code b Barred s = refl
 plan-code b RoamingNotAllowed s = refl
 plan-code b UnableToComply s = refl
 plan-code b UnusedByUser s = refl
+plan-code b Stands s = refl
 plan-code b (Open n k) s = by-test (eqb k 0) (λ e. rw e) (λ e. rw e)
 plan-code b (Route k) s = refl
 plan-code b (Free k) s = refl
@@ -73,6 +74,7 @@ plan-small Barred = omega arith
 plan-small RoamingNotAllowed = omega arith
 plan-small UnableToComply = omega arith
 plan-small UnusedByUser = omega arith
+plan-small Stands = omega arith
 plan-small (Open n k) = omega arith
 plan-small (Route k) = omega arith
 plan-small (Free k) = omega arith

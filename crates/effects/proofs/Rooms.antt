@@ -6,16 +6,18 @@ use Prim.Native.Nat.{ℕ, _+_, _-_, _*_, _≤_}
 use native.Mathlib.Omega.{arith}
 use borrow.Author.Tests.{eq-eqb, eqb-true, ne-eqb, not-true}
 use lib.Dec.{eqb}
-use lib.ListN.{length, take, drop, length-append}
-use lib.Seq.{take-all, take-at}
+use lib.ListN.{length, take, drop, length-append, take-append-drop}
+use lib.Seq.{drop-drop, take-all, take-at}
 use Rattle.octets.specs.Choice.{pick, within}
 use Rattle.octets.specs.Lists.{distinct, every, isOn, keep}
 use Rattle.octets.specs.Texts.{filled, part, put, zeros}
+use Rattle.message.specs.Codes.{numberOf}
+use Rattle.table.specs.Answers.{lent}
 use Rattle.table.specs.Soundness.{sound}
-use Rattle.table.specs.TheTable.{Access, Table, accessAt, accessBytes, firstBlock, firstBytes, formOf, held, orderLine, place, placeLength, readAccess, readRow, rowAt, sealed, secondBlock, secondBytes, sumsFrom, width}
+use Rattle.table.specs.TheTable.{Access, Table, accessAt, accessBytes, firstBlock, firstBytes, formOf, held, orderLine, place, placeLength, readAccess, readRow, rowAt, rowBytes, sealed, secondBlock, secondBytes, sumsFrom, width, withRow}
 use Rattle.changes.proofs.Steps.{keep-map}
-use Rattle.rules.specs.Calls.{noticeBytes, noticeLength, noticeRoom}
-use Rattle.rules.specs.Deciding.{atPlace}
+use Rattle.rules.specs.Calls.{noticeBytes, noticeLength, noticeRoom, tableAfter}
+use Rattle.rules.specs.Deciding.{atPlace, grant}
 use Rattle.octets.proofs.Lists.{and-left, and-right, by-test, eqb-comm, every-imp, on-cons, on-none, within-high, within-low}
 use Rattle.octets.proofs.Texts.{length-filled, length-part, put-then}
 use Rattle.row.proofs.Entries.{realm-said, row-of}
@@ -29,6 +31,19 @@ use Rattle.table.proofs.Sound.{clauses, row-is}
 pub form-there : (t : Table) (i : ℕ) → width t * i + width t ≤ length (t .bytes) → formOf (rowAt t i) ≡ t .form
 unfolding rowAt
 form-there t i h = row-form (part (t .bytes) (width t * i) (width t)) (t .form) (length-part (t .bytes) (width t * i) (width t) h)
+
+-- A ROW THAT IS WRITTEN AS IT READS
+
+put-back : (s : List ℕ) (a n : ℕ) → a + n ≤ length s → put s a (part s a n) ≡ s
+unfolding put
+put-back s a n h = rw (length-part s a n h, ← drop-drop n a s, take-append-drop n (drop a s)) (take-append-drop a s)
+
+pub row-stays : (t : Table) (i : ℕ) → width t * i + width t ≤ length (t .bytes) → sound (rowAt t i) ≡ true → tableAfter t i (grant (readRow (rowAt t i))) ≡ t
+unfolding tableAfter grant withRow rowAt numberOf pick
+row-stays t i h s =
+    let r : List ℕ = rowAt t i in
+    let reads : rowBytes (t .form) (readRow r) ≡ r = ap (λ (f : ℕ). rowBytes f (readRow r)) (sym (form-there t i h)) ∙ sym (row-is r s) in
+    ap (λ (b : List ℕ). withRow t i b) reads ∙ ap (λ (b : List ℕ). lent (t .form) b) (put-back (t .bytes) (width t * i) (width t) h)
 
 -- THE ACCESS AT A PLACE
 

@@ -95,7 +95,7 @@ fn nothing() -> Done
     }
 }
 
-// A plan carried out for a request that brings these texts. A refusal changes nothing.
+// A plan carried out for a request that brings these texts. A refusal changes nothing, and nor does an access that goes on.
 pub fn carry(
     table: &mut [u8],
     form: usize,
@@ -149,6 +149,9 @@ pub fn carry(
             return nothing();
         }
         Plan::UnusedByUser => {
+            return nothing();
+        }
+        Plan::Stands => {
             return nothing();
         }
     }

@@ -14,7 +14,7 @@ use Rattle.octets.specs.Lists.{every}
 use Rattle.octets.specs.Texts.{part, same}
 use Rattle.octets.proofs.Lists.{by-test, and-left, within-high}
 use Rattle.octets.proofs.Choice.{first-passes, others-pass}
-use Rattle.message.specs.ReadingAMessage.{Avp, Name, application, avps, command, destinationHost, fieldCode, firstValue, flags, forBoth, having, numberField, originHost, originRealm, present, proxyInfo, sessionId, startsWith, testedAs, textField, valueOf, walkCode}
+use Rattle.message.specs.ReadingAMessage.{Avp, Name, application, avps, command, destinationHost, fieldCode, firstValue, flags, forBoth, having, numberField, originHost, originRealm, present, proxyInfo, sessionId, startsWith, testedAs, textField, valueOf, walkCode, reAuthRequestType}
 use Rattle.message.specs.Positions.{names, nameAt, howOften, slotSays, Gathered}
 use Rattle.message.specs.declared.Span.{Span}
 use Rattle.message.specs.declared.Both.{Both}
@@ -23,7 +23,7 @@ use Rattle.message.proofs.Both.{the-type}
 use Rattle.message.specs.Spans.{Holds, bothCode, failedWith}
 use Rattle.message.proofs.Listing.{first-append, first-go, first-one, first-stop, above-zero}
 use Rattle.message.proofs.Tested.{fitsIn, each-fits, passes-each}
-use Rattle.gateway.specs.TheGateway.{fields, headerCode, listCode, reAuthRequestType, readingCode}
+use Rattle.gateway.specs.TheGateway.{fields, headerCode, listCode, readingCode}
 use Rattle.gateway.specs.Code.{FieldsOf, HeardOf, fieldsCode, hasProxies, restCode}
 
 -- THE HEADER

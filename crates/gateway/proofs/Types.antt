@@ -13,13 +13,12 @@ use Rattle.octets.specs.Texts.{part}
 use Rattle.octets.specs.Numbers.{net24, net32, up4}
 use Rattle.octets.proofs.Lists.{by-test, within-low, within-high, in-within, eqb-comm}
 use Rattle.octets.proofs.Texts.{length-part}
-use Rattle.message.specs.ReadingAMessage.{Avp, Walk, sameName, headLength, avpOf, avps, having, numberIn, numberField, requestCode, testedAs, fieldCode, walkCode}
+use Rattle.message.specs.ReadingAMessage.{Avp, Walk, sameName, headLength, avpOf, avps, having, numberIn, numberField, requestCode, testedAs, fieldCode, walkCode, reAuthRequestType}
 use Rattle.message.proofs.Heads.{net24-drop, net32-drop, head-base, name-v, name-base}
 use Rattle.message.proofs.Walks.{Passed, passes, up4-least, walk-end, request-four}
 use Rattle.message.proofs.Gathering.{having-is, having-not, having-none, ahead}
 use Rattle.message.proofs.Tested.{tested-none, tested-one, tested-over}
 use Rattle.answers.proofs.Proxies.{next-in, passes-here, avps-are}
-use Rattle.gateway.specs.TheGateway.{reAuthRequestType}
 use Rattle.gateway.specs.Code.{typesFrom, TypeFrom}
 
 -- ONE AVP

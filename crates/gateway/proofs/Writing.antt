@@ -77,7 +77,7 @@ pub own-walked : (m : List ℕ) (p : Bool) → p ≡ hasProxies m → p ≡ true
 unfolding hasProxies
 own-walked m p e t = copied-walked (headerCode m) m p e t
 
-length-answer : (m host realm : List ℕ) (c : Code) → 20 ≤ length m → length (answer m host realm c) ≡ 20 + length (answerAvps m host realm c)
+pub length-answer : (m host realm : List ℕ) (c : Code) → 20 ≤ length m → length (answer m host realm c) ≡ 20 + length (answerAvps m host realm c)
 unfolding answer in24
 length-answer m host realm c h =
     let l : length (part m 5 15) ≡ 15 = length-part m 5 15 (omega arith) in
@@ -157,12 +157,12 @@ written-access user label visited d0 d1 d2 d3 d4 at p1 p2 p3 p4 u l v f w1 w2 w3
     (omega (arith, avp-most 1 user u, vendor-most 311 (in32 0) (short 0), visited-most visited v, vendor-most 100 label l)) in
     rw (append-nil (vendorAvp 100 label)) at all
 
-halves : (host realm : List ℕ) (from : Texts) (a : Access)
+pub halves : (host realm : List ℕ) (from : Texts) (a : Access)
     → nameAvps (a .session) host realm (from .originHost) (from .originRealm) ++ accessAvps (a .user) (a .label) (a .visited) ≡ requestAvps host realm from a
 unfolding requestAvps nameAvps accessAvps
 halves host realm from a = simp append-assoc
 
-length-request : (host realm : List ℕ) (from : Texts) (a : Access) (hop end : ℕ) → length (request host realm from a hop end) ≡ 20 + length (requestAvps host realm from a)
+pub length-request : (host realm : List ℕ) (from : Texts) (a : Access) (hop end : ℕ) → length (request host realm from a hop end) ≡ 20 + length (requestAvps host realm from a)
 unfolding request in24 in32
 length-request host realm from a hop end = omega arith
 

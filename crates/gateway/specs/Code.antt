@@ -11,13 +11,13 @@ use Rattle.octets.specs.Numbers.{in24, in32}
 use Rattle.message.specs.CallsThatGetNoAnswer.{messageNumber}
 use Rattle.message.specs.Codes.{plain, kindOf}
 use Rattle.message.specs.Kinds.{codeFrom}
-use Rattle.message.specs.ReadingAMessage.{Avp, avpOf, avps, destinationHost, fieldCode, having, numberField, originHost, originRealm, present, proxyInfo, requestWalk, sameName, sessionId, textField, valueOf, walkCode}
+use Rattle.message.specs.ReadingAMessage.{Avp, avpOf, avps, destinationHost, fieldCode, having, numberField, originHost, originRealm, present, proxyInfo, requestWalk, sameName, sessionId, textField, valueOf, walkCode, reAuthRequestType}
 use Rattle.message.specs.WritingTheAnswer.{avpBytes}
 use Rattle.message.specs.declared.Span.{Span}
 use Rattle.message.specs.declared.Both.{Both}
 use Rattle.message.specs.declared.Both.the-variants.{Held, Failed}
 use Rattle.message.specs.Spans.{Holds, failedWith}
-use Rattle.gateway.specs.TheGateway.{Access, Call, Left, Texts, answer, headerCode, listCode, reAuthRequestType, readingCode, request, roomLeast, vendorAvp, visitedAvp}
+use Rattle.gateway.specs.TheGateway.{Access, Call, Left, Texts, answer, headerCode, listCode, readingCode, request, roomLeast, vendorAvp, visitedAvp}
 use Rattle.gateway.specs.declared.Heard.{Heard}
 use Rattle.gateway.specs.declared.Reauthorized.{Reauthorized}
 

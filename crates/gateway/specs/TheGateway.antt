@@ -10,7 +10,7 @@ use Rattle.octets.specs.Texts.{part, put, same, zeros}
 use Rattle.octets.specs.Numbers.{in24, in32, up4}
 use Rattle.message.specs.CallsThatGetNoAnswer.{messageNumber}
 use Rattle.message.specs.Codes.{Code, plain, kindOf, numberOf}
-use Rattle.message.specs.ReadingAMessage.{Avp, Field, Name, application, avps, base, command, destinationHost, destinationRealm, fieldCode, flags, forBoth, having, numberField, originHost, originRealm, proxyInfo, sessionId, startsWith, textField, valueOf, walkCode}
+use Rattle.message.specs.ReadingAMessage.{Avp, Field, Name, application, avps, base, command, destinationHost, destinationRealm, fieldCode, flags, forBoth, having, numberField, originHost, originRealm, proxyInfo, sessionId, startsWith, textField, valueOf, walkCode, reAuthRequestType}
 use Rattle.message.specs.WritingTheAnswer.{allBytes, answerFlags, avpBytes, resultAvp, sessionAvp}
 
 -- WHAT IS LENT
@@ -57,9 +57,6 @@ callNumber c =
     ∷ [])
 
 -- READING THE RE-AUTH-REQUEST
-
-abbrev pub reAuthRequestType : Name
-reAuthRequestType = base 285
 
 -- The header, in order as for the server's requests: no reserved bit is set, else 5013; E is clear, else 3008; the command is 258, else 3001; the
 -- Application-Id is 1, else 3007.

@@ -12,12 +12,12 @@ ghost use lib.ListN.{length, drop};
 ghost use Rattle.octets.specs.Choice.{within};
 ghost use Rattle.octets.specs.Texts.{put};
 ghost use Rattle.message.specs.Codes.{plain};
-ghost use Rattle.message.specs.ReadingAMessage.{avpOf, avps, fieldCode, numberField, present, proxyInfo, requestWalk, sameName, testedAs, walkCode};
+ghost use Rattle.message.specs.ReadingAMessage.{avpOf, avps, fieldCode, numberField, present, proxyInfo, requestWalk, sameName, testedAs, walkCode, reAuthRequestType};
 ghost use Rattle.message.specs.Positions.{Gathered};
 ghost use Rattle.message.specs.Spans.{failedWith};
 ghost use Rattle.message.specs.WritingTheAnswer.{resultAvp};
 ghost use Rattle.answers.specs.Answers.{Written};
-ghost use Rattle.gateway.specs.TheGateway.{callNumber, headerCode, listCode, reAuthRequestType, reauthorize, visitedAvp, vendorAvp};
+ghost use Rattle.gateway.specs.TheGateway.{callNumber, headerCode, listCode, reauthorize, visitedAvp, vendorAvp};
 ghost use Rattle.gateway.specs.Code.{Answerable, FieldsOf, HeardOf, Replied, Sendable, Sent, TypeFrom, accessAvps, callOf, fieldsCode, fromOf, accessOf, leaves, nameAvps, numberBy, requestHead, restCode, vendorHead};
 
 // A code and its kind, or the number of a call that gets no answer; the length of the answer, and of the AA-Request, 0 where there is none.

@@ -1,4 +1,4 @@
--- What holds of re-authorization at the gateway, ahead of W11.
+-- What holds of re-authorization at the gateway (request W11 of document 02).
 use mathlib.Core.Bool.{true, not}
 use mathlib.Core.List.{List, _++_}
 use mathlib.Core.Path.{_≡_}
@@ -7,10 +7,11 @@ use lib.Dec.{eqb}
 use lib.ListN.{length}
 use Rattle.octets.specs.Numbers.{in32}
 use Rattle.message.specs.CallsThatGetNoAnswer.{messageNumber}
-use Rattle.message.specs.ReadingAMessage.{read, request as request-of, tunnel}
+use Rattle.message.specs.Codes.{plain}
+use Rattle.message.specs.ReadingAMessage.{avps, read, request as request-of, tunnel}
 use Rattle.message.specs.WritingTheAnswer.{avpBytes}
 use Rattle.abort.specs.TheDisconnection.{header}
-use Rattle.gateway.specs.TheGateway.{Access, Texts, accessFits, request}
+use Rattle.gateway.specs.TheGateway.{Access, Call, Texts, accessFits, callNumber, readingCode, reauthorize, replied, request, textsOf}
 
 -- THE RE-AUTH-REQUEST, laid out from its texts in the order of the list: M on each, padding zero, flags R and P, Application-Id 1.
 unfoldable pub reAuthAvps : Texts → List ℕ
@@ -35,6 +36,25 @@ pub record Fit (t : Texts) : Type 0 where
   pub originRealm : Fits (t .originRealm)
   pub destinationRealm : Fits (t .destinationRealm)
   pub destinationHost : Fits (t .destinationHost)
+
+-- READ BY THE GATEWAY: every text from which it was laid out; and for the access with its Session-Id no test of it fails.
+abbrev pub ReadAsLaidOut : Type 0
+ReadAsLaidOut =
+    (t : Texts) (hop end : ℕ) → Fit t → (readingCode (t .session) (reAuthRequest t hop end) ≡ 0) × (textsOf (avps (reAuthRequest t hop end)) ≡ t)
+
+-- It is a message with no number of its own.
+abbrev pub LaidOutNoNumber : Type 0
+LaidOutNoNumber = (t : Texts) (hop end : ℕ) → Fit t → messageNumber (reAuthRequest t hop end) ≡ 0
+
+-- So a call with it that gets an answer, for the access with its Session-Id, goes on: 2001, and the AA-Request back to where it came from.
+abbrev pub GoesOn : Type 0
+GoesOn =
+    (c : Call) (t : Texts) (hop end : ℕ)
+    → Fit t
+    → callNumber c ≡ 0
+    → c .message ≡ reAuthRequest t hop end
+    → c .access .session ≡ t .session
+    → reauthorize c ≡ replied c (plain 2001) (request (c .host) (c .realm) t (c .access) (c .hop) (c .end))
 
 -- READ BY THE SERVER. The access is one that 22 lets through; each of the four names has 1 to 128 bytes.
 pub record Sendable (host realm : List ℕ) (from : Texts) (a : Access) : Type 0 where

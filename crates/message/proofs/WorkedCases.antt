@@ -63,7 +63,7 @@ strangers-read = refl
 unfoldable pub refusedFor : List ℕ → Bool
 refusedFor a = eqb (readingCode 1 (aaRequest name (session 97) 0 (a ++ (0xFF ∷ [])))) 5001 && eqb (readingCode 1 (aaRequest name (session 97) 0 (set a 4 (getD a 4 0 + 1) ++ a))) 3009
 
-pub strangers-refused : every refusedFor (avpBytes 600 ownRealm ∷ vendorBytes 9 100 gateway ∷ vendorBytes 0 263 gateway ∷ avpBytes 100 board ∷ avpBytes 33 board ∷ avpBytes 280 gateway ∷ avpBytes 285 (in32 0) ∷ avpBytes 97 board ∷ avpBytes 408 (in32 1) ∷ []) ≡ true
+pub strangers-refused : every refusedFor (avpBytes 600 ownRealm ∷ vendorBytes 9 100 gateway ∷ vendorBytes 0 263 gateway ∷ avpBytes 100 board ∷ avpBytes 33 board ∷ avpBytes 280 gateway ∷ avpBytes 97 board ∷ avpBytes 408 (in32 1) ∷ []) ≡ true
 unfolding pick require firstOf within keep net24 net32 in24 in32 up4 zeros same numberOf headerCode sameName headLength namedIn01 codesOfAARequest codesOfTermination knownAvps isOneOf known avpCode avpOf supported requestCode behind walkOne walkUpTo walkBy avps walkCode having firstValue valueOf valueAt present anything numberIn textField labelField numberField textsField eachCode testedAs fieldCode startsWith forBoth for265 for275 fields listCode readingCode askOf requestOf read messageNumber case9 case10 name board session gateway ownHost ownRealm gatewayRealm vendorBytes requestBytes bothAvps aaRequest openAt openVisited routeBy endAt avpBytes sessionAvp is3xxx authAvps resultAvp subscriptionAvp allBytes proxyAvps answerBody answerFlags answer answerRoom refusedFor every
 strangers-refused = refl
 
@@ -73,7 +73,7 @@ unfolding pick require firstOf within keep net24 net32 in24 in32 up4 zeros same 
 stranger-first = refl
 
 -- known ones with M: of the AA-Request's grammar, of the termination's, and of answers
-pub known-read : read 1 (aaRequest name (session 97) 0 (avpBytes 32 gateway ++ avpBytes 25 board ++ avpBytes 268 (in32 2001) ++ vendorBytes 10415 304 board ++ vendorBytes 10415 100 board))
+pub known-read : read 1 (aaRequest name (session 97) 0 (avpBytes 32 gateway ++ avpBytes 25 board ++ avpBytes 285 (in32 0) ++ avpBytes 268 (in32 2001) ++ vendorBytes 10415 304 board ++ vendorBytes 10415 100 board))
     ≡ request (record { user = name; ask = tunnel (session 97) gateway gatewayRealm board false })
 unfolding pick require firstOf within keep net24 net32 in24 in32 up4 zeros same numberOf headerCode sameName headLength namedIn01 codesOfAARequest codesOfTermination knownAvps isOneOf known avpCode avpOf supported requestCode behind walkOne walkUpTo walkBy avps walkCode having firstValue valueOf valueAt present anything numberIn textField labelField numberField textsField eachCode testedAs fieldCode startsWith forBoth for265 for275 fields listCode readingCode askOf requestOf read messageNumber case9 case10 name board session gateway ownHost ownRealm gatewayRealm vendorBytes requestBytes bothAvps aaRequest openAt openVisited routeBy endAt avpBytes sessionAvp is3xxx authAvps resultAvp subscriptionAvp allBytes proxyAvps answerBody answerFlags answer answerRoom
 known-read = refl

@@ -171,8 +171,12 @@ codesOfTermination =
     25  -- Class
     ∷ []
 
+-- And the one that a Re-Auth-Request has beside them (W11): Re-Auth-Request-Type.
+abbrev pub reAuthRequestType : Name
+reAuthRequestType = base 285
+
 unfoldable pub knownAvps : List Name
-knownAvps = namedIn01 ++ map base (codesOfAARequest ++ codesOfTermination)
+knownAvps = namedIn01 ++ (map base (codesOfAARequest ++ codesOfTermination) ++ (reAuthRequestType ∷ []))
 
 unfoldable pub isOneOf : List Name → Name → Bool
 isOneOf [] n = false

@@ -91,7 +91,7 @@ decided-small f fm (tunnel session host realm label visited) wag s g =
     by-pick SmallVerdict _ (λ e. refuse-small _ s) (λ e.
     by-pick SmallVerdict _ (λ e. refuse-small _ s) (λ e.
     by-pick SmallVerdict _ (λ e. refuse-small _ s) (λ e.
-    by-pick SmallVerdict _ (λ e. refuse-small _ s) (λ e. admit-small fm (entryNamed label s) _ s g))))
+    by-pick SmallVerdict _ (λ e. by-pick SmallVerdict _ (λ k. grant-small s) (λ k. refuse-small _ s)) (λ e. admit-small fm (entryNamed label s) _ s g))))
 decided-small f fm (policy session first second third) wag s g =
     by-pick SmallVerdict _ (λ e. refuse-small _ s) (λ e. by-pick SmallVerdict _ (λ e. grant-small _) (λ e. refuse-small _ s))
 decided-small f fm (termination session label) wag s g = by-pick SmallVerdict _ (λ e. refuse-small _ s) (λ e. grant-small _)

@@ -30,7 +30,8 @@ pub fn narrow(n: usize) -> u32
     n as u32
 }
 
-fn kind_number(kind: Kind) -> u32
+// The number of a kind of code.
+pub fn kind_number(kind: Kind) -> u32
     ensures { λ r. ⌜ ((code : ℕ) → r ≡ kindOf (codeFrom kind code)) ⌝ }
 {
     match kind {

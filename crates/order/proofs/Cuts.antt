@@ -17,7 +17,7 @@ use Rattle.table.proofs.Good.{Good}
 use Rattle.rules.specs.Deciding.{atLimit, atPlace, entryAt, entryNamed, firstOn, placeOf}
 use Rattle.plans.proofs.Stay.{entry-found, limit-is, limit-some}
 use Rattle.order.specs.ChecksInOrder.{check, noneFails, decidingChecks}
-use Rattle.order.specs.Demand2.{exceeds, onAsked, firstAlone}
+use Rattle.order.specs.Demand2.{opens, exceeds, onAsked, firstAlone}
 use Rattle.order.proofs.Decided.{cutBy}
 
 -- no access is at a place that differs from all
@@ -108,7 +108,7 @@ entry-there session host realm label visited wag s h =
 pub cut-first : {fm : ℕ} (q : Ask) (wag : Bool) (s : Subscriber) → Good fm s → noneFails (decidingChecks q wag s) ≡ true → exceeds q s ≡ true → FirstCut (cutBy q s) (onAsked q s)
 unfolding exceeds onAsked cutBy pick
 cut-first (tunnel session host realm label visited) wag s g h e =
-    rw e (first-cut (entryNamed label s) s g (entry-found label s (entry-there session host realm label visited wag s h)) e)
+    rw e (first-cut (entryNamed label s) s g (entry-found label s (entry-there session host realm label visited wag s h)) (and-right (opens (tunnel session host realm label visited) s) _ e))
 cut-first (policy session first second third) wag s g h e = let y : _≡_ {A = ℕ} 0 1 = cc in absurd (omega arith)
 cut-first (termination session label) wag s g h e = let y : _≡_ {A = ℕ} 0 1 = cc in absurd (omega arith)
 

@@ -39,12 +39,12 @@ module _ (s : Subscriber) where
   named-admit n o = by-pick (Named s) _ (λ e. refl) (λ e. refl)
 
   named-type0 : (o : Opening) (label : List ℕ) (visited : Bool) → Named s (type0 o label visited s)
-  unfolding type0 refuse heldAlready
+  unfolding type0 refuse grant heldAlready
   named-type0 o label visited =
       by-pick (Named s) _ (λ e. refl)
       (λ e. by-pick (Named s) _ (λ e. refl)
       (λ e. by-pick (Named s) _ (λ e. refl)
-      (λ e. by-pick (Named s) _ (λ e. refl) (λ e. named-admit _ o))))
+      (λ e. by-pick (Named s) _ (λ e. by-pick (Named s) _ (λ k. refl) (λ k. refl)) (λ e. named-admit _ o))))
 
   named-type1 : (session : List ℕ) (p : Policies) (wag : Bool) → Named s (type1 session p wag s)
   unfolding type1 refuse grant routed

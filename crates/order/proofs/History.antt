@@ -1,32 +1,33 @@
 -- What a request that succeeds makes of the tunnels on the order line is what its reply shows.
 use mathlib.Core.Path.{_≡_, refl, sym, ap, _∙_}
-use mathlib.Core.Bool.{Bool, true, false, _&&_}
+use mathlib.Core.Bool.{Bool, true, false, _&&_, not}
 use mathlib.Core.List.{List, [], _∷_, _++_, append-assoc, map, map-append}
 use Prim.Native.Nat.{ℕ, _≤_}
 use native.Mathlib.Omega.{arith}
-use borrow.Author.Tests.{eqb-true, leb-true}
+use borrow.Author.Tests.{eqb-true, leb-true, ne-eqb}
 use lib.Dec.{eqb}
 use lib.ListN.{length, take, drop, length-append}
 use lib.Seq.{take-at, drop-at, take-append-le, take-take}
-use Rattle.octets.specs.Choice.{pick}
-use Rattle.octets.specs.Lists.{firstOr, keep}
+use Rattle.octets.specs.Choice.{pick, within}
+use Rattle.octets.specs.Lists.{every, firstOr, keep}
 use Rattle.octets.specs.Texts.{filled, same, zeros}
 use Rattle.octets.proofs.Choice.{by-pick}
-use Rattle.octets.proofs.Lists.{by-test, same-eq, within-high}
+use Rattle.octets.proofs.Lists.{and-left, and-right, by-test, same-eq, within-high, within-low}
 use Rattle.octets.proofs.Texts.{length-filled}
-use Rattle.message.specs.Codes.{plain}
+use Rattle.message.specs.Codes.{Code, plain}
 use Rattle.message.specs.ReadingAMessage.{Ask, tunnel, policy, termination}
 use Rattle.table.specs.TheTable.{Access, Policies, Subscriber, isForm, line}
 use Rattle.table.specs.Soundness.{onEntry}
 use Rattle.table.proofs.Good.{Good, Standing, by-form, goodAccess, spare, standing}
-use Rattle.changes.specs.Changes.{Opening, freed, hold, newAccess, opened, routed}
+use Rattle.changes.specs.Changes.{Opening, freed, hold, keptIn, lowestFree, newAccess, opened, routed}
 use Rattle.rules.specs.Deciding.{entryAt, entryNamed, none, placeOf, withSession}
 use Rattle.rules.specs.Calls.{Call, Reply, noticeBytes, noticeLength, noticeRoom, reply, resultOf}
 use Rattle.plans.proofs.Stay.{entry-found}
 use Rattle.order.specs.ChecksInOrder.{check, decidingChecks, noneFails}
-use Rattle.order.specs.Demand2.{afterwards, cutFor, exceeds, firstAlone, onAsked, spared}
+use Rattle.order.specs.Demand2.{afterwards, cutFor, exceeds, firstAlone, onAsked, opens, placeTaken, spared}
 use Rattle.order.specs.OpenedFirst.{labelAsked, labelIn, lineAfter, onLabel, sessionCut, tunnelCut, tunnelOf, tunnels, without}
 use Rattle.order.proofs.Cuts.{cut-first, entry-there}
+use Rattle.order.proofs.Decided.{storing}
 use Rattle.order.proofs.Labels.{label-is, on-label}
 use Rattle.order.proofs.Taken.{first-kept, keep-twice, kept-first, taken}
 
@@ -78,7 +79,7 @@ entry-spared n q s = rw (spared-entries q s)
 
 pub same-entries : (fm : ℕ) (q : Ask) (s : Subscriber) → (afterwards fm q s) .entries ≡ s .entries
 unfolding afterwards opened routed freed
-same-entries fm (tunnel session host realm label visited) s = spared-entries _ s
+same-entries fm (tunnel session host realm label visited) s = by-pick (λ (u : Subscriber). u .entries ≡ s .entries) _ (λ e. spared-entries _ s) (λ e. refl)
 same-entries fm (policy session one two three) s = refl
 same-entries fm (termination session label) s = refl
 
@@ -142,6 +143,40 @@ module _ (fm : ℕ) (is : isForm fm ≡ true) (c : Call) (place n : ℕ) (a : Ac
   tunnel-told fits label =
       λ i. record { session = session-told fm c place a fits i; host = host-told fm c place a fits i; realm = realm-told fits i; label = label }
 
+pub place-told : (fm : ℕ) (c : Call) (code : Code) (place : ℕ) (cut : List Access) → (reply fm c code place cut) .result .place ≡ place
+unfolding reply resultOf
+place-told fm c code place [] = refl
+place-told fm c code place (a ∷ others) = refl
+
+-- in a row that is good afterwards an opening has a place
+last-good : (f : Access → Bool) (xs : List Access) (x : Access) → every f (xs ++ (x ∷ [])) ≡ true → f x ≡ true
+unfolding every
+last-good f [] x h = and-left (f x) _ h
+last-good f (y ∷ xs) x h = last-good f xs x (and-right (f y) _ h)
+
+pub new-placed : (fm n : ℕ) (o : Opening) (s : Subscriber) → Good fm (opened n o s) → within 1 8 (lowestFree (s .accesses)) ≡ true
+unfolding opened newAccess goodAccess
+new-placed fm n o s g =
+    let each : every (goodAccess fm (length (s .entries))) (s .accesses ++ (newAccess (s .accesses) n o ∷ [])) ≡ true = g .accesses-good .each in
+    and-left (within 1 8 (lowestFree (s .accesses))) _ (last-good _ (s .accesses) _ each)
+
+some-place : (p : ℕ) → within 1 8 p ≡ true → eqb p 0 ≡ false
+some-place p h = ne-eqb p 0 (λ z. omega (arith, within-low 1 8 p h, z))
+
+placed-tunnel : (fm : ℕ) (session host realm label : List ℕ) (visited : Bool) (s : Subscriber) → Good fm (afterwards fm (tunnel session host realm label visited) s)
+    → eqb (placeTaken (tunnel session host realm label visited) s) 0 ≡ not (opens (tunnel session host realm label visited) s)
+unfolding placeTaken afterwards pick
+placed-tunnel fm session host realm label visited s g =
+    by-test (opens (tunnel session host realm label visited) s)
+    (λ o. rw o (some-place _ (new-placed fm (entryNamed label s) (storing fm session host realm) (spared (tunnel session host realm label visited) s) (rw o at g))))
+    (λ o. rw o)
+
+pub placed : (fm : ℕ) (q : Ask) (s : Subscriber) → Good fm (afterwards fm q s) → eqb (placeTaken q s) 0 ≡ not (opens q s)
+unfolding placeTaken opens pick
+placed fm (tunnel session host realm label visited) s g = placed-tunnel fm session host realm label visited s g
+placed fm (policy session one two three) s g = refl
+placed fm (termination session label) s g = refl
+
 -- A REQUEST THAT SUCCEEDS
 
 module _ (fm : ℕ) (c : Call) (place : ℕ) (s : Subscriber) (g : Good fm s) where
@@ -164,13 +199,25 @@ module _ (fm : ℕ) (c : Call) (place : ℕ) (s : Subscriber) (g : Good fm s) wh
     unfolding spared cutFor reply resultOf pick
     spared-all e = rw e
 
-    line-tunnel : (wag : Bool) → noneFails (decidingChecks asked wag s) ≡ true → tunnels (afterwards fm asked s) ≡ lineAfter fm (s .entries) asked replied (tunnels s)
-    unfolding afterwards lineAfter
-    line-tunnel wag h =
+    line-opened : (wag : Bool) → noneFails (decidingChecks asked wag s) ≡ true
+        → tunnels (opened (entryNamed label s) (storing fm session host realm) (spared asked s))
+        ≡ pick (eqb (replied .result .cut) 1) (without (sessionCut replied) (tunnels s)) (tunnels s)
+        ++ (record { session = session; host = host; realm = keptIn fm realm; label = labelIn (s .entries) label } ∷ [])
+    line-opened wag h =
         let there : eqb (entryNamed label s) 0 ≡ false = entry-there session host realm label visited wag s h in
         let left : tunnels (spared asked s) ≡ pick (eqb (replied .result .cut) 1) (without (sessionCut replied) (tunnels s)) (tunnels s) =
         by-test (exceeds asked s) (λ e. spared-cut e (first-alone _ ((cut-first asked wag s g h e) .some))) (λ e. spared-all e) in
         rw (label-is label s there, ← left, ← entry-spared (entryNamed label s) asked s) (new-last (entryNamed label s) _ (spared asked s))
+
+    -- a place tells that something was opened
+    line-tunnel : (wag : Bool) → noneFails (decidingChecks asked wag s) ≡ true → eqb place 0 ≡ not (opens asked s)
+        → tunnels (afterwards fm asked s) ≡ lineAfter fm (s .entries) asked replied (tunnels s)
+    unfolding afterwards lineAfter pick
+    line-tunnel wag h p =
+        let told-place : eqb (replied .result .place) 0 ≡ not (opens asked s) = ap (λ (n : ℕ). eqb n 0) (place-told fm c (plain 2001) place (cutFor asked s)) ∙ p in
+        by-test (opens asked s)
+        (λ o. let some : eqb (replied .result .place) 0 ≡ false = told-place ∙ ap not o in rw (some, o) (line-opened wag h))
+        (λ o. let no : eqb (replied .result .place) 0 ≡ true = told-place ∙ ap not o in rw (no, o))
 
   module _ (session label : List ℕ) where
     abbrev pub ended : List Access
@@ -191,11 +238,12 @@ module _ (fm : ℕ) (c : Call) (place : ℕ) (s : Subscriber) (g : Good fm s) wh
 
 -- what a request that succeeds leaves on the line is what its reply shows
 pub line-after : (fm : ℕ) (c : Call) (place : ℕ) (q : Ask) (wag : Bool) (s : Subscriber) → Good fm s → noneFails (decidingChecks q wag s) ≡ true
+    → eqb place 0 ≡ not (opens q s)
     → tunnels (afterwards fm q s) ≡ lineAfter fm (s .entries) q (reply fm c (plain 2001) place (cutFor q s)) (tunnels s)
 unfolding afterwards lineAfter
-line-after fm c place (tunnel session host realm label visited) wag s g h = line-tunnel fm c place s g session host realm label visited wag h
-line-after fm c place (policy session one two three) wag s g h = line-held _ _ s
-line-after fm c place (termination session label) wag s g h = line-ended fm c place s g session label (ended-one fm c place s g session label wag h)
+line-after fm c place (tunnel session host realm label visited) wag s g h p = line-tunnel fm c place s g session host realm label visited wag h p
+line-after fm c place (policy session one two three) wag s g h p = line-held _ _ s
+line-after fm c place (termination session label) wag s g h p = line-ended fm c place s g session label (ended-one fm c place s g session label wag h)
 
 -- THE CUT
 

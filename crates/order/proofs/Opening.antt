@@ -25,8 +25,8 @@ use Rattle.order.proofs.Handling.{was-read, number-good}
 use Rattle.order.proofs.Lists.{form-stays, lookup-stays}
 use Rattle.order.proofs.Checks.{cut-exactly, success-exactly, success-reply, refused-changes-nothing, Won, won, won-went}
 use Rattle.order.proofs.Answered.{OnRow, went}
-use Rattle.order.proofs.Rest.{success-replaces-row, other-rows-stay, row-good, rows-there, in-table}
-use Rattle.order.proofs.History.{line-after, cut-named, same-entries}
+use Rattle.order.proofs.Rest.{success-replaces-row, other-rows-stay, after-good, row-good, rows-there, in-table}
+use Rattle.order.proofs.History.{line-after, cut-named, placed, same-entries}
 
 -- ONE NAME TO A ROW
 
@@ -93,7 +93,8 @@ module _ (t : Table) (c : Call) (i : ℕ) (e : found t c ≡ row i) where
   shows s (won j o a h) =
       let q : j ≡ i = same-row j i (sym (o .at) ∙ e) in
       rw ((success-replaces-row t c i s e) .says, success-reply t c s, o .before, q)
-      (line-after (t .form) c (placeTaken asks (readRow (rowAt t i))) asks (c .wag) (readRow (rowAt t i)) (rw q at (row-good t c j (rows-there t c a) o)) (rw q at (sym (o .none) ∙ h)))
+      (line-after (t .form) c (placeTaken asks (readRow (rowAt t i))) asks (c .wag) (readRow (rowAt t i)) (rw q at (row-good t c j (rows-there t c a) o)) (rw q at (sym (o .none) ∙ h))
+      (placed (t .form) asks (readRow (rowAt t i)) (rw q at (after-good t c j o (rows-there t c a) h))))
 
 -- ANY CALL
 

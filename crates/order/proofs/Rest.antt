@@ -88,7 +88,7 @@ module _ (t : Table) (c : Call) where
 -- THE ROW THAT IS REPLACED
 
 module _ (t : Table) (c : Call) where
-  after-good : (i : ℕ) → OnRow t c i → tableNumber t ≡ 0 → noneFails (checks t c) ≡ true → Good (t .form) (afterwards (t .form) ((requestIn c) .ask) (readRow (rowAt t i)))
+  pub after-good : (i : ℕ) → OnRow t c i → tableNumber t ≡ 0 → noneFails (checks t c) ≡ true → Good (t .form) (afterwards (t .form) ((requestIn c) .ask) (readRow (rowAt t i)))
   unfolding granting
   after-good i o good h =
       let g : Good (t .form) ((verdict t c i) .after) = stays-good t c i good o in

@@ -11,7 +11,7 @@ use Rattle.message.specs.Codes.{Code, plain, noSubscription, roamingNotAllowed,
 use Rattle.message.specs.ReadingAMessage.{Name, Avp, Field, Ask, tunnel, policy, termination, flags, command, application, hasV, avpLength, avpOf, supported, body, avps, sessionId, having, startsWith, fields}
 use Rattle.table.specs.TheTable.{Subscriber, barred, mayRoam}
 use Rattle.table.specs.Soundness.{onEntry}
-use Rattle.rules.specs.Deciding.{entryNamed, entryAt, withSession, none}
+use Rattle.rules.specs.Deciding.{entryNamed, entryAt, withSession, none, standsOn}
 
 -- CHECKS
 
@@ -140,14 +140,14 @@ readingChecks most m = headerChecks m ++ (walkChecks m ++ listChecks most m)
 -- DECIDING
 
 -- Type 0: the label is entered; the entry is not barred; no visited network is named, or the entry may roam; the
--- Session-Id is not in the row. Type 1: an access has the Session-Id; the WAG says yes. Termination: an access has the
+-- Session-Id is not in the row, or it is on this very entry (W11). Type 1: an access has the Session-Id; the WAG says yes. Termination: an access has the
 -- Session-Id on this W-APN.
 unfoldable pub decidingChecks : Ask → (wag : Bool) → Subscriber → List Check
 decidingChecks (tunnel session host realm label visited) wag s =
     check notEntered (not (eqb (entryNamed label s) 0)) noSubscription
     ∷ check entryBarred (not (barred (entryAt (entryNamed label s) s))) (plain 5003)
     ∷ check mayNotRoam (not (visited && not (mayRoam (entryAt (entryNamed label s) s)))) roamingNotAllowed
-    ∷ check sessionHeld (none (withSession session (s .accesses))) (plain 5012)
+    ∷ check sessionHeld (none (withSession session (s .accesses)) || standsOn (entryNamed label s) session s) (plain 5012)
     ∷ []
 decidingChecks (policy session first second third) wag s =
     check noAccess (not (none (withSession session (s .accesses)))) (plain 5012) ∷ check gatewaySaysNo wag (plain 5012) ∷ []

@@ -2,7 +2,7 @@
 -- of tables of either form (W5): the form of the table decides how many policies a request may bring, what is kept of it, how a row is laid
 -- out, and how long a notice is (W6).
 use mathlib.Core.Path.{_≡_}
-use mathlib.Core.Bool.{Bool, true, false, _&&_}
+use mathlib.Core.Bool.{Bool, true, false, _&&_, not}
 use mathlib.Core.List.{List, [], _∷_, _++_}
 use Prim.Native.Nat.{ℕ}
 use lib.Dec.{eqb}
@@ -13,7 +13,7 @@ use Rattle.message.specs.ReadingAMessage.{Ask, tunnel, policy, termination, Req
 use Rattle.table.specs.TheTable.{Access, Subscriber, Table, Found, row, nothing, isFound, lookup, rowAt, withRow, readRow, rowBytes}
 use Rattle.table.specs.Soundness.{sound, onEntry}
 use Rattle.changes.specs.Changes.{freed, keptIn, lowestFree, opened, routed}
-use Rattle.rules.specs.Deciding.{entryNamed, withSession, atLimit, placeOf}
+use Rattle.rules.specs.Deciding.{entryNamed, withSession, standsOn, atLimit, placeOf}
 use Rattle.rules.specs.Calls.{account, Call, Left, callNumber, silent, reply, refusal, handle, mostPolicies, run}
 use Rattle.order.specs.ChecksInOrder.{Check, noRow, unsoundRow, check, firstFailing, noneFails, readingChecks, decidingChecks}
 
@@ -50,9 +50,15 @@ succeeds t c = eqb (callNumber t c) 0 && noneFails (checks t c)
 
 -- THE CUT
 
--- A tunnel is asked for on an entry that is at its limit.
+-- A tunnel is asked for that does not stand on its entry yet: only then something is opened (W11).
+unfoldable pub opens : Ask → Subscriber → Bool
+opens (tunnel session host realm label visited) s = not (standsOn (entryNamed label s) session s)
+opens (policy session first second third) s = false
+opens (termination session label) s = false
+
+-- A tunnel is opened on an entry that is at its limit.
 unfoldable pub exceeds : Ask → Subscriber → Bool
-exceeds (tunnel session host realm label visited) s = atLimit (entryNamed label s) s
+exceeds (tunnel session host realm label visited) s = opens (tunnel session host realm label visited) s && atLimit (entryNamed label s) s
 exceeds (policy session first second third) s = false
 exceeds (termination session label) s = false
 
@@ -75,17 +81,16 @@ cutFor q s = pick (exceeds q s) (firstAlone (onAsked q s)) []
 unfoldable pub spared : Ask → Subscriber → Subscriber
 spared q s = pick (exceeds q s) (freed (placeOf (onAsked q s)) s) s
 
--- A new tunnel takes the lowest place that is free then.
+-- A new tunnel takes the lowest place that is free then; where none is opened, it is 0.
 unfoldable pub placeTaken : Ask → Subscriber → ℕ
-placeTaken (tunnel session host realm label visited) s = lowestFree ((spared (tunnel session host realm label visited) s) .accesses)
-placeTaken (policy session first second third) s = 0
-placeTaken (termination session label) s = 0
+placeTaken q s = pick (opens q s) (lowestFree ((spared q s) .accesses)) 0
 
--- What the row says after success, in a table of the form: the new access stands behind those that are left; or the policies replace what
--- was held; or the place is freed.
+-- What the row says after success, in a table of the form: the new access stands behind those that are left, or, where none is opened, it says
+-- what it said; or the policies replace what was held; or the place is freed.
 unfoldable pub afterwards : (form : ℕ) → Ask → Subscriber → Subscriber
 afterwards f (tunnel session host realm label visited) s =
-    opened (entryNamed label s) (record { session = session; host = host; realm = keptIn f realm }) (spared (tunnel session host realm label visited) s)
+    let q : Ask = tunnel session host realm label visited in
+    pick (opens q s) (opened (entryNamed label s) (record { session = session; host = host; realm = keptIn f realm }) (spared q s)) s
 afterwards f (policy session first second third) s =
     routed (placeOf (withSession session (s .accesses))) (record { first = first; second = second; third = third }) s
 afterwards f (termination session label) s = freed (placeOf (withSession session (onEntry (entryNamed label s) (s .accesses)))) s
@@ -117,7 +122,7 @@ pub record Unchanged (t : Table) (c : Call) (l : Left) : Type 0 where
 abbrev pub RefusedChangesNothing : Type 0
 RefusedChangesNothing = (t : Table) (c : Call) → eqb ((handle t c) .reply .result .code) 2001 ≡ false → Unchanged t c (handle t c)
 
--- All that these two leave: no answer, with the number of the first of the eight tests that fails; or a refusal with the code
+-- All that these two leave: no answer, with the number of the first of the nine tests that fails; or a refusal with the code
 -- of the first check that fails.
 abbrev pub UnansweredLeaves : Type 0
 UnansweredLeaves = (t : Table) (c : Call) → eqb (callNumber t c) 0 ≡ false → handle t c ≡ silent t c (callNumber t c)
@@ -125,7 +130,7 @@ UnansweredLeaves = (t : Table) (c : Call) → eqb (callNumber t c) 0 ≡ false �
 abbrev pub RefusedLeaves : Type 0
 RefusedLeaves = (t : Table) (c : Call) → callNumber t c ≡ 0 → succeeds t c ≡ false → handle t c ≡ refusal t c (firstFailing (checks t c))
 
--- A cut is made exactly when a call succeeds that asks for a tunnel on an entry that is at its limit.
+-- A cut is made exactly when a call succeeds that opens a tunnel on an entry that is at its limit.
 abbrev pub CutExactly : Type 0
 CutExactly = (t : Table) (c : Call) → (handle t c) .reply .result .cut ≡ pick (succeeds t c && exceeds ((requestIn c) .ask) (said t c)) 1 0
 

@@ -19,11 +19,12 @@ entered = record { label = board; flags = 0; limit = 2 } ∷ []
 unfoldable pub calling : List ℕ → Call
 calling message = record { operator = 0; message = message; host = ownHost; realm = ownRealm; answer = zeros 5120; notice = zeros 384; wag = true }
 
--- What the history looks at in a reply: 2001 without a cut, and 2001 with a cut of the tunnel of that letter, told as in a table of the form.
-unfoldable pub granted : Reply
-granted =
+-- What the history looks at in a reply: 2001 without a cut, at a place or at none, and 2001 with a cut of the tunnel of that letter, told as in a table of
+-- the form.
+unfoldable pub granted : (place : ℕ) → Reply
+granted place =
     record {
-      result = record { length = 0; code = 2001; kind = 1; place = 0; cut = 0; cutSession = 0; cutHost = 0; cutRealm = 0 };
+      result = record { length = 0; code = 2001; kind = 1; place = place; cut = 0; cutSession = 0; cutHost = 0; cutRealm = 0 };
       answer = [];
       notice = zeros 384;
     }
@@ -31,17 +32,17 @@ granted =
 unfoldable pub cutting : (form : ℕ) → ℕ → Reply
 cutting f letter =
     record {
-      result = record { length = 0; code = 2001; kind = 1; place = 0; cut = 1; cutSession = 3; cutHost = 2; cutRealm = length (keptIn f gatewayRealm) };
+      result = record { length = 0; code = 2001; kind = 1; place = 1; cut = 1; cutSession = 3; cutHost = 2; cutRealm = length (keptIn f gatewayRealm) };
       answer = [];
       notice = filled (session letter) 128 ++ (filled gateway 128 ++ filled (keptIn f gatewayRealm) 128);
     }
 
--- a and b are opened, a is ended, and a is opened again, in a table of a form.
+-- a and b are opened, a is asked for again while it stands, which opens nothing (W11), a is ended, and a is opened again, in a table of a form.
 unfoldable pub again : (form : ℕ) → List Tunnel
 again f =
     history f (of 0) entered
-    (calling (openAt (session 97) board) ∷ calling (openAt (session 98) board) ∷ calling (endAt (session 97) board) ∷ calling (openAt (session 97) board) ∷ [])
-    (granted ∷ granted ∷ granted ∷ granted ∷ [])
+    (calling (openAt (session 97) board) ∷ calling (openAt (session 98) board) ∷ calling (openAt (session 97) board) ∷ calling (endAt (session 97) board) ∷ calling (openAt (session 97) board) ∷ [])
+    (granted 1 ∷ granted 2 ∷ granted 0 ∷ granted 0 ∷ granted 1 ∷ [])
     []
 
 -- Then c is opened, which cuts b.

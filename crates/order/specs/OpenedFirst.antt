@@ -41,12 +41,13 @@ sessionCut r = take (r .result .cutSession) (r .notice)
 unfoldable pub without : List ℕ → List Tunnel → List Tunnel
 without session line = keep (λ (x : Tunnel). not (same (x .session) session)) line
 
--- A request that is answered 2001. Type 0: if there was a cut, the tunnel that the notice names is taken away; then the new
--- tunnel stands at the end. Type 1: the line stays. Termination: the tunnel with its Session-Id is taken away.
+-- A request that is answered 2001. Type 0: without a place nothing was opened, and the line stays (W11); else, if there was a cut, the tunnel that the
+-- notice names is taken away, and then the new tunnel stands at the end. Type 1: the line stays. Termination: the tunnel with its Session-Id is taken away.
 unfoldable pub lineAfter : (form : ℕ) → List Entry → Ask → Reply → List Tunnel → List Tunnel
 lineAfter f es (tunnel session host realm label visited) r line =
-    pick (eqb (r .result .cut) 1) (without (sessionCut r) line) line
-    ++ (record { session = session; host = host; realm = keptIn f realm; label = labelIn es label } ∷ [])
+    pick (eqb (r .result .place) 0) line
+    (pick (eqb (r .result .cut) 1) (without (sessionCut r) line) line
+    ++ (record { session = session; host = host; realm = keptIn f realm; label = labelIn es label } ∷ []))
 lineAfter f es (policy session first second third) r line = line
 lineAfter f es (termination session label) r line = without session line
 

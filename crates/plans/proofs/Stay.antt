@@ -155,12 +155,12 @@ module _ {fm : ℕ} (n : ℕ) (o : Opening) (s : Subscriber) (g : Good fm s) (ex
       (λ below. good-opened n o s (opens-below below) g)
 
 pub stays-type0 : (fm : ℕ) (o : Opening) (label : List ℕ) (visited : Bool) (s : Subscriber) → MayStore fm o → Good fm s → Good fm ((type0 o label visited s) .after)
-unfolding type0 refuse heldAlready
+unfolding type0 refuse grant heldAlready
 stays-type0 fm o label visited s h g =
     by-pick (Stays fm) _ (λ e. g)
     (λ found. by-pick (Stays fm) _ (λ e. g)
     (λ e. by-pick (Stays fm) _ (λ e. g)
-    (λ e. by-pick (Stays fm) _ (λ e. g)
+    (λ e. by-pick (Stays fm) _ (λ e. by-pick (Stays fm) _ (λ f. g) (λ f. g))
     (λ unused. stays-admit _ o s g (entry-found label s found) (new-session (o .session) (s .accesses) (not-false (none (withSession (o .session) (s .accesses))) unused)) h))))
 
 pub stays-type1 : (fm : ℕ) (session : List ℕ) (p : Policies) (wag : Bool) (s : Subscriber) → MayHold fm p → Good fm s → Good fm ((type1 session p wag s) .after)

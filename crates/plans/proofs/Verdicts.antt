@@ -16,7 +16,7 @@ use Rattle.row.proofs.Entries.{most-four}
 use Rattle.plans.proofs.Found.{bothAre, ended-is, entryIs, first-is, on-places, session-is, sessionIs}
 use Rattle.plans.proofs.Search.{hunt-on}
 use Rattle.plans.proofs.Stay.{limit-is, limit-some, room-left}
-use Rattle.rules.specs.Deciding.{admit, atLimit, entryAt, entryNamed, firstOn, grant, heldAlready, none, placeOf, refuse, terminate, type0, type1, withSession}
+use Rattle.rules.specs.Deciding.{admit, atLimit, entryAt, entryNamed, firstOn, grant, heldAlready, none, placeOf, refuse, standsOn, terminate, type0, type1, withSession}
 use Rattle.plans.specs.declared.Plan.the-variants.{Open, Route}
 use Rattle.plans.specs.Plans.{Brought, fitPlan, planned}
 use Rattle.octets.proofs.Lists.{and-left, both, in-within, within-low}
@@ -65,13 +65,23 @@ module _ (o : Opening) (label : List ℕ) (visited : Bool) (s : Subscriber) wher
       no-roaming e = rw (ne-eqb (entryNamed label s) 0 entered, ne-eqb _ 1 unbarred, e)
 
       module _ (at-home : visited && not (mayRoam (entryAt (entryNamed label s) s)) ≡ false) where
-        pub is-held : none (withSession (o .session) (s .accesses)) ≡ false → type0 o label visited s ≡ refuse (plain 5012) s
-        unfolding type0 barred heldAlready pick
+        pub is-held : none (withSession (o .session) (s .accesses)) ≡ false → type0 o label visited s ≡ heldAlready (entryNamed label s) (o .session) s
+        unfolding type0 barred pick
         is-held e = rw (ne-eqb (entryNamed label s) 0 entered, ne-eqb _ 1 unbarred, at-home, e)
 
         pub is-admitted : none (withSession (o .session) (s .accesses)) ≡ true → type0 o label visited s ≡ admit (entryNamed label s) o s
         unfolding type0 barred pick
         is-admitted e = rw (ne-eqb (entryNamed label s) 0 entered, ne-eqb _ 1 unbarred, at-home, e)
+
+-- a Session-Id that is held: on this entry, or on another
+module _ (n : ℕ) (session : List ℕ) (s : Subscriber) where
+  pub goes-on : none (withSession session (onEntry n (s .accesses))) ≡ false → heldAlready n session s ≡ grant s
+  unfolding heldAlready standsOn pick
+  goes-on e = rw e
+
+  pub stands-elsewhere : none (withSession session (onEntry n (s .accesses))) ≡ true → heldAlready n session s ≡ refuse (plain 5012) s
+  unfolding heldAlready standsOn pick
+  stands-elsewhere e = rw e
 
 -- TYPE 1 AND TERMINATION
 

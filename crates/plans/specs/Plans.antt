@@ -12,16 +12,17 @@ use Rattle.table.specs.Soundness.{onlyBehind}
 use Rattle.table.specs.TheTable.{Policies, Subscriber, orderLine, readRow}
 use Rattle.changes.specs.Changes.{Opening, freed, routed}
 use Rattle.plans.specs.declared.Plan.{Plan}
-use Rattle.plans.specs.declared.Plan.the-variants.{NotSubscribed, Barred, RoamingNotAllowed, UnableToComply, UnusedByUser, Open, Route, Free}
+use Rattle.plans.specs.declared.Plan.the-variants.{NotSubscribed, Barred, RoamingNotAllowed, UnableToComply, UnusedByUser, Stands, Open, Route, Free}
 use Rattle.rules.specs.Deciding.{Verdict, refuse, grant, openOn, atPlace}
 
--- The code of a plan: a refusal's own, and 2001 for a change.
+-- The code of a plan: a refusal's own, and 2001 for an access that goes on and for a change.
 unfoldable pub planCode : Plan → Code
 planCode NotSubscribed = noSubscription
 planCode Barred = plain 5003
 planCode RoamingNotAllowed = roamingNotAllowed
 planCode UnableToComply = plain 5012
 planCode UnusedByUser = unusedByUser
+planCode Stands = plain 2001
 planCode (Open n cut) = plain 2001
 planCode (Route k) = plain 2001
 planCode (Free k) = plain 2001
@@ -38,6 +39,7 @@ planned b Barred s = refuse (planCode Barred) s
 planned b RoamingNotAllowed s = refuse (planCode RoamingNotAllowed) s
 planned b UnableToComply s = refuse (planCode UnableToComply) s
 planned b UnusedByUser s = refuse (planCode UnusedByUser) s
+planned b Stands s = grant s
 planned b (Open n cut) s =
     pick (eqb cut 0) (openOn n (b .opening) [] s) (openOn n (b .opening) (atPlace cut (s .accesses)) (freed cut s))
 planned b (Route k) s = grant (routed k (b .policies) s)
@@ -55,6 +57,7 @@ fitPlan p Barred r = true
 fitPlan p RoamingNotAllowed r = true
 fitPlan p UnableToComply r = true
 fitPlan p UnusedByUser r = true
+fitPlan p Stands r = true
 fitPlan p (Open n cut) r = within 1 4 n && pick (eqb cut 0) (ltb (length ((readRow r) .accesses)) 8) (isOn (orderLine r) cut)
 fitPlan p (Route k) r = isOn (orderLine r) k && fitPolicies p
 fitPlan p (Free k) r = isOn (orderLine r) k

@@ -13,6 +13,8 @@ pub enum Plan {
     RoamingNotAllowed,
     UnableToComply,
     UnusedByUser,
+    // the access that is asked for stands already, and goes on as it is
+    Stands,
     // a new access on the entry; the place that is cut for it, 0 for none
     Open(usize, usize),
     // the policy of the access at the place

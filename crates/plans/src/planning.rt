@@ -9,8 +9,8 @@ ghost use lib.ListN.{length};
 ghost use Rattle.changes.specs.Changes.{Opening};
 ghost use Rattle.table.specs.TheTable.{Policies, readRow};
 ghost use Rattle.table.specs.Soundness.{sound};
-ghost use Rattle.rules.specs.Deciding.{type0, type1, terminate, admit};
-ghost use Rattle.plans.specs.Plans.{fitPlan, fitPolicies, planned};
+ghost use Rattle.rules.specs.Deciding.{type0, type1, terminate, admit, heldAlready};
+ghost use Rattle.plans.specs.Plans.{Brought, fitPlan, fitPolicies, planned};
 
 // An opening on entry n: at its limit, the entry's first-opened access is cut for it.
 fn plan_opening(row: &[u8], n: usize) -> Plan
@@ -38,6 +38,21 @@ fn roams_unasked(flags: u8, visited: bool) -> bool
     false
 }
 
+// A Session-Id that is already in the row: on entry n its access goes on.
+fn plan_held(row: &[u8], n: usize, session: &[u8]) -> Plan
+    requires { ⌜ sound (now row) ≡ true ⌝ }
+    ensures { λ r.
+        ⌜
+        ((b : Brought) → planned b r (readRow (now (row .entry))) ≡ heldAlready n (now (session .entry)) (readRow (now (row .entry))))
+        × ((p : Policies) → fitPlan p r (now (row .entry)) ≡ true)
+        ⌝ }
+{
+    if finding::place_on(row, n, session) != 0 {
+        return Plan::Stands;
+    }
+    Plan::UnableToComply
+}
+
 // Type 0: may a tunnel open?
 pub fn plan_tunnel(row: &[u8], session: &[u8], label: &[u8], visited: bool) -> Plan
     requires { ⌜ sound (now row) ≡ true ⌝ }
@@ -62,7 +77,7 @@ pub fn plan_tunnel(row: &[u8], session: &[u8], label: &[u8], visited: bool) -> P
         return Plan::RoamingNotAllowed;
     }
     if finding::place_of(row, session) != 0 {
-        return Plan::UnableToComply;
+        return plan_held(row, n, session);
     }
     plan_opening(row, n)
 }

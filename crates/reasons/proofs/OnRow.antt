@@ -15,10 +15,10 @@ use Rattle.message.specs.ReadingAMessage.{Ask, tunnel, policy, termination, Req
 use Rattle.message.proofs.Lengths.{passing}
 use Rattle.table.specs.TheTable.{Subscriber, Table, Found, row, nothing, isFound, lookup, rowAt, readRow, barred, mayRoam}
 use Rattle.table.specs.Soundness.{sound, onEntry}
-use Rattle.rules.specs.Deciding.{Verdict, type0, type1, terminate, refuse, grant, heldAlready, entryNamed, entryAt, withSession, none}
+use Rattle.rules.specs.Deciding.{Verdict, type0, type1, terminate, refuse, grant, heldAlready, entryNamed, entryAt, withSession, none, standsOn}
 use Rattle.rules.specs.Calls.{account, Call, callNumber, mostPolicies}
 use Rattle.plans.specs.declared.Plan.{Plan}
-use Rattle.plans.specs.declared.Plan.the-variants.{NotSubscribed, Barred, RoamingNotAllowed, UnableToComply, UnusedByUser, Open, Route, Free}
+use Rattle.plans.specs.declared.Plan.the-variants.{NotSubscribed, Barred, RoamingNotAllowed, UnableToComply, UnusedByUser, Stands, Open, Route, Free}
 use Rattle.plans.proofs.Plan.{the-type}
 use Rattle.plans.specs.Plans.{Brought, planned, planCode}
 use Rattle.decision.proofs.Answered.{plan-code}
@@ -52,7 +52,7 @@ tunnelEntry n =
 
 module _ (host realm label : List ℕ) (visited wag : Bool) (s : Subscriber) (b : Brought) where
   tunnel-entry : tunnelEntry (numberOf ((type0 (b .opening) label visited s) .code)) ≡ firstFailed (decidingChecks (tunnel (b .opening .session) host realm label visited) wag s)
-  unfolding tunnelEntry type0 decidingChecks check refuse heldAlready pick firstFailed numberOf
+  unfolding tunnelEntry type0 decidingChecks check refuse grant heldAlready pick firstFailed numberOf
   tunnel-entry =
       by-test (eqb (entryNamed label s) 0)
       (λ a. rw a)
@@ -62,19 +62,22 @@ module _ (host realm label : List ℕ) (visited wag : Bool) (s : Subscriber) (b 
       (λ d. rw (a, f, d))
       (λ d. by-test (none (withSession (b .opening .session) (s .accesses)))
       (λ e. rw (a, f, d, e, admits (b .opening) label s))
-      (λ e. rw (a, f, d, e)))))
+      (λ e. by-test (standsOn (entryNamed label s) (b .opening .session) s)
+      (λ k. rw (a, f, d, e, k))
+      (λ k. rw (a, f, d, e, k))))))
 
   pub tunnel-planned : (p : Plan) → planned b p s ≡ type0 (b .opening) label visited s
       → tunnelEntry (numberOf (planCode p)) ≡ firstFailed (decidingChecks (tunnel (b .opening .session) host realm label visited) wag s)
   tunnel-planned p e = ap tunnelEntry (plan-number b p s _ e) ∙ tunnel-entry
 
-pub tunnel-passes : (p : Plan) → OneOf (4 ∷ 5 ∷ 6 ∷ 7 ∷ []) (tagOf the-type p) → pass ≡ tunnelEntry (numberOf (planCode p))
+pub tunnel-passes : (p : Plan) → OneOf (4 ∷ 5 ∷ 6 ∷ 7 ∷ 8 ∷ []) (tagOf the-type p) → pass ≡ tunnelEntry (numberOf (planCode p))
 unfolding tunnelEntry planCode numberOf pick
-tunnel-passes NotSubscribed o = absurd (miss (4 ∷ 5 ∷ 6 ∷ 7 ∷ []) 0 tt o)
-tunnel-passes Barred o = absurd (miss (4 ∷ 5 ∷ 6 ∷ 7 ∷ []) 1 tt o)
-tunnel-passes RoamingNotAllowed o = absurd (miss (4 ∷ 5 ∷ 6 ∷ 7 ∷ []) 2 tt o)
-tunnel-passes UnableToComply o = absurd (miss (4 ∷ 5 ∷ 6 ∷ 7 ∷ []) 3 tt o)
+tunnel-passes NotSubscribed o = absurd (miss (4 ∷ 5 ∷ 6 ∷ 7 ∷ 8 ∷ []) 0 tt o)
+tunnel-passes Barred o = absurd (miss (4 ∷ 5 ∷ 6 ∷ 7 ∷ 8 ∷ []) 1 tt o)
+tunnel-passes RoamingNotAllowed o = absurd (miss (4 ∷ 5 ∷ 6 ∷ 7 ∷ 8 ∷ []) 2 tt o)
+tunnel-passes UnableToComply o = absurd (miss (4 ∷ 5 ∷ 6 ∷ 7 ∷ 8 ∷ []) 3 tt o)
 tunnel-passes UnusedByUser o = refl
+tunnel-passes Stands o = refl
 tunnel-passes (Open n k) o = refl
 tunnel-passes (Route k) o = refl
 tunnel-passes (Free k) o = refl
@@ -93,13 +96,14 @@ module _ (session first second third : List ℕ) (s : Subscriber) (b : Brought) 
       → policyEntry wag (numberOf (planCode p)) ≡ firstFailed (decidingChecks (policy session first second third) wag s)
   policy-planned wag p e = ap (policyEntry wag) (plan-number b p s _ e) ∙ policy-entry wag
 
-pub policy-goes : (wag : Bool) (p : Plan) → OneOf (0 ∷ 1 ∷ 2 ∷ 4 ∷ 5 ∷ 6 ∷ 7 ∷ []) (tagOf the-type p) → check gatewaySaysNo wag (plain 5012) ≡ policyEntry wag (numberOf (planCode p))
+pub policy-goes : (wag : Bool) (p : Plan) → OneOf (0 ∷ 1 ∷ 2 ∷ 4 ∷ 5 ∷ 6 ∷ 7 ∷ 8 ∷ []) (tagOf the-type p) → check gatewaySaysNo wag (plain 5012) ≡ policyEntry wag (numberOf (planCode p))
 unfolding policyEntry planCode numberOf pick
 policy-goes wag NotSubscribed o = refl
 policy-goes wag Barred o = refl
 policy-goes wag RoamingNotAllowed o = refl
-policy-goes wag UnableToComply o = absurd (miss (0 ∷ 1 ∷ 2 ∷ 4 ∷ 5 ∷ 6 ∷ 7 ∷ []) 3 tt o)
+policy-goes wag UnableToComply o = absurd (miss (0 ∷ 1 ∷ 2 ∷ 4 ∷ 5 ∷ 6 ∷ 7 ∷ 8 ∷ []) 3 tt o)
 policy-goes wag UnusedByUser o = refl
+policy-goes wag Stands o = refl
 policy-goes wag (Open n k) o = refl
 policy-goes wag (Route k) o = refl
 policy-goes wag (Free k) o = refl
@@ -117,13 +121,14 @@ module _ (session label : List ℕ) (wag : Bool) (s : Subscriber) where
       → endEntry (numberOf (planCode p)) ≡ firstFailed (decidingChecks (termination session label) wag s)
   end-planned b p e = ap endEntry (plan-number b p s _ e) ∙ end-entry
 
-pub end-passes : (p : Plan) → OneOf (0 ∷ 1 ∷ 2 ∷ 3 ∷ 5 ∷ 6 ∷ 7 ∷ []) (tagOf the-type p) → pass ≡ endEntry (numberOf (planCode p))
+pub end-passes : (p : Plan) → OneOf (0 ∷ 1 ∷ 2 ∷ 3 ∷ 5 ∷ 6 ∷ 7 ∷ 8 ∷ []) (tagOf the-type p) → pass ≡ endEntry (numberOf (planCode p))
 unfolding endEntry planCode numberOf pick
 end-passes NotSubscribed o = refl
 end-passes Barred o = refl
 end-passes RoamingNotAllowed o = refl
 end-passes UnableToComply o = refl
-end-passes UnusedByUser o = absurd (miss (0 ∷ 1 ∷ 2 ∷ 3 ∷ 5 ∷ 6 ∷ 7 ∷ []) 4 tt o)
+end-passes UnusedByUser o = absurd (miss (0 ∷ 1 ∷ 2 ∷ 3 ∷ 5 ∷ 6 ∷ 7 ∷ 8 ∷ []) 4 tt o)
+end-passes Stands o = refl
 end-passes (Open n k) o = refl
 end-passes (Route k) o = refl
 end-passes (Free k) o = refl

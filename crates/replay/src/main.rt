@@ -188,7 +188,8 @@ fn run(
     }
 }
 
-// The rooms besides the table. That for answers is the target of a move and the room of a disconnection too; that for notices has sixteen of form 2.
+// The rooms besides the table. That for answers is the target of a move and the room of a disconnection too; that for notices has sixteen of form 2, and is the room of
+// an AA-Request.
 fn run_on(fd: i32, table: &mut [u8], answer: &mut [u8; 65536]) {
     let mut room = [0u8; 65536];
     let mut notice = [0u8; 6144];

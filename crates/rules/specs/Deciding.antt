@@ -81,19 +81,23 @@ admit n o s =
     (openOn n o (atPlace k (s .accesses)) (freed k s))
     (openOn n o [] s)
 
--- A Session-Id that is already in the row.
-unfoldable pub heldAlready : Subscriber → Verdict
-heldAlready s = refuse (plain 5012) s
+-- An access with this Session-Id stands on entry n.
+unfoldable pub standsOn : ℕ → (session : List ℕ) → Subscriber → Bool
+standsOn n session s = not (none (withSession session (onEntry n (s .accesses))))
+
+-- A Session-Id that is already in the row: on the entry that is asked for, 2001, and the access goes on as it is (W11); on another, 5012.
+unfoldable pub heldAlready : ℕ → (session : List ℕ) → Subscriber → Verdict
+heldAlready n session s = pick (standsOn n session s) (grant s) (refuse (plain 5012) s)
 
 -- In order: the label is not entered, USER_NO_W-APN_SUBSCRIPTION; the entry is barred, 5003; a visited network is named
--- and the entry may not roam, ROAMING_NOT_ALLOWED; the Session-Id is already in the row, 5012; else 2001.
+-- and the entry may not roam, ROAMING_NOT_ALLOWED; the Session-Id is already in the row, as above; else a new access, 2001.
 unfoldable pub type0 : Opening → (label : List ℕ) → (visited : Bool) → Subscriber → Verdict
 type0 o label visited s =
     let n : ℕ = entryNamed label s in
     pick (eqb n 0) (refuse noSubscription s)
     (pick (barred (entryAt n s)) (refuse (plain 5003) s)
     (pick (visited && not (mayRoam (entryAt n s))) (refuse roamingNotAllowed s)
-    (pick (not (none (withSession (o .session) (s .accesses)))) (heldAlready s)
+    (pick (not (none (withSession (o .session) (s .accesses)))) (heldAlready n (o .session) s)
     (admit n o s))))
 
 -- TYPE 1

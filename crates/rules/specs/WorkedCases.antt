@@ -85,6 +85,10 @@ denied l before code kind =
     eqb (l .reply .result .code) code && (eqb (l .reply .result .kind) kind && (eqb (l .reply .result .place) 0
     && (noCut l && same (l .table .bytes) (before .bytes))))
 
+-- Success that changes nothing: 2001, place 0, no cut, and the table as it was.
+unfoldable pub goesOn : Left → (before : Table) → Bool
+goesOn l before = denied l before 2001 1
+
 -- THE TWELVE
 
 unfoldable pub twelve : List Bool
@@ -98,8 +102,8 @@ twelve =
     ∷ granted b 2 noCut (1 ∷ 2 ∷ [])
     ∷ granted c 1 (cutOf 97) (2 ∷ 1 ∷ [])
     ∷ granted d 2 (cutOf 98) (1 ∷ 2 ∷ [])
-    -- 5: after 3, b again
-    ∷ denied (ask (c .table) (openAt (session 98) board)) (c .table) 5012 1
+    -- 5: after 3, b again: it stands already (W11)
+    ∷ goesOn (ask (c .table) (openAt (session 98) board)) (c .table)
     -- 6: after 3, termination of c on board; and of a, W-APN_UNUSED_BY_USER
     ∷ (granted (ask (c .table) (endAt (session 99) board)) 0 noCut (2 ∷ [])
     && denied (ask (c .table) (endAt (session 97) board)) (c .table) 5042 2)
@@ -145,6 +149,12 @@ others =
     ∷ granted c 2 (cutOf 97) (1 ∷ 3 ∷ 2 ∷ [])
     -- a Session-Id that stands, ended on another W-APN: W-APN_UNUSED_BY_USER
     ∷ denied (ask (c .table) (endAt (session 98) gate)) (c .table) 5042 2
+    -- one that stands is asked for again: on another W-APN, 5012; on its own, which is at its limit, nothing is cut (W11); so too as "Board"; and the tests
+    -- before this one come first
+    ∷ denied (ask (c .table) (openAt (session 103) board)) (c .table) 5012 1
+    ∷ goesOn (ask (c .table) (openVisited (session 103) gate)) (c .table)
+    ∷ goesOn (ask (c .table) (openAt (session 98) capitalBoard)) (c .table)
+    ∷ denied (ask (c .table) (openVisited (session 98) board)) (c .table) 5004 2
     -- ended on its own, the line closes up; then a new one takes the lowest free place and the end of the line
     ∷ granted e 0 noCut (1 ∷ 2 ∷ [])
     ∷ granted (ask (e .table) (openAt (session 100) board)) 3 noCut (1 ∷ 2 ∷ 3 ∷ [])

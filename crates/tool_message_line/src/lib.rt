@@ -135,9 +135,23 @@ pub fn is_abort(m: &[u8]) -> bool {
     octets::read24(m, 5) == 274
 }
 
+// Whether a message goes to a gateway and not to the server: such a request, or a Re-Auth-Request.
+fn is_for_gateway(m: &[u8]) -> bool {
+    if is_abort(m) {
+        return true;
+    }
+    if m.len() < 20 {
+        return false;
+    }
+    if m[4] < 128 {
+        return false;
+    }
+    octets::read24(m, 5) == 258
+}
+
 // The first test that a message fails: nothing where it passes, or is not for the server.
 pub fn verdict(out: &mut [u8; 4096], m: &[u8]) -> usize {
-    if is_abort(m) {
+    if is_for_gateway(m) {
         return 0;
     }
     let n = message::number(m);

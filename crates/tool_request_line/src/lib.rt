@@ -67,25 +67,30 @@ fn request(out: &mut [u8; 4096], at: usize, m: &[u8], asked: Asked) -> usize {
     }
 }
 
-// A message that is no whole request, with its Session-Id where its first AVP is one.
-fn no_request(out: &mut [u8; 4096], at: usize, m: &[u8]) -> usize {
-    let a = say(out, at, b"no whole request");
+// The Session-Id of a message behind some words, where its first AVP is one; else nothing.
+pub fn session(out: &mut [u8; 4096], at: usize, words: &[u8], m: &[u8]) -> usize {
     let step = reader::avp_at(m, 20);
     let Step::One(first) = step else {
-        return a;
+        return at;
     };
     if 128 <= first.flags {
-        return a;
+        return at;
     }
     if first.code != 263 {
-        return a;
+        return at;
     }
     let session = Span {
         at: first.value,
         len: first.len,
     };
-    let b = say(out, a, b", Session-Id ");
-    part(out, b, m, session)
+    let a = say(out, at, words);
+    part(out, a, m, session)
+}
+
+// A message that is no whole request, with its Session-Id.
+fn no_request(out: &mut [u8; 4096], at: usize, m: &[u8]) -> usize {
+    let a = say(out, at, b"no whole request");
+    session(out, a, b", Session-Id ", m)
 }
 
 // How many policies a request may bring to a table of that form.

@@ -208,7 +208,7 @@ pub fn open(h: Held, i: Inputs, answers: &[u8], notices: &[u8]) -> Sheets {
     bad()
 }
 
-// ONE FILE
+// BESIDE ONE FILE THAT IS READ
 
 // Whether a file may be written beside one that is read; why not is said.
 fn check_beside(fd: i32, path: &[u8], read: i32) -> bool {
@@ -222,6 +222,17 @@ fn check_beside(fd: i32, path: &[u8], read: i32) -> bool {
         b": in use here already: what is written has to be a file of its own",
     );
     false
+}
+
+// Whether two files may be written there; why not is said.
+fn are_beside(a: i32, n: i32, first: &[u8], second: &[u8], read: i32) -> bool {
+    if !check_beside(a, first, read) {
+        return false;
+    }
+    if !check_beside(n, second, read) {
+        return false;
+    }
+    check_beside(n, second, a)
 }
 
 // A file to be written beside one that is read, open and empty; -1 where nothing is made and nothing changed, which is then said.
@@ -238,4 +249,23 @@ pub fn open_beside(path: &[u8], read: i32) -> i32 {
         return s.fd;
     }
     -1
+}
+
+// Two files to be written beside one that is read, open and empty; or nothing made and nothing changed, which is then said.
+pub fn open_two_beside(first: &[u8], second: &[u8], read: i32) -> Sheets {
+    let a = open_one(first);
+    if a.fd < 0 {
+        return bad();
+    }
+    let n = open_one(second);
+    if n.fd < 0 {
+        give_up(a, first);
+        return bad();
+    }
+    if are_beside(a.fd, n.fd, first, second, read) {
+        return start(a.fd, n.fd, first, second);
+    }
+    give_up(n, second);
+    give_up(a, first);
+    bad()
 }

@@ -80,7 +80,7 @@ fn deciding(out: &mut [u8; 4096], at: usize, reason: Reason) -> usize {
         Reason::NotEntered => say(out, at, b": the subscriber does not have that label"),
         Reason::EntryBarred => say(out, at, b": the label is barred"),
         Reason::MayNotRoam => say(out, at, b": the label may not roam"),
-        Reason::SessionHeld => say(out, at, b": the Session-Id is held"),
+        Reason::SessionHeld => say(out, at, b": the Session-Id is held on another label"),
         Reason::NoAccess => say(out, at, b": no access has the Session-Id"),
         Reason::GatewaySaysNo => say(out, at, b": the gateway says no"),
         Reason::Unused => say(out, at, b": no access has the Session-Id on that label"),

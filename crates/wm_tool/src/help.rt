@@ -93,6 +93,22 @@ fn disconnecting() {
     line(b"                                  status is 1 if an answer belongs to none\n");
 }
 
+// The command that plays the gateway.
+fn reauthorizing() {
+    line(
+        b"play reauth REQUESTS ANSWERS AA-REQUESTS HOST REALM SESSION USER LABEL [visited=NETWORK] [first=N]\n",
+    );
+    line(
+        b"                                  plays the gateway HOST of REALM, which has the access SESSION of USER on\n",
+    );
+    line(
+        b"                                  LABEL: each Re-Auth-Request is answered, and where it is good the AA-Request\n",
+    );
+    line(
+        b"                                  for the access is written too, for handle; its identifiers count from N\n",
+    );
+}
+
 // The commands on reports, and the board.
 fn reports() {
     line(b"play report new REPORT            a report by hour, nothing counted\n");
@@ -152,6 +168,7 @@ pub fn say() {
     serving();
     expecting();
     disconnecting();
+    reauthorizing();
     reports();
     rest();
 }
@@ -226,7 +243,7 @@ fn is_other(word: &[u8]) -> bool {
     )
 }
 
-// Likewise, on the disconnection.
+// Likewise, on what the server sends to a gateway.
 fn is_told(word: &[u8]) -> bool {
     if is_used(
         word,
@@ -235,10 +252,17 @@ fn is_told(word: &[u8]) -> bool {
     ) {
         return true;
     }
-    is_used(
+    if is_used(
         word,
         b"abort-answers",
         b"usage: play abort-answers REQUESTS ANSWERS",
+    ) {
+        return true;
+    }
+    is_used(
+        word,
+        b"reauth",
+        b"usage: play reauth REQUESTS ANSWERS AA-REQUESTS HOST REALM SESSION USER LABEL [visited=NETWORK] [first=N]",
     )
 }
 

@@ -43,7 +43,8 @@ fn is_set_up(word: &[u8], table: &mut [u8]) -> bool {
     false
 }
 
-// The commands on the disconnection of what was cut; whether it is one of them. The requests that were sent stand in the room.
+// The commands on what the server sends to a gateway, the disconnection of what was cut and the gateway's own part; whether it is one of them. The requests that were
+// sent stand in the room.
 fn is_told(word: &[u8], room: &mut [u8]) -> bool {
     if is_called(word, b"abort", 6, 8) {
         tool_abort::run();
@@ -53,10 +54,14 @@ fn is_told(word: &[u8], room: &mut [u8]) -> bool {
         tool_abort_answers::run(room);
         return true;
     }
+    if is_called(word, b"reauth", 10, 12) {
+        tool_reauth::run();
+        return true;
+    }
     false
 }
 
-// The commands of the products above the server: the disconnection, the report and the board.
+// The commands of the products above the server: the disconnection, the gateway, the report and the board.
 fn run_above(word: &[u8], table: &mut [u8]) {
     if is_told(word, table) {
         return;

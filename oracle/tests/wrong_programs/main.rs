@@ -33,8 +33,9 @@ use oracle::handling::{Call, no_answer};
 use oracle::program::{Operation, Program};
 use oracle::random::Random;
 use oracle::reading_a_message::{Name, is, walk};
-use oracle::reauth_calls::{self, re_auth_calls};
+use oracle::reauth_calls::{self, ReAuthDecks, re_auth_calls, re_auths};
 use oracle::reauth_circles::circles;
+use oracle::reauthorizing::{ReAuth, ReAuthorized};
 use oracle::recorder::Recorder;
 use oracle::rules::{DOCUMENT_01, Rules, WITH_W11};
 use oracle::script::{Record, judge};
@@ -172,6 +173,22 @@ fn every_wrong_gateway_is_told_apart() {
     every_one_is_told_apart(&programs, calls.len(), given);
 }
 
+/// The same by the calls that stand in scripts.
+#[test]
+fn every_wrong_gateway_is_told_apart_by_a_script() {
+    let mut recorder = Recorder::new(6_000);
+    let (mut decks, mut random) = (ReAuthDecks::default(), Random::new(17));
+    while !recorder.is_full() {
+        re_auths(&mut recorder, &mut decks, &mut random);
+    }
+    let records = read(&write(&recorder.records)).unwrap();
+    assert_eq!(told_apart(&mut WITH_W11.clone(), &records), None);
+    let mut programs = [gateways::programs(), aa_requests::programs()].concat();
+    programs.retain_mut(|(_, rules)| told_apart(rules, &records).is_none());
+    let unnoticed: Vec<&str> = programs.iter().map(|(name, _)| *name).collect();
+    assert!(unnoticed.is_empty(), "not told apart: {unnoticed:#?}");
+}
+
 /// The servers for which W11's rule is another: whole circles have to tell.
 #[test]
 fn every_wrong_held_session_is_told_apart() {
@@ -232,6 +249,10 @@ impl Program for Echo {
 
     fn burst(&mut self, burst: &mut Burst) -> Taken {
         RIGHT.clone().burst(burst)
+    }
+
+    fn re_authorize(&mut self, call: &mut ReAuth) -> ReAuthorized {
+        RIGHT.clone().re_authorize(call)
     }
 
     fn handle(&mut self, call: Call) -> Outcome {

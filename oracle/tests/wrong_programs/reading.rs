@@ -1,6 +1,6 @@
 //! Wrong programs that differ in the header tests, the walk, or in how AVPs are known.
 
-use oracle::known_avps::{AA_REQUEST, supported};
+use oracle::known_avps::{self, AA_REQUEST, supported_with_re_auth as supported};
 use oracle::reading_a_message::*;
 use oracle::rules::Rules;
 use oracle::{Code, plain};
@@ -177,10 +177,7 @@ fn of_known_avps() -> Vec<Wrong> {
             33 | 280 => Ok(()),
             _ => supported(avp),
         };
-        "knows Re-Auth-Request-Type": supported = |avp| match avp.code {
-            285 => Ok(()),
-            _ => supported(avp),
-        };
+        "does not know Re-Auth-Request-Type": supported = known_avps::supported;
         "knows the grammar of RFC 4005 too": supported = |avp| match avp.code {
             97 | 408 => Ok(()),
             _ => supported(avp),

@@ -1,6 +1,6 @@
 -- Case by case of the plan: what it means is what the change leaves.
 use Rattle.effects.specs.declared.Cut.the-variants.{NoCut}
-use mathlib.Core.Path.{_≡_, refl}
+use mathlib.Core.Path.{_≡_, refl, sym}
 use mathlib.Core.Bool.{true, false, _&&_}
 use Prim.Native.Nat.{_-_, _<_, _≤_}
 use native.Mathlib.Omega.{arith}
@@ -21,6 +21,7 @@ use borrow.Author.Needs.{needs}
 use Rattle.effects.proofs.carry.Statement.{statement}
 use Rattle.effects.proofs.carry.Tie as tie
 use Rattle.effects.specs.Carrying.{cutFor, doneFor}
+use Rattle.effects.proofs.Rooms.{row-stays}
 
 enum-known-plan : tie.Need-enum-known-plan
 enum-known-plan c = search needs
@@ -220,6 +221,20 @@ returns-9 c =
     let is = c .before .enum-told5 .given .1 in
     rw is (refl, refl, c .nothing7 .ensures)
 
+enum-told-6 : tie.Need-enum-told-6
+enum-told-6 c = search needs
+
+nothing-requires-8 : tie.Need-nothing-requires-8
+nothing-requires-8 c κs = search needs
+
+returns-10 : tie.Need-returns-10
+unfolding planned planCode grant noticeRoom doneFor cutFor
+returns-10 c =
+    let start = c .before .before .before .before .before .before .before .before .before .before .before in
+    let a = start .args in
+    let is = c .before .enum-told6 .given .1 in
+    rw is (sym (row-stays (lent (a .form) (a .table .now)) (a .i) (start .pre .2) (start .pre .3)), refl, c .nothing8 .ensures)
+
 pub carry-spec : {M : Type 1} → statement M
 carry-spec =
     tie.close
@@ -257,4 +272,7 @@ carry-spec =
     returns-8
     enum-told-5
     nothing-requires-7
-    returns-9)
+    returns-9
+    enum-told-6
+    nothing-requires-8
+    returns-10)

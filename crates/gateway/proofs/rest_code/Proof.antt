@@ -2,11 +2,10 @@
 use mathlib.Core.Path.{refl}
 use mathlib.Core.Bool.{true}
 use mathlib.Core.List.{[], _∷_}
-use Rattle.message.specs.ReadingAMessage.{avps, destinationHost, fieldCode, numberField, textField}
+use Rattle.message.specs.ReadingAMessage.{avps, destinationHost, fieldCode, numberField, textField, reAuthRequestType}
 use Rattle.message.specs.Positions.{names, nameAt}
 use Rattle.message.specs.Spans.{bytesField}
 use Rattle.message.proofs.Listing.{go-on, stop}
-use Rattle.gateway.specs.TheGateway.{reAuthRequestType}
 use Rattle.gateway.proofs.Reading.{rest-go, rest-stop}
 use borrow.Author.Needs.{needs}
 use Rattle.gateway.proofs.rest_code.Statement.{statement}

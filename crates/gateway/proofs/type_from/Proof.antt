@@ -6,9 +6,8 @@ use native.Mathlib.Omega.{arith}
 use lib.ListN.{length, drop}
 use borrow.Author.Needs.{needs}
 use Rattle.octets.specs.Numbers.{net24, up4}
-use Rattle.message.specs.ReadingAMessage.{requestWalk, sameName, avpOf}
+use Rattle.message.specs.ReadingAMessage.{requestWalk, sameName, avpOf, reAuthRequestType}
 use Rattle.answers.proofs.Proxies.{next-in, passed-on}
-use Rattle.gateway.specs.TheGateway.{reAuthRequestType}
 use Rattle.gateway.specs.Code.{typesFrom}
 use Rattle.gateway.proofs.Types.{type-other}
 use Rattle.gateway.proofs.type_from.Statement.{statement}

@@ -4,7 +4,7 @@ use mathlib.Core.Bool.{false, not, _&&_}
 use lib.Dec.{eqb}
 use borrow.Author.Tests.{eq-eqb, ne-eqb}
 use Rattle.table.specs.TheTable.{readRow, mayRoam}
-use Rattle.rules.specs.Deciding.{admit, none, withSession, entryNamed, entryAt}
+use Rattle.rules.specs.Deciding.{admit, heldAlready, none, withSession, entryNamed, entryAt}
 use Rattle.plans.specs.Plans.{planned, planCode}
 use Rattle.plans.proofs.Found.{none-with}
 use Rattle.plans.proofs.Verdicts.{not-subscribed, is-barred, no-roaming, is-held, is-admitted}
@@ -73,25 +73,31 @@ returns-3 c =
 place-of-requires : tie.Need-place-of-requires
 place-of-requires c κs = search needs
 
+plan-held-requires : tie.Need-plan-held-requires
+plan-held-requires c κs = search needs
+
 returns-4 : tie.Need-returns-4
-unfolding planned planCode mayRoam fitPlan
+unfolding mayRoam
 returns-4 c =
-    let start = c .before .before .before .before .before .before .before .before .before .before .before in
+    let start = c .before .before .before .before .before .before .before .before .before .before .before .before in
     let a = start .args in
     let s = readRow (a .row .now) in
     let session = a .session .now in
     let label = a .label .now in
-    let named : c .before .before .before .before .before .before .before .entry-named .result ≡ entryNamed label s = c .before .before .before .before .before .before .before .entry-named .ensures .0 in
-    let entered : entryNamed label s ≡ 0 → ⊥ = λ z. c .before .before .before .before .before .before .if1 .left (named ∙ z) in
-    let flags : c .before .before .before .before .before .flags-of .result ≡ (entryAt (entryNamed label s) s) .flags = c .before .before .before .before .before .flags-of .ensures ∙ ap (λ (n : ℕ). (entryAt n s) .flags) named in
-    let unbarred : (entryAt (entryNamed label s) s) .flags % 2 ≡ 1 → ⊥ = λ z. c .before .before .before .if2 .left (ap (λ (n : ℕ). n % 2) flags ∙ z) in
-    let roams : c .before .before .before .before .roams-unasked .result ≡ a .visited && not (mayRoam (entryAt (entryNamed label s) s)) =
-    c .before .before .before .before .roams-unasked .ensures ∙ ap (λ (n : ℕ). a .visited && not (eqb (n / 2 % 2) 1)) flags in
-    let home : a .visited && not (mayRoam (entryAt (entryNamed label s) s)) ≡ false = sym roams ∙ c .before .before .if3 .left in
-    let there : none (withSession session (s .accesses)) ≡ eqb (c .before .place-of .result) 0 =
-    none-with (a .row .now) session (start .pre) ∙ ap (λ (k : ℕ). eqb k 0) (sym (c .before .place-of .ensures .0)) in (
-      λ o p same. sym (is-held o label (a .visited) s entered unbarred home (ap (λ (t : List ℕ). none (withSession t (s .accesses))) same ∙ there ∙ ne-eqb _ 0 (c .if4 .taken))),
-      λ p. refl,
+    let named : c .before .before .before .before .before .before .before .before .entry-named .result ≡ entryNamed label s = c .before .before .before .before .before .before .before .before .entry-named .ensures .0 in
+    let entered : entryNamed label s ≡ 0 → ⊥ = λ z. c .before .before .before .before .before .before .before .if1 .left (named ∙ z) in
+    let flags : c .before .before .before .before .before .before .flags-of .result ≡ (entryAt (entryNamed label s) s) .flags = c .before .before .before .before .before .before .flags-of .ensures ∙ ap (λ (n : ℕ). (entryAt n s) .flags) named in
+    let unbarred : (entryAt (entryNamed label s) s) .flags % 2 ≡ 1 → ⊥ = λ z. c .before .before .before .before .if2 .left (ap (λ (n : ℕ). n % 2) flags ∙ z) in
+    let roams : c .before .before .before .before .before .roams-unasked .result ≡ a .visited && not (mayRoam (entryAt (entryNamed label s) s)) =
+    c .before .before .before .before .before .roams-unasked .ensures ∙ ap (λ (n : ℕ). a .visited && not (eqb (n / 2 % 2) 1)) flags in
+    let home : a .visited && not (mayRoam (entryAt (entryNamed label s) s)) ≡ false = sym roams ∙ c .before .before .before .if3 .left in
+    let there : none (withSession session (s .accesses)) ≡ eqb (c .before .before .place-of .result) 0 =
+    none-with (a .row .now) session (start .pre) ∙ ap (λ (k : ℕ). eqb k 0) (sym (c .before .before .place-of .ensures .0)) in (
+      λ o p same. c .plan-held .ensures .0 (record { opening = o; policies = p })
+          ∙ ap (λ (n : ℕ). heldAlready n session s) named
+          ∙ ap (λ (t : List ℕ). heldAlready (entryNamed label s) t s) (sym same)
+          ∙ sym (is-held o label (a .visited) s entered unbarred home (ap (λ (t : List ℕ). none (withSession t (s .accesses))) same ∙ there ∙ ne-eqb _ 0 (c .before .if4 .taken))),
+      c .plan-held .ensures .1,
     )
 
 plan-opening-requires : tie.Need-plan-opening-requires
@@ -131,6 +137,7 @@ plan-tunnel-spec =
     returns-2
     returns-3
     place-of-requires
+    plan-held-requires
     returns-4
     plan-opening-requires
     returns-5)

@@ -1,0 +1,2 @@
+pub mod TheAccessGoesOn
+pub mod WorkedCases
