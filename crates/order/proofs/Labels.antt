@@ -42,7 +42,7 @@ label-is l s h = label-from 0 l (s .entries) h
 
 -- LABELS DIFFER, so that a label is that of one entry.
 
-every-at : (f : List ℕ → Bool) (es : List Entry) (j : ℕ) → every f (labels es) ≡ true → j < length es → f ((getD es j noEntry) .label) ≡ true
+pub every-at : (f : List ℕ → Bool) (es : List Entry) (j : ℕ) → every f (labels es) ≡ true → j < length es → f ((getD es j noEntry) .label) ≡ true
 unfolding every labels
 every-at f [] j h l = absurd (omega arith)
 every-at f (e ∷ es) zero h l = and-left (f (e .label)) _ h

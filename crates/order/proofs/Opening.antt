@@ -10,10 +10,10 @@ use lib.Dec.{eqb}
 use lib.ListN.{getD, length, take}
 use Rattle.octets.specs.Choice.{pick}
 use Rattle.octets.proofs.Lists.{and-left, and-right, by-test}
+use Rattle.octets.proofs.Pieces.{pieces-at}
 use Rattle.message.specs.ReadingAMessage.{Ask, command, avps, requestOf}
-use Rattle.table.specs.TheTable.{Account, Entry, Subscriber, Table, Found, row, nothing, later, firstRow, lookup, rows, isRowOf, rowAt, width, tableNumber, readRow}
+use Rattle.table.specs.TheTable.{Account, Entry, Subscriber, Table, Found, row, nothing, later, firstRow, lookup, rows, isRowOf, rowAt, width, readRow}
 use Rattle.table.specs.Soundness.{sound}
-use Rattle.table.proofs.Rows.{nth-row, whole-rows}
 use Rattle.rules.specs.Calls.{account, Call, handle, mostPolicies, run, ranFirst, callNumber}
 use Rattle.order.specs.Demand2.{requestIn, found, said, succeeds, exceeds, placeTaken}
 use Rattle.order.specs.Demand3.{subscriber, isOf, subject, ownNumber}
@@ -48,13 +48,18 @@ found-row : (t : Table) (who : Account) (i : ℕ) → lookup t who ≡ row i →
 unfolding lookup Passes
 found-row t who i e = rw e at (passes (isRowOf who) (rows t))
 
-found-at : (t : Table) (who : Account) (i : ℕ) → tableNumber t ≡ 0 → lookup t who ≡ row i → isRowOf who (rowAt t i) ≡ true
-unfolding lookup rows
-found-at t who i good e =
-    let r : getD (rows t) i [] ≡ rowAt t i = nth-row (length (t .bytes) / width t) t (whole-rows t good) i (in-table (isRowOf who) t i e) in
-    rw r at (found-row t who i e)
+-- a row that is the first to pass a test passes it
+pub passes-at : (f : List ℕ → Bool) (t : Table) (i : ℕ) → firstRow f (rows t) ≡ row i → f (rowAt t i) ≡ true
+unfolding rows rowAt Passes
+passes-at f t i e =
+    let r : getD (rows t) i [] ≡ rowAt t i = pieces-at (width t) (length (t .bytes) / width t) (t .bytes) i (in-table f t i e) in
+    rw r at (rw e at (passes f (rows t)))
 
-one-owner : (a b : Account) (r : List ℕ) → isRowOf a r ≡ true → isRowOf b r ≡ true → subscriber a ≡ subscriber b
+pub found-at : (t : Table) (who : Account) (i : ℕ) → lookup t who ≡ row i → isRowOf who (rowAt t i) ≡ true
+unfolding lookup
+found-at t who i e = passes-at (isRowOf who) t i e
+
+pub one-owner : (a b : Account) (r : List ℕ) → isRowOf a r ≡ true → isRowOf b r ≡ true → subscriber a ≡ subscriber b
 unfolding finds
 one-owner a b r p q = finds-owner (subscriber a) r p ∙ sym (finds-owner (subscriber b) r q)
 
@@ -63,14 +68,19 @@ not-nothing i e = let y : _≡_ {A = ℕ} 0 1 = cc in omega arith
 
 -- A CALL THAT SUCCEEDS
 
-subject-won : (t : Table) (c : Call) (j : ℕ) → OnRow t c j → callNumber t c ≡ 0 → subject (t .form) c ≡ subscriber (account c (requestIn c))
+pub subject-won : (t : Table) (c : Call) (j : ℕ) → OnRow t c j → callNumber t c ≡ 0 → subject (t .form) c ≡ subscriber (account c (requestIn c))
 unfolding requestIn
 subject-won t c j o a =
     let own : eqb (ownNumber (t .form) c) 0 ≡ true = eq-eqb (ownNumber (t .form) c) 0 (sym (number-good t c (rows-there t c a)) ∙ a) in
     was-read (t .form) c (requestOf (command (c .message)) (avps (c .message))) own (read-is (mostPolicies (t .form)) (c .message) (o .was-read))
 
-same-account : (a b : Account) → subscriber a ≡ subscriber b → a ≡ b
+pub same-account : (a b : Account) → subscriber a ≡ subscriber b → a ≡ b
 same-account a b e = cc
+
+-- it is on the row that its subscriber finds
+pub own-found : (t : Table) (who : Account) (c : Call) → subject (t .form) c ≡ subscriber who → Won t c → found t c ≡ lookup t who
+unfolding found
+own-found t who c of (won j o n h) = ap (lookup t) (same-account _ _ (sym (subject-won t c j o n) ∙ of))
 
 module _ (t : Table) (who : Account) (i : ℕ) (here : lookup t who ≡ row i) (c : Call) where
   -- one on this row is its subscriber's, and one of its subscriber is on this row
@@ -81,8 +91,7 @@ module _ (t : Table) (who : Account) (i : ℕ) (here : lookup t who ≡ row i) (
       rw s (subject-refl (subscriber who))
 
   own-row : subject (t .form) c ≡ subscriber who → Won t c → found t c ≡ row i
-  unfolding found
-  own-row of (won j o n h) = ap (lookup t) (same-account _ _ (sym (subject-won t c j o n) ∙ of)) ∙ here
+  own-row of w = own-found t who c of w ∙ here
 
 -- what its reply shows of the row that it is on
 module _ (t : Table) (c : Call) (i : ℕ) (e : found t c ≡ row i) where
@@ -101,7 +110,7 @@ module _ (t : Table) (c : Call) (i : ℕ) (e : found t c ≡ row i) where
 not-both : {P : Type 0} (b : Bool) → b ≡ true → b ≡ false → P
 not-both b p q = let z : _≡_ {A = ℕ} 0 1 = cc in absurd (omega arith)
 
-won-success : (t : Table) (c : Call) → succeeds t c ≡ true → Won t c
+pub won-success : (t : Table) (c : Call) → succeeds t c ≡ true → Won t c
 won-success t c s = won-went t c s (went t c)
 
 -- a row is the one that a call which succeeds is on, or it stays
@@ -152,7 +161,7 @@ module _ (t : Table) (who : Account) (i : ℕ) (here : lookup t who ≡ row i) (
   second-found : (j : ℕ) → isRowOf who (rowAt t j) ≡ true → found t c ≡ row j → Won t c → row j ≡ row i
   unfolding found
   second-found j of e (won k o a h) =
-      sym e ∙ ap (lookup t) (same-account _ _ (one-owner _ _ _ (found-at t _ j (rows-there t c a) e) of)) ∙ here
+      sym e ∙ ap (lookup t) (same-account _ _ (one-owner _ _ _ (found-at t _ j e) of)) ∙ here
 
   second-one : (j : ℕ) → (j ≡ i → ⊥) → isRowOf who (rowAt t j) ≡ true → Touched t c j → rowAt ((handle t c) .table) j ≡ rowAt t j
   second-one j ne of (on h e) = absurd (ne (same-row j i (second-found j of e (won-success t c h))))

@@ -34,11 +34,11 @@ leaving-refused : (n : ℕ) (t u : Table) → eqb ((leaving n t u) .number) 0 �
 unfolding leaving pick
 leaving-refused n t u h = rw h
 
-leaving-done : (n : ℕ) (t u : Table) → n ≡ 0 → (leaving n t u) .table ≡ u
+pub leaving-done : (n : ℕ) (t u : Table) → n ≡ 0 → (leaving n t u) .table ≡ u
 unfolding leaving pick
 leaving-done n t u h = rw h
 
-leaving-number : (n : ℕ) (t u : Table) → (leaving n t u) .number ≡ n
+pub leaving-number : (n : ℕ) (t u : Table) → (leaving n t u) .number ≡ n
 unfolding leaving
 leaving-number n t u = refl
 
@@ -88,7 +88,7 @@ module _ (t : Table) (shares : List ℕ) (a : Account) (h : enterNumber t shares
   unfolding enterNumber
   enter-first = first-passes _ _ h
 
-  enter-rows : tableNumber t ≡ 0
+  pub enter-rows : tableNumber t ≡ 0
   enter-rows = first-table t (a .operator) enter-first
 
   enter-name : isName (a .name) ≡ true
@@ -131,14 +131,14 @@ module _ (r : List ℕ) (e : Entry) (h : entryNumber r e ≡ 0) where
         sum-room = rw (sum-snoc (limits ((readRow r) .entries)) (e .limit)) (leb-true _ 8 (passed _ 17 (omega arith) (first-passes _ _ h4)));
       }
 
-add-first : (t : Table) (a : Account) (e : Entry) → (add t a e) .number ≡ 0 → firstNumber t (a .operator) ≡ 0
+pub add-first : (t : Table) (a : Account) (e : Entry) → (add t a e) .number ≡ 0 → firstNumber t (a .operator) ≡ 0
 unfolding add pick leaving
 add-first t a e h =
     by-test (eqb (firstNumber t (a .operator)) 0)
     (λ z. eqb-true (firstNumber t (a .operator)) 0 z)
     (λ z. rw z at h)
 
-add-is : (t : Table) (a : Account) (e : Entry) (i : ℕ) → firstNumber t (a .operator) ≡ 0 → lookup t a ≡ row i
+pub add-is : (t : Table) (a : Account) (e : Entry) (i : ℕ) → firstNumber t (a .operator) ≡ 0 → lookup t a ≡ row i
     → add t a e ≡ leaving (entryNumber (rowAt t i) e) t (withRow t i (rowBytes (t .form) (withEntry e (readRow (rowAt t i)))))
 unfolding add addAt pick
 add-is t a e i z f = rw (z, f)
@@ -197,7 +197,7 @@ unfolding named
 new-found fm a h = found-by a (rowBytes fm (named a)) _ (row-account fm (named a)) ∙ front-found a h
 
 module _ (t : Table) (shares : List ℕ) (a : Account) (h : enterNumber t shares a ≡ 0) where
-  not-held : isFound (lookup t a) ≡ false
+  pub not-held : isFound (lookup t a) ≡ false
   unfolding enterNumber
   not-held = not-true (isFound (lookup t a)) (passed _ 10 (omega arith) (first-passes _ _ (others-pass _ _ (others-pass _ _ (others-pass _ _ h)))))
 

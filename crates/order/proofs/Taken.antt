@@ -27,7 +27,7 @@ module _ {A : Type 0} where
       (λ e. by-test (g x) (λ d. rw (e, d, keep-twice f g xs)) (λ d. rw (e, d, keep-twice f g xs)))
       (λ e. rw (e, keep-twice f g xs))
 
-  no-first : (f : A → Bool) (a : A) (others : List A) → keep f [] ≡ a ∷ others → ⊥
+  pub no-first : (f : A → Bool) (a : A) (others : List A) → keep f [] ≡ a ∷ others → ⊥
   unfolding keep
   no-first f a others e = let z : _≡_ {A = ℕ} 0 1 = cc in omega arith
 
@@ -70,7 +70,7 @@ module _ (x : Access) (xs : List Access) where
   unfolding leave
   other-stays k sid p d e = keep-yes _ x xs p ∙ ap (λ (l : List Access). x ∷ l) e ∙ sym (keep-yes _ x xs d)
 
-same-first : {A : Type 0} (x y : A) (xs ys : List A) → x ∷ xs ≡ y ∷ ys → x ≡ y
+pub same-first : {A : Type 0} (x y : A) (xs ys : List A) → x ∷ xs ≡ y ∷ ys → x ≡ y
 same-first x y xs ys e = cc
 
 -- of accesses with a place and a Session-Id each, the one that leaves its place is the one with its Session-Id

@@ -1,0 +1,13 @@
+pub mod Taking
+pub mod Labels
+pub mod Telling
+pub mod SettingUp
+pub mod OneRow
+pub mod Asking
+pub mod Counting
+pub mod Going
+pub mod Ages
+pub mod Limits
+pub mod JustOpened
+pub mod WorkedCases
+pub mod Whose

@@ -1,0 +1,5 @@
+pub mod Histories
+pub mod OrderOfOpening
+pub mod EachCounted
+pub mod WhatFollows
+pub mod WorkedCases
