@@ -1,6 +1,5 @@
 pub mod Boundaries
 pub mod Refusals
-pub mod Handled
 pub mod Steps
 pub mod Turns
 pub mod Places

@@ -21,7 +21,7 @@ use Rattle.burst.specs.TheBurst.{Burst, Bursted, burst, burstNumber, nex
 use Rattle.burst.specs.GoingOn.{rest, together}
 use Rattle.burst.specs.Code.{burstOf, leaves, resultIn}
 use Rattle.burst.proofs.Boundaries.{next-within, whole-count}
-use Rattle.burst.proofs.Handled.{Fine, fine}
+use Rattle.order.proofs.Handled.{Fine, fine}
 use Rattle.burst.proofs.Places.{set-is}
 use Rattle.burst.proofs.Steps.{after, callIn, goOn}
 use Rattle.burst.proofs.Turns.{Taking, Within, at-first, at-last, inTheEnd, leftOf, nextTaken, standing, stopped, taking, turn}

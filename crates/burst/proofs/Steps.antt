@@ -21,7 +21,7 @@ use Rattle.order.proofs.Rooms.{brought-decides, rooms-after}
 use Rattle.burst.specs.TheBurst.{Burst, Bursted, Taken, allTold, bursted, callFor, callsFor, callsOf, howMany, joined, nextLength, refusedBurst, wholeMessages}
 use Rattle.burst.specs.GoingOn.{rest, together}
 use Rattle.burst.proofs.Boundaries.{next-fits, whole-next, whole-none}
-use Rattle.burst.proofs.Handled.{notice-length, told-length}
+use Rattle.order.proofs.Handled.{notice-length, told-length}
 
 -- What a burst that is not refused leaves.
 unfoldable pub goOn : Table → Burst → Bursted

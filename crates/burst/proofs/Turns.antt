@@ -21,7 +21,7 @@ use Rattle.order.proofs.Rooms.{rooms-after}
 use Rattle.burst.specs.TheBurst.{Burst, Bursted, Taken, allTold, bursted, callsFor, callsOf, howMany, joined, nextLength, refusedBurst, wholeMessages}
 use Rattle.burst.specs.GoingOn.{rest, together}
 use Rattle.burst.proofs.Boundaries.{whole-none}
-use Rattle.burst.proofs.Handled.{notice-length, told-length}
+use Rattle.order.proofs.Handled.{notice-length, told-length}
 use Rattle.burst.proofs.Steps.{after, callIn, form-after, goOn, put-drop, step}
 
 -- WHERE IT STOPS

@@ -17,7 +17,7 @@ use Rattle.order.proofs.Rooms.{rooms-after}
 use Rattle.burst.specs.TheBurst.{Burst, Bursted, burst, burstNumber, nextLength, refusedBurst, wholeMessages}
 use Rattle.burst.specs.GoingOn.{rest, together}
 use Rattle.burst.proofs.Boundaries.{next-fits, whole-next, whole-none}
-use Rattle.burst.proofs.Handled.{notice-length, told-length}
+use Rattle.order.proofs.Handled.{notice-length, told-length}
 use Rattle.burst.proofs.Loop.{burst-goes, words-fit}
 use Rattle.burst.proofs.Steps.{after, callIn, goOn, put-drop, step}
 use Rattle.burst.proofs.Turns.{stop-end}

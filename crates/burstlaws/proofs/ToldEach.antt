@@ -31,7 +31,7 @@ use Rattle.order.specs.Demand3.{Told, told}
 use Rattle.order.proofs.Lists.{form-stays, one-reply-each}
 use Rattle.order.proofs.Rooms.{length-cut}
 use Rattle.burst.specs.TheBurst.{Burst, burst, burstNumber, bursted, callsOf, howMany, joined, refusedBurst}
-use Rattle.burst.proofs.Handled.{fine}
+use Rattle.order.proofs.Handled.{fine}
 use Rattle.burstlaws.specs.AnyOrder.{toldIn, tolds}
 
 -- A REPLY: few bytes of answer, and room for the notice that it tells

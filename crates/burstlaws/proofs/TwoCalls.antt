@@ -20,7 +20,7 @@ use Rattle.order.proofs.Rooms.{brought-decides, rooms-after}
 use Rattle.burst.specs.TheBurst.{Burst, Bursted, Taken, burst, burstNumber, bursted, nextLength, refusedBurst, wholeMessages}
 use Rattle.burst.specs.GoingOn.{rest, together}
 use Rattle.burst.proofs.Boundaries.{next-fits, next-short, whole-next}
-use Rattle.burst.proofs.Handled.{fine, notice-length}
+use Rattle.order.proofs.Handled.{fine, notice-length}
 use Rattle.burst.proofs.Loop.{burst-goes, burst-refused, places-fit, words-fit}
 use Rattle.burst.proofs.Refusals.{refused-not, refused-results, refused-wags}
 use Rattle.burst.proofs.Steps.{after, callIn, form-after, goOn, put-take, step}

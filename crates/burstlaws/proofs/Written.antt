@@ -17,7 +17,7 @@ use Rattle.rules.specs.Calls.{Call, Reply, answerLeast, handle, noticeLength, r
 use Rattle.order.specs.Demand3.{Told, told}
 use Rattle.order.proofs.Lists.{one-reply-each}
 use Rattle.burst.specs.TheBurst.{Burst, Bursted, allTold, burst, burstNumber, callsOf, howMany, joined, refusedBurst}
-use Rattle.burst.proofs.Handled.{fine}
+use Rattle.order.proofs.Handled.{fine}
 use Rattle.burst.proofs.Loop.{burst-goes, burst-refused}
 use Rattle.burst.proofs.Steps.{goOn}
 use Rattle.burstlaws.proofs.ToldEach.{Whole, form-on, number-is, toldOf, whole-on}

@@ -3,6 +3,7 @@ pub mod Alone
 pub mod Handling
 pub mod Lists
 pub mod Rooms
+pub mod Handled
 pub mod Decided
 pub mod Read
 pub mod Answered

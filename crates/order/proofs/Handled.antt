@@ -68,7 +68,7 @@ module _ (t : Table) (c : Call) where
 
 -- WHAT IS TOLD, by its length
 
-longer : (room s : List ℕ) → length room ≤ length (put room 0 s)
+pub longer : (room s : List ℕ) → length room ≤ length (put room 0 s)
 unfolding put
 longer room s =
     let all : length (s ++ drop (0 + length s) room) ≡ length s + length (drop (0 + length s) room) = length-append s _ in

@@ -1,0 +1,2 @@
+pub mod TheJudge
+pub mod Code

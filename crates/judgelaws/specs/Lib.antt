@@ -1,0 +1,2 @@
+pub mod TheJudgesRules
+pub mod WorkedCases

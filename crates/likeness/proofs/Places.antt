@@ -1,0 +1,190 @@
+-- An AVP at a place of an answer: what is known of one that passes the four tests, its name, its flags and its value by its bytes, and the walk from there on.
+use mathlib.Core.Path.{_≡_, sym, ap, _∙_}
+use mathlib.Core.Bool.{Bool, false, _&&_, and-false}
+use mathlib.Core.List.{List, [], _∷_}
+use Prim.Native.Nat.{ℕ, _+_, _-_, _≤_, _<_}
+use native.Mathlib.Omega.{arith}
+use borrow.Author.Tests.{eqb-true, eqb-false, eq-eqb, ne-eqb, leb-true, leb-false, ltb-true, ltb-false}
+use lib.Dec.{eqb, leb, ltb}
+use lib.ListN.{length, getD, take, drop, length-drop}
+use lib.Seq.{getD-drop, getD-take, drop-drop, length-take-le}
+use Rattle.octets.specs.Choice.{pick}
+use Rattle.octets.specs.Numbers.{net24, net32, up4}
+use Rattle.octets.specs.Texts.{same}
+use Rattle.octets.proofs.Lists.{by-test}
+use Rattle.message.specs.ReadingAMessage.{base, vendor, sameName, headLength, avpLength, avpCode, avpOf, Walk, behind, walk}
+use Rattle.message.proofs.Walks.{Passed, passes, up4-least, walk-end, walk-bad, walk-one}
+use Rattle.message.proofs.Heads.{net24-drop, net32-drop, head-v, head-base, name-v, name-base, code-few}
+use Rattle.message.proofs.Gathering.{next-on}
+use Rattle.likeness.specs.TheSameAnswer.{flagByte, sameAvp}
+use Rattle.likeness.specs.Code.{avpAt, avpsFrom, nextAt, Stands}
+
+-- AN AVP THAT PASSES
+
+pub stands : (m : List ℕ) (at : ℕ) → avpCode (drop at m) ≡ 0 → Stands m at
+stands m at e =
+    let p : Passed (drop at m) = passes (drop at m) e in
+    let n : avpLength (drop at m) ≡ net24 m (at + 5) = net24-drop at 5 m in
+    let w : up4 (avpLength (drop at m)) ≤ length m - at = rw length-drop at (p .whole) in
+    let g : 8 ≤ length m - at = rw length-drop at (p .eight) in
+    record {
+      passes = e;
+      eight = omega arith;
+      head = omega (arith, p .head);
+      end = omega (arith, up4-least (avpLength (drop at m)));
+    }
+
+-- the next place is further on, and inside
+pub reaches : (m : List ℕ) (at : ℕ) → avpCode (drop at m) ≡ 0 → (at + 8 ≤ at + up4 (avpLength (drop at m))) × (at + up4 (avpLength (drop at m)) ≤ length m)
+reaches m at e = next-on m at (omega (arith, (stands m at e) .eight)) e
+
+-- WHAT IS BEHIND
+
+module _ (m : List ℕ) (at : ℕ) where
+  pub next-none : (avpCode (drop at m) ≡ 0 → ⊥) → nextAt m at ≡ 0
+  unfolding nextAt pick
+  next-none f = rw (ne-eqb (avpCode (drop at m)) 0 f)
+
+  pub next-end : length m ≤ at → nextAt m at ≡ 0
+  next-end h =
+      let c : avpCode (drop at m) ≡ 5014 = code-few (drop at m) (rw length-drop (omega arith)) in
+      next-none (λ z. omega (arith, c, z))
+
+  pub next-is : avpCode (drop at m) ≡ 0 → nextAt m at ≡ at + up4 (avpLength (drop at m))
+  unfolding nextAt pick
+  next-is e = rw (eq-eqb (avpCode (drop at m)) 0 e)
+
+  pub passes-here : (nextAt m at ≡ 0 → ⊥) → avpCode (drop at m) ≡ 0
+  passes-here f =
+      by-test (eqb (avpCode (drop at m)) 0)
+      (λ e. eqb-true (avpCode (drop at m)) 0 e)
+      (λ e. absurd (f (next-none (eqb-false (avpCode (drop at m)) 0 e))))
+
+  pub fails-here : nextAt m at ≡ 0 → avpCode (drop at m) ≡ 0 → ⊥
+  fails-here e z =
+      let n : nextAt m at ≡ at + up4 (avpLength (drop at m)) = next-is z in
+      omega (arith, e, n, (reaches m at z) .0)
+
+  -- the walk from there on
+  pub from-none : nextAt m at ≡ 0 → avpsFrom m at ≡ []
+  from-none e =
+      by-test (eqb (length (drop at m)) 0)
+      (λ t. ap (λ (w : Walk). w .avps) (walk-end avpCode (λ s e. e) (drop at m) (eqb-true (length (drop at m)) 0 t)))
+      (λ t.
+      let l : length (drop at m) ≡ 0 → ⊥ = eqb-false (length (drop at m)) 0 t in
+      let c : avpCode (drop at m) ≡ 0 → ⊥ = fails-here e in
+      ap (λ (w : Walk). w .avps) (walk-bad avpCode (λ s e. e) (drop at m) (omega arith) (omega arith)))
+
+  pub from-here : (n : ℕ) → nextAt m at ≡ n → (n ≡ 0 → ⊥) → avpsFrom m at ≡ avpAt m at ∷ avpsFrom m n
+  unfolding behind
+  from-here n e f =
+      let k : avpCode (drop at m) ≡ 0 = passes-here (λ z. f (sym e ∙ z)) in
+      let d : drop (up4 (avpLength (drop at m))) (drop at m) ≡ drop n m = drop-drop (up4 (avpLength (drop at m))) at m ∙ ap (λ (i : ℕ). drop i m) (sym (next-is k) ∙ e) in
+      ap (λ (w : Walk). w .avps) (walk-one avpCode (λ s e. e) (drop at m) k) ∙ ap (λ (t : List ℕ). avpAt m at ∷ (walk t) .avps) d
+
+  -- the bytes of an AVP reach to the next
+  pub bytes-reach : (n : ℕ) → nextAt m at ≡ n → (n ≡ 0 → ⊥) → at + length ((avpAt m at) .bytes) ≡ n
+  unfolding avpOf
+  bytes-reach n e f =
+      let k : avpCode (drop at m) ≡ 0 = passes-here (λ z. f (sym e ∙ z)) in
+      let p : Passed (drop at m) = passes (drop at m) k in
+      rw (length-take-le (up4 (avpLength (drop at m))) (drop at m) (p .whole)) (sym (next-is k) ∙ e)
+
+-- ITS VALUE
+
+module _ (m : List ℕ) (at : ℕ) where
+  value-by : (head : ℕ) → headLength (drop at m) ≡ head → take (at + net24 m (at + 5) - (at + head)) (drop (at + head) m) ≡ (avpAt m at) .value
+  unfolding avpOf
+  value-by head h =
+      let n : avpLength (drop at m) ≡ net24 m (at + 5) = net24-drop at 5 m in
+      let q : at + net24 m (at + 5) - (at + head) ≡ net24 m (at + 5) - head = omega arith in
+      rw (h, n, drop-drop head at m, q)
+
+  pub value-8 : getD m (at + 4) 0 < 128 → take (at + net24 m (at + 5) - (at + 8)) (drop (at + 8) m) ≡ (avpAt m at) .value
+  value-8 v = value-by 8 (head-base (drop at m) (rw getD-drop v))
+
+  pub value-12 : 128 ≤ getD m (at + 4) 0 → take (at + net24 m (at + 5) - (at + 12)) (drop (at + 12) m) ≡ (avpAt m at) .value
+  value-12 v = value-by 12 (head-v (drop at m) (rw getD-drop v))
+
+  pub head-of-8 : getD m (at + 4) 0 < 128 → headLength (drop at m) ≡ 8
+  head-of-8 v = head-base (drop at m) (rw getD-drop v)
+
+  pub head-of-12 : 128 ≤ getD m (at + 4) 0 → headLength (drop at m) ≡ 12
+  head-of-12 v = head-v (drop at m) (rw getD-drop v)
+
+  -- its flags and its name
+  pub flags-are : avpCode (drop at m) ≡ 0 → flagByte (avpAt m at) ≡ getD m (at + 4) 0
+  unfolding flagByte avpOf
+  flags-are k =
+      let h : 4 < up4 (avpLength (drop at m)) = omega (arith, (reaches m at k) .0) in
+      getD-take (up4 (avpLength (drop at m))) (drop at m) 4 0 h ∙ getD-drop at m 4 0
+
+  pub named-base : getD m (at + 4) 0 < 128 → (avpAt m at) .name ≡ base (net32 m at)
+  named-base v =
+      let z : at + 0 ≡ at = omega arith in
+      name-base (drop at m) (rw getD-drop v) ∙ rw (net32-drop at 0 m, z)
+
+  pub named-vendor : 128 ≤ getD m (at + 4) 0 → (avpAt m at) .name ≡ vendor (net32 m (at + 8)) (net32 m at)
+  named-vendor v =
+      let z : at + 0 ≡ at = omega arith in
+      name-v (drop at m) (rw getD-drop v) ∙ rw (net32-drop at 8 m, net32-drop at 0 m, z)
+
+  pub is-base-v : (code : ℕ) → 128 ≤ getD m (at + 4) 0 → sameName (base code) ((avpAt m at) .name) ≡ false
+  unfolding sameName
+  is-base-v code v = rw (named-vendor v)
+
+  pub is-base-code : (code : ℕ) → getD m (at + 4) 0 < 128 → sameName (base code) ((avpAt m at) .name) ≡ eqb code (net32 m at)
+  unfolding sameName
+  is-base-code code v = rw (named-base v)
+
+-- TWO AVPS
+
+module _ (a : List ℕ) (p : ℕ) (b : List ℕ) (q : ℕ) where
+  abbrev names-same : Bool
+  names-same = sameName ((avpAt a p) .name) ((avpAt b q) .name)
+
+  pub names-base : getD a (p + 4) 0 < 128 → getD b (q + 4) 0 < 128 → names-same ≡ eqb (net32 a p) (net32 b q)
+  unfolding sameName
+  names-base v w = rw (named-base a p v, named-base b q w)
+
+  pub names-vendor : 128 ≤ getD a (p + 4) 0 → 128 ≤ getD b (q + 4) 0 → names-same ≡ eqb (net32 a (p + 8)) (net32 b (q + 8)) && eqb (net32 a p) (net32 b q)
+  unfolding sameName
+  names-vendor v w = rw (named-vendor a p v, named-vendor b q w)
+
+  pub names-left : getD a (p + 4) 0 < 128 → 128 ≤ getD b (q + 4) 0 → names-same ≡ false
+  unfolding sameName
+  names-left v w = rw (named-base a p v, named-vendor b q w)
+
+  pub names-right : 128 ≤ getD a (p + 4) 0 → getD b (q + 4) 0 < 128 → names-same ≡ false
+  unfolding sameName
+  names-right v w = rw (named-vendor a p v, named-base b q w)
+
+  pub names-codes : (net32 a p ≡ net32 b q → ⊥) → names-same ≡ false
+  names-codes f =
+      by-test (leb 128 (getD a (p + 4) 0))
+      (λ s. by-test (leb 128 (getD b (q + 4) 0))
+      (λ t. names-vendor (leb-true 128 _ s) (leb-true 128 _ t) ∙ rw (ne-eqb (net32 a p) (net32 b q) f, and-false (eqb (net32 a (p + 8)) (net32 b (q + 8)))))
+      (λ t. names-right (leb-true 128 _ s) (leb-false 128 _ t)))
+      (λ s. by-test (leb 128 (getD b (q + 4) 0))
+      (λ t. names-left (leb-false 128 _ s) (leb-true 128 _ t))
+      (λ t. names-base (leb-false 128 _ s) (leb-false 128 _ t) ∙ ne-eqb (net32 a p) (net32 b q) f))
+
+  -- where the codes are the same, V and vendor decide
+  module _ (c : net32 a p ≡ net32 b q) where
+    pub names-when-base : getD a (p + 4) 0 < 128 → names-same ≡ ltb (getD b (q + 4) 0) 128
+    names-when-base v =
+        by-test (ltb (getD b (q + 4) 0) 128)
+        (λ t. names-base v (ltb-true (getD b (q + 4) 0) 128 t) ∙ eq-eqb (net32 a p) (net32 b q) c ∙ sym t)
+        (λ t. names-left v (ltb-false (getD b (q + 4) 0) 128 t) ∙ sym t)
+
+    pub names-when-vendor : 128 ≤ getD a (p + 4) 0 → 128 ≤ getD b (q + 4) 0 → names-same ≡ eqb (net32 a (p + 8)) (net32 b (q + 8))
+    names-when-vendor v w = names-vendor v w ∙ rw (eq-eqb (net32 a p) (net32 b q) c) (by-test (eqb (net32 a (p + 8)) (net32 b (q + 8))) (λ t. rw t) (λ t. rw t))
+
+  module _ (h : avpCode (drop p a) ≡ 0) (k : avpCode (drop q b) ≡ 0) where
+    pub flags-differ : (getD a (p + 4) 0 ≡ getD b (q + 4) 0 → ⊥) → sameAvp (avpAt a p) (avpAt b q) ≡ false
+    unfolding sameAvp
+    flags-differ f = rw (flags-are a p h, flags-are b q k, ne-eqb (getD a (p + 4) 0) (getD b (q + 4) 0) f)
+
+    pub flags-agree : getD a (p + 4) 0 ≡ getD b (q + 4) 0 → sameAvp (avpAt a p) (avpAt b q) ≡ same ((avpAt a p) .value) ((avpAt b q) .value)
+    unfolding sameAvp
+    flags-agree e = rw (flags-are a p h, flags-are b q k, eq-eqb (getD a (p + 4) 0) (getD b (q + 4) 0) e)

@@ -1,0 +1,107 @@
+-- Each test that tells something tells it before the next is asked: the laws of Whole.
+use mathlib.Core.Path.{sym, _∙_}
+use borrow.Author.Needs.{needs}
+use Rattle.likeness.specs.Code.{said}
+use Rattle.likeness.specs.TheSameAnswer.{avpsOf}
+use Rattle.likeness.proofs.Whole.{told-deep, told-header, told-walk, told-place, told-nothing, told-missing}
+use Rattle.likeness.proofs.answer_found.Statement.{statement}
+use Rattle.likeness.proofs.answer_found.Tie as tie
+
+faults-requires : tie.Need-faults-requires
+faults-requires c κs = search needs
+
+returns : tie.Need-returns
+unfolding said avpsOf
+returns c =
+    let given = c .before .before .before .before .before .args in
+    let faults-was = c .before .before .faults in
+    let test1 = c .if1 in
+    sym (told-deep (given .ours .now) (given .theirs .now) (said (faults-was .result)) (faults-was .ensures) (test1 .taken))
+
+header-found-requires : tie.Need-header-found-requires
+header-found-requires c κs = search needs
+
+returns-2 : tie.Need-returns-2
+unfolding said avpsOf
+returns-2 c =
+    let given = c .before .before .before .before .before .before .before .before .args in
+    let faults-was = c .before .before .before .before .before .faults in
+    let test1 = c .before .before .before .if1 in
+    let header-found-was = c .before .before .header-found in
+    let test2 = c .if2 in
+    sym (told-header (given .ours .now) (given .theirs .now) (said (faults-was .result)) (faults-was .ensures) (test1 .left) (said (header-found-was .result)) (header-found-was .ensures) (test2 .taken))
+
+returns-3 : tie.Need-returns-3
+unfolding said avpsOf
+returns-3 c =
+    let given = c .before .before .before .before .before .before .before .before .before .before .args in
+    let faults-was = c .before .before .before .before .before .before .before .faults in
+    let test1 = c .before .before .before .before .before .if1 in
+    let header-found-was = c .before .before .before .before .header-found in
+    let test2 = c .before .before .if2 in
+    let test3 = c .if3 in
+    sym (told-walk (given .ours .now) (given .theirs .now) (said (faults-was .result)) (faults-was .ensures) (test1 .left) (said (header-found-was .result)) (header-found-was .ensures) (test2 .left) (test3 .taken))
+
+misplaced-requires : tie.Need-misplaced-requires
+misplaced-requires c κs = search needs
+
+returns-4 : tie.Need-returns-4
+unfolding said avpsOf
+returns-4 c =
+    let given = c .before .before .before .before .before .before .before .before .before .before .before .before .args in
+    let faults-was = c .before .before .before .before .before .before .before .before .before .faults in
+    let test1 = c .before .before .before .before .before .before .before .if1 in
+    let header-found-was = c .before .before .before .before .before .before .header-found in
+    let test2 = c .before .before .before .before .if2 in
+    let test3 = c .before .before .if3 in
+    let misplaced-was = c .before .misplaced in
+    let test4 = c .if4 in
+    sym (told-place (given .ours .now) (given .theirs .now) (said (faults-was .result)) (faults-was .ensures) (test1 .left) (said (header-found-was .result)) (header-found-was .ensures) (test2 .left) (test3 .left) (misplaced-was .result) (misplaced-was .ensures) (test4 .taken))
+
+complete-requires : tie.Need-complete-requires
+complete-requires c κs = search needs
+
+returns-5 : tie.Need-returns-5
+unfolding said avpsOf
+returns-5 c =
+    let given = c .before .before .before .before .before .before .before .before .before .before .before .before .before .before .args in
+    let faults-was = c .before .before .before .before .before .before .before .before .before .before .before .faults in
+    let test1 = c .before .before .before .before .before .before .before .before .before .if1 in
+    let header-found-was = c .before .before .before .before .before .before .before .before .header-found in
+    let test2 = c .before .before .before .before .before .before .if2 in
+    let test3 = c .before .before .before .before .if3 in
+    let misplaced-was = c .before .before .before .misplaced in
+    let test4 = c .before .before .if4 in
+    let complete-was = c .before .complete in
+    let test5 = c .if5 in
+    sym (told-nothing (given .ours .now) (given .theirs .now) (said (faults-was .result)) (faults-was .ensures) (test1 .left) (said (header-found-was .result)) (header-found-was .ensures) (test2 .left) (test3 .left) (sym (misplaced-was .ensures) ∙ test4 .left) (sym (complete-was .ensures) ∙ test5 .taken))
+
+returns-6 : tie.Need-returns-6
+unfolding said avpsOf
+returns-6 c =
+    let given = c .before .before .before .before .before .before .before .before .before .before .before .before .before .before .args in
+    let faults-was = c .before .before .before .before .before .before .before .before .before .before .before .faults in
+    let test1 = c .before .before .before .before .before .before .before .before .before .if1 in
+    let header-found-was = c .before .before .before .before .before .before .before .before .header-found in
+    let test2 = c .before .before .before .before .before .before .if2 in
+    let test3 = c .before .before .before .before .if3 in
+    let misplaced-was = c .before .before .before .misplaced in
+    let test4 = c .before .before .if4 in
+    let complete-was = c .before .complete in
+    let test5 = c .if5 in
+    sym (told-missing (given .ours .now) (given .theirs .now) (said (faults-was .result)) (faults-was .ensures) (test1 .left) (said (header-found-was .result)) (header-found-was .ensures) (test2 .left) (test3 .left) (sym (misplaced-was .ensures) ∙ test4 .left) (sym (complete-was .ensures) ∙ test5 .left))
+
+pub answer-found-spec : {M : Type 1} → statement M
+answer-found-spec =
+    tie.close
+    (tie.spec
+    faults-requires
+    returns
+    header-found-requires
+    returns-2
+    returns-3
+    misplaced-requires
+    returns-4
+    complete-requires
+    returns-5
+    returns-6)

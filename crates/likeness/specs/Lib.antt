@@ -1,0 +1,3 @@
+pub mod TheSameAnswer
+pub mod Code
+pub mod WorkedCases
