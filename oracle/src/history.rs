@@ -208,13 +208,11 @@ impl Tunnels {
 
     /// The last opening on a label, whatever became of it.
     pub fn latest_on(&self, label: &[u8]) -> Option<&Opening> {
-        let openings = self.events.iter().rev().filter_map(|event| match event {
+        let mut openings = self.events.iter().rev().filter_map(|event| match event {
             Event::Opened(opening) => Some(opening),
             _ => None,
         });
-        openings
-            .into_iter()
-            .find(|opening| same_label(&opening.label, label))
+        openings.find(|opening| same_label(&opening.label, label))
     }
 
     /// The tunnel that this cut took is gone; the cut counts under its label.

@@ -7,13 +7,20 @@ mod wrong_servers;
 
 use std::collections::BTreeMap;
 
-use oracle::history::{Event, History, Opening, REQUEST_W12, Tunnels, requests};
+use oracle::deciding::held_is_refused;
+use oracle::history::{Cut, Event, History, Opening, REQUEST_W12, Tunnels, requests};
 use oracle::history_calls::{Story, stories};
 use oracle::past_the_rollover::{ROLLOVER, run};
-use oracle::program::{Operation, perform};
+use oracle::program::{Operation, Seen, perform};
 use oracle::reading_a_message::SESSION_REQUEST_TYPE;
 use oracle::rollover::OLD_SERVER;
-use oracle::rules::{DOCUMENT_01, Rules, WITH_W11};
+use oracle::rules::{Rules, WITH_W11};
+
+/// The server as it is until W11 lands.
+const BEFORE_W11: Rules = Rules {
+    held: held_is_refused,
+    ..WITH_W11
+};
 
 /// The first history that breaks a law, and which.
 fn broken(rules: &Rules, stories: &[Story]) -> Option<(usize, usize, &'static str)> {
@@ -23,11 +30,11 @@ fn broken(rules: &Rules, stories: &[Story]) -> Option<(usize, usize, &'static st
     })
 }
 
-/// After every call of every history all laws hold, by the rules of today and with W11.
+/// After every call of every history all laws hold, before W11 and with it.
 #[test]
 fn every_table_shows_its_history() {
     let stories = stories(120, 500);
-    assert_eq!(broken(&DOCUMENT_01, &stories), None);
+    assert_eq!(broken(&BEFORE_W11, &stories), None);
     assert_eq!(broken(&WITH_W11, &stories), None);
 }
 
@@ -91,67 +98,71 @@ fn opened_again(tunnels: &Tunnels) -> bool {
     tunnels.line.iter().any(|o| times(&o.session) > 1)
 }
 
+/// What of a call has to do with the laws.
+fn signs(first: bool, call: &Operation, seen: &Seen) -> Vec<(&'static str, bool)> {
+    let number = seen.numbers[0];
+    let mut signs = match call {
+        Operation::Clear { .. } => vec![("cleared anew", !first)],
+        Operation::Enter { .. } => vec![("refused entering", number != 0)],
+        Operation::Add { .. } => vec![("refused adding", number != 0)],
+        Operation::Burst(_) => vec![
+            ("refused burst", number == 18),
+            ("burst with two cuts", seen.numbers[4] > 1),
+        ],
+        _ => vec![("no answer", seen.numbers[1] == 0)],
+    };
+    for told in requests(call, seen) {
+        let (granted, ends) = (told.succeeded(), told.is_termination());
+        let opened = told.numbers[3] != 0;
+        let asks = told.text(SESSION_REQUEST_TYPE) == [0; 4];
+        signs.extend([
+            ("opened", opened),
+            ("cut", told.numbers[4] != 0),
+            ("granted without a place", granted && asks && !opened),
+            ("terminated", granted && ends),
+            ("refused termination", !granted && ends),
+            ("refused opening", !granted && asks),
+        ]);
+    }
+    signs
+}
+
+/// The same of a whole history.
+fn signs_of_all(history: &History) -> Vec<(&'static str, bool)> {
+    let accounts = &history.accounts;
+    let shared = |(operator, name): &(u32, Vec<u8>)| {
+        let mut others = accounts.keys().filter(|(other, _)| other != operator);
+        others.any(|(_, other)| other == name)
+    };
+    let spelt = |cut: &Cut| cut.first.as_ref().is_some_and(|o| o.label != cut.label);
+    vec![
+        ("one name of two operators", accounts.keys().any(shared)),
+        ("opened again", accounts.values().any(opened_again)),
+        ("cut under another spelling", history.cuts.iter().any(spelt)),
+    ]
+}
+
 /// The histories are of use: each thing that a law speaks of comes up in them.
 #[test]
 fn histories_tell_of_many_things() {
     let mut met: BTreeMap<&str, usize> = BTreeMap::new();
+    let mut meet = |signs: Vec<(&'static str, bool)>| {
+        for (what, holds) in signs {
+            *met.entry(what).or_default() += usize::from(holds);
+        }
+    };
     for story in stories(122, 300) {
         let mut table = story.table.clone();
         let mut history = History::default();
         for (place, call) in story.calls.iter().enumerate() {
             let seen = perform(&mut WITH_W11.clone(), call, &mut table);
-            let mut meet = |what, holds: bool| *met.entry(what).or_default() += usize::from(holds);
-            let number = seen.numbers[0];
-            match call {
-                Operation::Clear { .. } => meet("cleared anew", place > 0),
-                Operation::Enter { .. } => meet("refused entering", number != 0),
-                Operation::Add { .. } => meet("refused adding", number != 0),
-                Operation::Burst(_) => {
-                    meet("refused burst", number == 18);
-                    meet("burst with two cuts", seen.numbers[4] > 1);
-                }
-                _ => meet("no answer", seen.numbers[1] == 0),
-            }
-            for told in requests(call, &seen) {
-                meet("opened", told.numbers[3] != 0);
-                meet("cut", told.numbers[4] != 0);
-                let opens = told.text(SESSION_REQUEST_TYPE) == [0; 4];
-                meet(
-                    "granted without a place",
-                    told.succeeded() && told.numbers[3] == 0 && opens,
-                );
-                meet("terminated", told.succeeded() && told.is_termination());
-                meet(
-                    "refused termination",
-                    !told.succeeded() && told.is_termination(),
-                );
-                meet(
-                    "refused opening",
-                    !told.succeeded() && !told.is_termination(),
-                );
-            }
+            meet(signs(place == 0, call, &seen));
             history.follow(&REQUEST_W12, call, &seen);
         }
-        for cut in &history.cuts {
-            let line_head = history.accounts[&cut.who].events.iter();
-            let mut meet = |what, holds: bool| *met.entry(what).or_default() += usize::from(holds);
-            meet(
-                "cut under another spelling",
-                cut.first.as_ref().is_some_and(|o| o.label != cut.label),
-            );
-            meet("several events", line_head.count() > 3);
-        }
-        let names = history.accounts.keys().map(|(_, name)| name);
-        let mut names: Vec<&Vec<u8>> = names.collect();
-        let all = names.len();
-        names.sort_unstable();
-        names.dedup();
-        *met.entry("one name of two operators").or_default() += usize::from(names.len() < all);
-        *met.entry("opened again").or_default() +=
-            usize::from(history.accounts.values().any(opened_again));
+        meet(signs_of_all(&history));
     }
     assert!(
-        met.len() == 16 && met.values().all(|times| *times > 20),
+        met.len() == 15 && met.values().all(|times| *times > 20),
         "{met:#?}"
     );
 }

@@ -1,0 +1,160 @@
+//! W10: requests made from a seed, with what our own server makes of them, or with the old
+//! server's answers, in which mismatches are planted.
+
+use crate::cases::{Case, SORTS, Sort};
+use crate::drafts::{Draft, DraftAvp};
+use crate::judging::{Due, Judged, REQUEST_W10, Verdict, due};
+use crate::old_answers::Old;
+use crate::planting::PLANTS;
+use crate::random::Random;
+use crate::reading_a_message::{
+    Name, PROXY_INFO, REQUEST, SESSION_ID, VISITED_NETWORK, W_APN, base,
+};
+use crate::the_table::FORMS;
+
+/// A request with its row, and what the old server made of it; the verdict that is wanted,
+/// and why.
+#[derive(Clone, Debug, PartialEq, Eq)]
+pub struct JudgeCall {
+    pub form: u32,
+    pub before: Vec<u8>,
+    pub operator: u32,
+    pub host: Vec<u8>,
+    pub realm: Vec<u8>,
+    pub message: Vec<u8>,
+    pub wag: bool,
+    pub answer: Vec<u8>,
+    pub notice: Vec<u8>,
+    pub after: Vec<u8>,
+    pub planted: Vec<&'static str>,
+    pub wanted: Verdict,
+}
+
+impl JudgeCall {
+    pub fn judged(&self) -> Judged<'_> {
+        Judged {
+            form: self.form,
+            before: &self.before,
+            operator: self.operator,
+            host: &self.host,
+            realm: &self.realm,
+            message: &self.message,
+            wag: self.wag,
+            answer: &self.answer,
+            notice: &self.notice,
+            after: &self.after,
+        }
+    }
+}
+
+/// A request about a row, with what our own server makes of it.
+pub fn own_call(random: &mut Random) -> JudgeCall {
+    let form = *random.pick(&FORMS);
+    let sort = *random.pick(&SORTS);
+    let mut case = match random.below(5) {
+        0 | 1 => Case::full(form, random),
+        _ => Case::in_form(form, sort, random),
+    };
+    proxies(&mut case.draft, random);
+    vary(&mut case, random);
+    let mut call = JudgeCall {
+        form: form.number(),
+        before: case.row_bytes().to_vec(),
+        operator: case.operator,
+        host: case.host,
+        realm: case.realm,
+        message: case.draft.bytes(),
+        wag: case.wag,
+        answer: Vec::new(),
+        notice: Vec::new(),
+        after: Vec::new(),
+        planted: Vec::new(),
+        wanted: Verdict::Accepted,
+    };
+    let Due {
+        answer,
+        notice,
+        row,
+    } = due(&REQUEST_W10, &call.judged());
+    (call.answer, call.notice, call.after) = (answer, notice, row);
+    call
+}
+
+/// Up to three more Proxy-Infos, some alike but for one thing.
+fn proxies(draft: &mut Draft, random: &mut Random) {
+    for _ in 0..*random.pick(&[0, 1, 2, 3]) {
+        let mut proxy = DraftAvp::new(PROXY_INFO, random.pick(&[b"p1", b"p2"]).as_slice());
+        proxy.flags = *random.pick(&[0, 0x40, 0x40, 0x60]);
+        proxy.padding = random.byte();
+        draft.insert(random.below(20), proxy);
+    }
+}
+
+/// Lets the request come to something else now and then: every sort of answer, and none.
+fn vary(case: &mut Case, random: &mut Random) {
+    match random.below(32) {
+        0 => case.operator = (case.operator + 1) % 16,
+        1 => damage(case.row_bytes(), random),
+        2 => case.draft.version = 2,
+        3 => case.draft.flags &= !REQUEST,
+        4 => case.draft.command = *random.pick(&[0, 258, 300]),
+        5 => case.draft.flags |= 1 << random.below(6),
+        6 => drop(case.draft.avps.pop()),
+        7 => case.draft.insert(9, DraftAvp::new(base(99_999), b"?")),
+        8 => case.draft.avps[random.below(8)].flags |= 1,
+        9 => case.draft.avps.swap(0, 1),
+        10 | 11 => ask_again(case),
+        12 => case.wag = false,
+        13 => {
+            let visited = DraftAvp::new(VISITED_NETWORK, b"mnc020");
+            case.draft.insert(3, visited);
+        }
+        14 => case.draft.size = Some(*random.pick(&[16, 20, 4_100])),
+        15 => write(&mut case.draft, W_APN, b"not entered"),
+        _ => (),
+    }
+}
+
+/// Asks once more for an access that stands: with W11 it is granted on its own entry.
+fn ask_again(case: &mut Case) {
+    let held = case.row.places.iter().flatten().next().cloned();
+    if let (Sort::Open, Some(held)) = (case.sort, held) {
+        let label = case.row.entry(held.entry).map(|entry| entry.label.clone());
+        write(&mut case.draft, SESSION_ID, &held.session);
+        write(&mut case.draft, W_APN, &label.unwrap_or_default());
+    }
+}
+
+fn write(draft: &mut Draft, name: Name, value: &[u8]) {
+    if let Some(avp) = draft.avp(name) {
+        avp.value = value.to_vec();
+    }
+}
+
+/// A byte of the row is another one.
+fn damage(row: &mut [u8], random: &mut Random) {
+    let at = random.from_to(20, row.len() - 1);
+    row[at] ^= 1;
+}
+
+/// An answer of the old server, in which so many mismatches are planted.
+pub fn old_call(mismatches: usize, random: &mut Random) -> JudgeCall {
+    let mut old = Old::new(own_call(random));
+    old.reorder(random);
+    old.add_to(random);
+    while old.call.planted.len() < mismatches {
+        if let Some(planted) = random.pick(&PLANTS)(&mut old, random) {
+            old.call.planted.push(planted);
+        }
+    }
+    old.finish()
+}
+
+/// So many, the same for one seed on every machine: a third as it should be, the others with
+/// one or two mismatches.
+pub fn old_calls(seed: u64, count: usize) -> Vec<JudgeCall> {
+    let mut random = Random::new(seed);
+    (0..count)
+        .map(|nth| old_call(nth % 3, &mut random))
+        .collect()
+}
