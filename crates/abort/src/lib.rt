@@ -14,6 +14,9 @@ ghost use Rattle.abort.specs.Code.{cutOf, saying, leaves, Short, Sent, p
 
 // WRITING THE REQUEST
 
+// The room that a request asks for.
+const ROOM_LEAST: usize = 1024;
+
 // A number, 0 where the request was written, and its length.
 pub struct Written {
     pub number: u32,
@@ -59,7 +62,7 @@ fn number(
     if !is_text(cut_realm) {
         return 22;
     }
-    if size < 1024 {
+    if size < ROOM_LEAST {
         return 23;
     }
     0

@@ -1,5 +1,4 @@
 pub mod Calls
-pub mod Types
 pub mod Reading
 pub mod Writing
 pub mod Sizes

@@ -55,15 +55,9 @@ module _ (m : List ℕ) where
 
 -- THE LIST
 
-pub rest-stop : (xs : List Avp) (n : ℕ) → firstOf (fieldCode xs (textField destinationHost true) ∷ fieldCode xs (numberField reAuthRequestType 0 0) ∷ []) ≡ n → n ≡ restCode xs
+pub rest-is : (xs : List Avp) → restCode xs ≡ firstOf (fieldCode xs (textField destinationHost true) ∷ fieldCode xs (numberField reAuthRequestType 0 0) ∷ [])
 unfolding restCode
-rest-stop xs n e = sym e
-
-pub rest-go : (xs : List Avp) (n : ℕ)
-    → firstOf (fieldCode xs (textField destinationHost true) ∷ fieldCode xs (numberField reAuthRequestType 0 0) ∷ []) ≡ firstOf (fieldCode xs (numberField reAuthRequestType 0 0) ∷ [])
-    → n ≡ fieldCode xs (numberField reAuthRequestType 0 0) → n ≡ restCode xs
-unfolding restCode
-rest-go xs n e h = h ∙ sym (e ∙ first-one (fieldCode xs (numberField reAuthRequestType 0 0)))
+rest-is xs = refl
 
 list-split : (xs : List Avp) → listCode xs ≡ pick (eqb (bothCode xs) 0) (restCode xs) (bothCode xs)
 unfolding listCode fields bothCode restCode forBoth

@@ -2,16 +2,16 @@
 use mathlib.Core.Bool.{Bool, true, _&&_}
 use mathlib.Core.List.{List, [], _∷_, _++_}
 use mathlib.Core.Path.{_≡_}
-use Prim.Native.Nat.{ℕ, _≤_, _<_}
+use Prim.Native.Nat.{ℕ, _≤_}
 use lib.Dec.{eqb, leb}
-use lib.ListN.{length, drop}
+use lib.ListN.{length}
 use Rattle.octets.specs.Choice.{require, firstOf, within}
 use Rattle.octets.specs.Texts.{put, same}
 use Rattle.octets.specs.Numbers.{in24, in32}
 use Rattle.message.specs.CallsThatGetNoAnswer.{messageNumber}
 use Rattle.message.specs.Codes.{plain, kindOf}
 use Rattle.message.specs.Kinds.{codeFrom}
-use Rattle.message.specs.ReadingAMessage.{Avp, avpOf, avps, destinationHost, fieldCode, having, numberField, originHost, originRealm, present, proxyInfo, requestWalk, sameName, sessionId, textField, valueOf, walkCode, reAuthRequestType}
+use Rattle.message.specs.ReadingAMessage.{Avp, avps, destinationHost, fieldCode, numberField, originHost, originRealm, present, proxyInfo, sessionId, textField, valueOf, walkCode, reAuthRequestType}
 use Rattle.message.specs.WritingTheAnswer.{avpBytes}
 use Rattle.message.specs.declared.Span.{Span}
 use Rattle.message.specs.declared.Both.{Both}
@@ -52,17 +52,6 @@ numberBy host realm answer request fits m =
     ∷ [])
 
 -- READING
-
--- The Re-Auth-Request-Types from a place of the message on.
-unfoldable pub typesFrom : List ℕ → ℕ → List Avp
-typesFrom m at = having reAuthRequestType ((requestWalk (drop at m)) .avps)
-
--- The first of them from a place on stands at the place given; where that is the message's end there is none.
-pub record TypeFrom (m : List ℕ) (from at : ℕ) : Type 0 where
-  pub inside : at ≤ length m
-  pub passes : (requestWalk (drop at m)) .code ≡ 0
-  pub ahead-same : typesFrom m at ≡ typesFrom m from
-  pub one : at < length m → sameName reAuthRequestType ((avpOf (drop at m)) .name) ≡ true
 
 -- The code of the fields behind the five of the server's requests, and that of the list and the Session-Id.
 unfoldable pub restCode : List Avp → ℕ

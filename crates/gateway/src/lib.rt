@@ -4,21 +4,20 @@ use message::Both;
 use message::Got;
 use message::Kind;
 ghost use mathlib.Core.Path.{_≡_};
-ghost use mathlib.Core.Bool.{true, _&&_};
-ghost use mathlib.Core.List.{[], _∷_};
+ghost use mathlib.Core.Bool.{_&&_};
 ghost use Prim.Native.Nat.{_+_, _≤_, _<_};
 ghost use lib.Dec.{leb};
-ghost use lib.ListN.{length, drop};
+ghost use lib.ListN.{length};
 ghost use Rattle.octets.specs.Choice.{within};
 ghost use Rattle.octets.specs.Texts.{put};
 ghost use Rattle.message.specs.Codes.{plain};
-ghost use Rattle.message.specs.ReadingAMessage.{avpOf, avps, fieldCode, numberField, present, proxyInfo, requestWalk, sameName, testedAs, walkCode, reAuthRequestType};
+ghost use Rattle.message.specs.ReadingAMessage.{avps, present, proxyInfo, walkCode};
 ghost use Rattle.message.specs.Positions.{Gathered};
 ghost use Rattle.message.specs.Spans.{failedWith};
 ghost use Rattle.message.specs.WritingTheAnswer.{resultAvp};
 ghost use Rattle.answers.specs.Answers.{Written};
 ghost use Rattle.gateway.specs.TheGateway.{callNumber, headerCode, listCode, reauthorize, visitedAvp, vendorAvp};
-ghost use Rattle.gateway.specs.Code.{Answerable, FieldsOf, HeardOf, Replied, Sendable, Sent, TypeFrom, accessAvps, callOf, fieldsCode, fromOf, accessOf, leaves, nameAvps, numberBy, requestHead, restCode, vendorHead};
+ghost use Rattle.gateway.specs.Code.{Answerable, FieldsOf, HeardOf, Replied, Sendable, Sent, accessAvps, callOf, fieldsCode, fromOf, accessOf, leaves, nameAvps, numberBy, requestHead, restCode, vendorHead};
 
 // A code and its kind, or the number of a call that gets no answer; the length of the answer, and of the AA-Request, 0 where there is none.
 pub struct Reauthorized {
@@ -100,76 +99,20 @@ fn header_code(m: &[u8]) -> u32
     0
 }
 
-// Whether the AVP at a place is a Re-Auth-Request-Type.
-fn is_type(m: &[u8], at: usize) -> bool
-    requires { ⌜ at + 8 ≤ length (now m) ⌝ }
-    ensures { λ r. ⌜ r ≡ sameName reAuthRequestType ((avpOf (drop at (now (m .entry)))) .name) ⌝ }
-{
-    if 128 <= m[at + 4] {
-        return false;
-    }
-    octets::read32(m, at) == 285
-}
-
-// Where the first Re-Auth-Request-Type from a place on starts, in a message whose walk passes from there on; the message's end where there is
-// none. No slot of the walk that gathers is its own, since the server has no use for it.
-fn type_from(m: &[u8], from: usize) -> usize
-    requires { ⌜ (from ≤ length (now m)) × ((requestWalk (drop from (now m))) .code ≡ 0) ⌝ }
-    ensures { λ r. ⌜ TypeFrom (now (m .entry)) from r ⌝ }
-{
-    let mut at = from;
-    while at < m.len() {
-        if is_type(m, at) {
-            return at;
-        }
-        at += (octets::read24(m, at + 5) + 3) / 4 * 4;
-    }
-    at
-}
-
-// The code of the one Re-Auth-Request-Type of a message: four bytes, and in them 0.
-fn one_type(m: &[u8], at: usize) -> u32
-    requires { ⌜ (at < length (now m)) × ((requestWalk (drop at (now m))) .code ≡ 0) × (sameName reAuthRequestType ((avpOf (drop at (now m))) .name) ≡ true) ⌝ }
-    ensures { λ r. ⌜ r ≡ testedAs (numberField reAuthRequestType 0 0) (avpOf (drop at (now (m .entry))) ∷ []) ⌝ }
-{
-    if octets::read24(m, at + 5) != 12 {
-        return 5014;
-    }
-    let a = at + 8;
-    let e = at + 12;
-    if message::value32(&m[a..e]) != 0 {
-        return 5004;
-    }
-    0
-}
-
-// The code of Re-Auth-Request-Type: the first is searched for, then a second behind it.
-fn type_code(m: &[u8]) -> u32
-    requires { ⌜ (20 ≤ length (now m)) × (walkCode (now m) ≡ 0) ⌝ }
-    ensures { λ r. ⌜ r ≡ fieldCode (avps (now (m .entry))) (numberField reAuthRequestType 0 0) ⌝ }
-{
-    let first = type_from(m, message::HEADER_LENGTH);
-    if m.len() <= first {
-        return 5005;
-    }
-    let next = first + (octets::read24(m, first + 5) + 3) / 4 * 4;
-    let second = type_from(m, next);
-    if second < m.len() {
-        return 5009;
-    }
-    one_type(m, first)
-}
-
 // The code of the two fields behind the five of the server's requests.
 fn rest_code(m: &[u8], index: &[usize]) -> u32
     requires { ⌜ (20 ≤ length (now m)) × (walkCode (now m) ≡ 0) × Gathered (now m) (now index) ⌝ }
     ensures { λ r. ⌜ r ≡ restCode (avps (now (m .entry))) ⌝ }
 {
-    let g = message::text_field(m, index, 6, 1, message::TEXT_MOST);
+    let g = message::text_field(m, index, message::DESTINATION_HOST, 1, message::TEXT_MOST);
     let Got::Found(_) = g else {
         return message::refusal(g);
     };
-    type_code(m)
+    let t = message::number_field(m, index, message::RE_AUTH_REQUEST_TYPE, 0, 0);
+    let Got::Found(_) = t else {
+        return message::refusal(t);
+    };
+    0
 }
 
 // The list of a Re-Auth-Request.
@@ -214,7 +157,7 @@ fn proxies_seen(m: &[u8], index: &[usize]) -> bool
     requires { ⌜ Gathered (now m) (now index) ⌝ }
     ensures { λ r. ⌜ r ≡ present proxyInfo (avps (now (m .entry))) ⌝ }
 {
-    index[9] != 0
+    index[message::PROXY_INFO] != 0
 }
 
 // A whole message: its fields, and whether the answer has a Proxy-Info to copy.
@@ -235,7 +178,7 @@ fn read(m: &[u8], own: &[u8]) -> Heard
             proxies: false,
         };
     }
-    let mut index = [0usize; 28];
+    let mut index = [0usize; message::INDEX_LENGTH];
     let w = message::gather(m, &mut index);
     if w != 0 {
         return Heard {

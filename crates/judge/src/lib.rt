@@ -13,18 +13,15 @@ ghost use Rattle.likeness.specs.Code.{said};
 ghost use Rattle.judge.specs.TheJudge.{caseNumber, isOneRow, judge};
 ghost use Rattle.judge.specs.Code.{between, caseOf, held, leaves};
 
-// The room that an answer asks for.
-const ANSWER_LEAST: usize = 5120;
-
 // Whether so many bytes are exactly one row of the form.
 fn is_one_row(s: &[u8], form: u32) -> bool
     ensures { λ r. ⌜ r ≡ isOneRow form (now (s .entry)) ⌝ }
 {
     if form == 1 {
-        return s.len() == 4608;
+        return s.len() == table::ROW_LENGTH_1;
     }
     if form == 2 {
-        return s.len() == 8704;
+        return s.len() == table::ROW_LENGTH_2;
     }
     false
 }
@@ -57,7 +54,7 @@ fn case_number(
     if !decision::name_fits(realm) {
         return 2;
     }
-    if answer.len() < ANSWER_LEAST {
+    if answer.len() < answers::ANSWER_LEAST {
         return 3;
     }
     if notice.len() < decision::notice_length(form) {

@@ -1,6 +1,6 @@
 -- The walk that gathers: what the slots say so far, with the AVPs that are still ahead, is what the whole message says.
 use mathlib.Core.Path.{_≡_, refl, sym, ap, _∙_}
-use mathlib.Core.Bool.{Bool, true, false}
+use mathlib.Core.Bool.{Bool, true, false, _||_, not}
 use mathlib.Core.List.{List, [], _∷_}
 use Prim.Native.Nat.{ℕ, zero, suc, _+_, _-_, _≤_, _<_}
 use native.Mathlib.Omega.{arith}
@@ -17,7 +17,8 @@ use Rattle.octets.proofs.Texts.{length-zeros}
 use Rattle.message.specs.ReadingAMessage.{Name, base, vendor, sameName, namedIn01, codesOfAARequest, codesOfTermination, knownAvps, isOneOf, known, Avp, Walk, behind, requestWalk, avpLength, avpCode, avpOf, supported, requestCode, avps, walkCode, having}
 use Rattle.message.specs.declared.Spot.{Spot}
 use Rattle.message.specs.declared.Head.the-variants.{One, Bad}
-use Rattle.message.specs.Positions.{names, slotIn, slotOf, nameAt, spotAt, headAt, Often, absent, once, twice, howOften, slotSays, Stands, Gathered}
+use Rattle.message.specs.Positions.{names, slots, notKnown, slotIn, slotOf, nameAt, spotAt, headAt, Often, absent, once, twice, howOften, slotSays, Stands, Gathered}
+use Rattle.message.proofs.Heads.{net24-drop}
 use Rattle.message.proofs.Walks.{Passed, passes, head-least, up4-least, walk-end, walk-bad, walk-one, request-four, request-bad, request-passes, request-refuses}
 
 -- HEADS
@@ -96,20 +97,20 @@ counted-every f a (suc n) h (suc k) l =
     let z : a + suc k ≡ suc a + k = omega arith in
     rw z (counted-every f (suc a) n (and-right (f a) (every f (counted (suc a) n)) h) k (omega arith))
 
-own-slots : every ownSlot (counted 0 14) ≡ true
+own-slots : every ownSlot (counted 0 slots) ≡ true
 unfolding every counted ownSlot slotOf nameAt names slotIn sameName pick known knownAvps namedIn01 codesOfAARequest codesOfTermination isOneOf
 own-slots = refl
 
-pub own-slot : (k : ℕ) → k < 14 → slotOf (nameAt k) ≡ k
+pub own-slot : (k : ℕ) → k < slots → slotOf (nameAt k) ≡ k
 unfolding ownSlot
-own-slot k h = let z : 0 + k ≡ k = omega arith in eqb-true (slotOf (nameAt k)) k (rw z at (counted-every ownSlot 0 14 own-slots k h))
+own-slot k h = let z : 0 + k ≡ k = omega arith in eqb-true (slotOf (nameAt k)) k (rw z at (counted-every ownSlot 0 slots own-slots k h))
 
--- a slot under 15 is that of a known name, and its place; no other name has one
-pub slot-known : (n : Name) → (slotOf n ≡ 15 → ⊥) → known n ≡ true
+-- a slot other than that is that of a known name, and its place; no other name has one
+pub slot-known : (n : Name) → (slotOf n ≡ notKnown → ⊥) → known n ≡ true
 unfolding slotOf pick
 slot-known n h = by-test (known n) (λ t. t) (λ t. absurd (h (rw t)))
 
-pub slot-unknown : (n : Name) → slotOf n ≡ 15 → known n ≡ false
+pub slot-unknown : (n : Name) → slotOf n ≡ notKnown → known n ≡ false
 unfolding slotOf pick names
 slot-unknown n h =
     by-test (known n)
@@ -120,19 +121,19 @@ slot-place : (n : Name) → known n ≡ true → slotOf n ≡ slotIn names n
 unfolding slotOf pick
 slot-place n k = rw k
 
-pub slot-named : (n : Name) → slotOf n < 14 → sameName (nameAt (slotOf n)) n ≡ true
+pub slot-named : (n : Name) → slotOf n < slots → sameName (nameAt (slotOf n)) n ≡ true
 unfolding nameAt names
 slot-named n h =
     let p = slot-place n (slot-known n (λ z. omega arith)) in
     rw p (slot-same names n (base 263) (omega (arith, p)))
 
-pub slot-other : (n : Name) (k : ℕ) → k < 14 → (k ≡ slotOf n → ⊥) → sameName (nameAt k) n ≡ false
+pub slot-other : (n : Name) (k : ℕ) → k < slots → (k ≡ slotOf n → ⊥) → sameName (nameAt k) n ≡ false
 slot-other n k h d =
     by-test (sameName (nameAt k) n)
     (λ t. absurd (d (sym (own-slot k h) ∙ ap slotOf (same-name-eq (nameAt k) n t))))
     (λ t. t)
 
-pub slot-supported : (s : List ℕ) → (slotOf ((avpOf s) .name) ≡ 15 → ⊥) → supported (avpOf s) ≡ true
+pub slot-supported : (s : List ℕ) → (slotOf ((avpOf s) .name) ≡ notKnown → ⊥) → supported (avpOf s) ≡ true
 unfolding supported
 slot-supported s h = rw (slot-known ((avpOf s) .name) h)
 
@@ -203,20 +204,20 @@ ahead m at = requestWalk (drop at m)
 pub record Walked (m index : List ℕ) (at : ℕ) : Type 0 where
   pub from : 20 ≤ at
   pub inside : at ≤ length m
-  pub size : length index ≡ 28
+  pub size : length index ≡ slots + slots
   pub code : (ahead m at) .code ≡ walkCode m
-  pub says : (k : ℕ) → k < 14 → andThen (slotSays m (getD index k 0)) (having (nameAt k) ((ahead m at) .avps)) ≡ howOften (having (nameAt k) (avps m))
-  pub there : (k : ℕ) → k < 14 → 2 ≤ getD index k 0 → Stands m (getD index k 0)
-  pub long : (k : ℕ) → k < 14 → 2 ≤ getD index k 0 → getD index (k + 14) 0 ≡ net24 m (getD index k 0 + 5)
+  pub says : (k : ℕ) → k < slots → andThen (slotSays m (getD index k 0)) (having (nameAt k) ((ahead m at) .avps)) ≡ howOften (having (nameAt k) (avps m))
+  pub there : (k : ℕ) → k < slots → 2 ≤ getD index k 0 → Stands m (getD index k 0)
+  pub long : (k : ℕ) → k < slots → 2 ≤ getD index k 0 → getD index (k + slots) 0 ≡ net24 m (getD index k 0 + 5)
 
-pub started : (m index : List ℕ) → 20 ≤ length m → index ≡ zeros 28 → Walked m index 20
+pub started : (m index : List ℕ) → 20 ≤ length m → index ≡ zeros (slots + slots) → Walked m index 20
 unfolding zeros avps walkCode andThen
 started m index h e =
-    let at : (k : ℕ) → k < 14 → getD index k 0 ≡ 0 = λ k l. rw e (getD-replicate 28 k 0 0 (omega arith)) in
+    let at : (k : ℕ) → k < slots → getD index k 0 ≡ 0 = λ k l. rw e (getD-replicate (slots + slots) k 0 0 (omega arith)) in
     record {
       from = omega arith;
       inside = h;
-      size = rw e (length-zeros 28);
+      size = rw e (length-zeros (slots + slots));
       code = refl;
       says = λ k l. rw (at k l, says-absent m);
       there = λ k l t. absurd (omega (arith, at k l));
@@ -258,6 +259,22 @@ pub slot-is : (m : List ℕ) (at : ℕ) (a : Spot) → headAt m at ≡ One a →
 unfolding spotAt
 slot-is m at a o = ap (λ (x : Spot). x .slot) ((head-is-one m at a o) .1)
 
+pub length-is : (m : List ℕ) (at : ℕ) (a : Spot) → headAt m at ≡ One a → a .length ≡ net24 m (at + 5)
+unfolding spotAt
+length-is m at a o = ap (λ (x : Spot). x .length) ((head-is-one m at a o) .1) ∙ net24-drop at 5 m
+
+-- a name has another slot than what is not known exactly where it is known
+pub slot-says : (n : Name) → known n ≡ not (eqb (slotOf n) notKnown)
+slot-says n =
+    by-test (eqb (slotOf n) notKnown)
+    (λ e. rw (e, slot-unknown n (eqb-true (slotOf n) notKnown e)))
+    (λ e. rw (e, slot-known n (eqb-false (slotOf n) notKnown e)))
+
+-- what is told of an AVP says whether it is supported
+pub supported-by : (m : List ℕ) (at : ℕ) (a : Spot) → headAt m at ≡ One a → supported (avpOf (drop at m)) ≡ (not (eqb (a .slot) notKnown) || not (a .mandatory))
+unfolding supported spotAt
+supported-by m at a o = rw (head-is-one m at a o .1, slot-says ((avpOf (drop at m)) .name))
+
 -- one AVP is behind: what is ahead of it
 module _ (m index : List ℕ) (at : ℕ) (a : Spot) (w : Walked m index at) (o : headAt m at ≡ One a)
     (u : supported (avpOf (drop at m)) ≡ true) where
@@ -279,12 +296,12 @@ module _ (m index : List ℕ) (at : ℕ) (a : Spot) (w : Walked m index at) (o :
   here = record { behind = w .from; inside = w .inside; passes = (head-is-one m at a o) .0 }
 
   -- a slot whose name is another's
-  passed-by : (k : ℕ) → k < 14 → (k ≡ a .slot → ⊥) → having (nameAt k) ((ahead m at) .avps) ≡ having (nameAt k) ((ahead m (a .next)) .avps)
+  passed-by : (k : ℕ) → k < slots → (k ≡ a .slot → ⊥) → having (nameAt k) ((ahead m at) .avps) ≡ having (nameAt k) ((ahead m (a .next)) .avps)
   passed-by k l d =
       ap (having (nameAt k)) ahead-avps
       ∙ having-not (nameAt k) (avpOf (drop at m)) ((ahead m (a .next)) .avps) (slot-other ((avpOf (drop at m)) .name) k l (λ z. d (z ∙ sym (slot-is m at a o))))
 
-  pub stepped-over : 14 ≤ a .slot → Walked m index (a .next)
+  pub stepped-over : slots ≤ a .slot → Walked m index (a .next)
   stepped-over s =
       let n = next-place m at a (w .inside) o in
       record {
@@ -297,49 +314,49 @@ module _ (m index : List ℕ) (at : ℕ) (a : Spot) (w : Walked m index at) (o :
         long = w .long;
       }
 
-  module _ (s : a .slot < 14) where
+  module _ (s : a .slot < slots) where
     named : having (nameAt (a .slot)) ((ahead m at) .avps) ≡ avpOf (drop at m) ∷ having (nameAt (a .slot)) ((ahead m (a .next)) .avps)
     named =
         let t : sameName (nameAt (a .slot)) ((avpOf (drop at m)) .name) ≡ true =
         rw (slot-is m at a o) (slot-named ((avpOf (drop at m)) .name) (omega (arith, slot-is m at a o))) in
         ap (having (nameAt (a .slot))) ahead-avps ∙ having-is (nameAt (a .slot)) (avpOf (drop at m)) ((ahead m (a .next)) .avps) t
 
-    -- the slots after this AVP: v in its own slot, whatever number says what was seen with it, and its length n, 14 places further on
+    -- the slots after this AVP: v in its own slot, whatever number says what was seen with it, and its length n, slots places further on
     module _ (n v : ℕ) where
       after : List ℕ
-      after = set (set index (a .slot + 14) n) (a .slot) v
+      after = set (set index (a .slot + slots) n) (a .slot) v
 
       own : getD after (a .slot) 0 ≡ v
       unfolding after
-      own = getD-set-same (set index (a .slot + 14) n) (a .slot) v 0 (rw (length-set index (a .slot + 14) n) (omega (arith, w .size)))
+      own = getD-set-same (set index (a .slot + slots) n) (a .slot) v 0 (rw (length-set index (a .slot + slots) n) (omega (arith, w .size)))
 
-      other : (k : ℕ) → k < 14 → (k ≡ a .slot → ⊥) → getD after k 0 ≡ getD index k 0
+      other : (k : ℕ) → k < slots → (k ≡ a .slot → ⊥) → getD after k 0 ≡ getD index k 0
       unfolding after
       other k l d =
-          getD-set-other (set index (a .slot + 14) n) (a .slot) k v 0 d ∙ getD-set-other index (a .slot + 14) k n 0 (λ z. omega arith)
+          getD-set-other (set index (a .slot + slots) n) (a .slot) k v 0 d ∙ getD-set-other index (a .slot + slots) k n 0 (λ z. omega arith)
 
-      own-long : getD after (a .slot + 14) 0 ≡ n
+      own-long : getD after (a .slot + slots) 0 ≡ n
       unfolding after
       own-long =
-          getD-set-other (set index (a .slot + 14) n) (a .slot) (a .slot + 14) v 0 (λ z. omega arith)
-          ∙ getD-set-same index (a .slot + 14) n 0 (omega (arith, w .size))
+          getD-set-other (set index (a .slot + slots) n) (a .slot) (a .slot + slots) v 0 (λ z. omega arith)
+          ∙ getD-set-same index (a .slot + slots) n 0 (omega (arith, w .size))
 
-      other-long : (k : ℕ) → k < 14 → (k ≡ a .slot → ⊥) → getD after (k + 14) 0 ≡ getD index (k + 14) 0
+      other-long : (k : ℕ) → k < slots → (k ≡ a .slot → ⊥) → getD after (k + slots) 0 ≡ getD index (k + slots) 0
       unfolding after
       other-long k l d =
-          getD-set-other (set index (a .slot + 14) n) (a .slot) (k + 14) v 0 (λ z. omega arith)
-          ∙ getD-set-other index (a .slot + 14) (k + 14) n 0 (λ z. d (omega arith))
+          getD-set-other (set index (a .slot + slots) n) (a .slot) (k + slots) v 0 (λ z. omega arith)
+          ∙ getD-set-other index (a .slot + slots) (k + slots) n 0 (λ z. d (omega arith))
 
       noted : andThen (slotSays m v) (having (nameAt (a .slot)) ((ahead m (a .next)) .avps))
           ≡ andThen (slotSays m (getD index (a .slot) 0)) (having (nameAt (a .slot)) ((ahead m at) .avps))
-          → (2 ≤ v → Stands m v) → (2 ≤ v → n ≡ net24 m (v + 5)) → Walked m (set (set index (a .slot + 14) n) (a .slot) v) (a .next)
+          → (2 ≤ v → Stands m v) → (2 ≤ v → n ≡ net24 m (v + 5)) → Walked m (set (set index (a .slot + slots) n) (a .slot) v) (a .next)
       unfolding after
       noted e st lg =
           let p = next-place m at a (w .inside) o in
           record {
             from = omega (arith, p .0, w .from);
             inside = p .1;
-            size = length-set (set index (a .slot + 14) n) (a .slot) v ∙ length-set index (a .slot + 14) n ∙ w .size;
+            size = length-set (set index (a .slot + slots) n) (a .slot) v ∙ length-set index (a .slot + slots) n ∙ w .size;
             code = sym ahead-code ∙ w .code;
             says = λ k l.
                 by-test (eqb k (a .slot))
@@ -360,13 +377,13 @@ module _ (m index : List ℕ) (at : ℕ) (a : Spot) (w : Walked m index at) (o :
           }
 
     module _ (n : ℕ) (l : n ≡ net24 m (at + 5)) where
-      pub noted-first : getD index (a .slot) 0 ≡ 0 → Walked m (set (set index (a .slot + 14) n) (a .slot) at) (a .next)
+      pub noted-first : getD index (a .slot) 0 ≡ 0 → Walked m (set (set index (a .slot + slots) n) (a .slot) at) (a .next)
       noted-first z =
           noted n at
           (rw (z, says-absent m, says-once m at (omega (arith, w .from)), named) (sym (then-one (avpOf (drop at m)) (having (nameAt (a .slot)) ((ahead m (a .next)) .avps)))))
           (λ t. here) (λ t. l)
 
-      pub noted-again : (getD index (a .slot) 0 ≡ 0 → ⊥) → Walked m (set (set index (a .slot + 14) n) (a .slot) 1) (a .next)
+      pub noted-again : (getD index (a .slot) 0 ≡ 0 → ⊥) → Walked m (set (set index (a .slot + slots) n) (a .slot) 1) (a .next)
       noted-again z =
           noted n 1
           (rw (says-twice m, named) (sym (then-more (slotSays m (getD index (a .slot) 0)) (avpOf (drop at m)) (having (nameAt (a .slot)) ((ahead m (a .next)) .avps)) (says-there m (getD index (a .slot) 0) z))))

@@ -1,11 +1,11 @@
 -- The tests of the message, of its header and of one AVP, a law for each way out of them.
 use mathlib.Core.Path.{_≡_, refl, _∙_}
 use mathlib.Core.List.{List}
-use Prim.Native.Nat.{ℕ, zero, suc, _+_, _/_, _%_, _≤_, _<_}
+use Prim.Native.Nat.{ℕ, zero, suc, _+_, _*_, _/_, _%_, _≤_, _<_}
 use native.Mathlib.Nat.{add-assoc}
 use native.Mathlib.Omega.{arith}
-use borrow.Author.Tests.{eqb-true, eqb-false, eq-eqb, ne-eqb, le-leb, lt-leb}
-use lib.Dec.{eqb}
+use borrow.Author.Tests.{eqb-true, eqb-false, eq-eqb, ne-eqb, le-leb, lt-leb, leb-true, leb-false}
+use lib.Dec.{eqb, leb}
 use lib.ListN.{length, getD, drop, length-drop}
 use lib.Seq.{getD-drop}
 use Rattle.octets.specs.Choice.{pick, require, firstOf, within}
@@ -14,7 +14,7 @@ use Rattle.octets.proofs.Lists.{by-test}
 use Rattle.message.specs.CallsThatGetNoAnswer.{messageNumber}
 use Rattle.message.specs.ReadingAMessage.{base, vendor, flags, command, application, headerCode, headLength, avpLength, avpCode, avpOf}
 use Rattle.message.specs.declared.Head.the-variants.{One, Bad}
-use Rattle.message.specs.Positions.{slotOf, spotAt, headAt}
+use Rattle.message.specs.Positions.{slotOf, spotAt, headAt, FlagsAndLength}
 
 -- THE MESSAGE
 
@@ -175,6 +175,11 @@ head-one m at e = rw (eq-eqb (avpCode (drop at m)) 0 e)
 
 -- the same, in places of the message
 module _ (m : List ℕ) (at : ℕ) where
+  -- the spot by its parts, with M as a bit of the message
+  spot-is : spotAt m at ≡ record { slot = slotOf ((avpOf (drop at m)) .name); length = net24 (drop at m) 5; mandatory = eqb (getD m (at + 4) 0 / 64 % 2) 1; next = at + up4 (net24 (drop at m) 5) }
+  unfolding spotAt avpOf
+  spot-is = rw getD-drop
+
   pub at-few : length m < at + 8 → headAt m at ≡ Bad 5014
   at-few h = head-bad m at 5014 (code-few (drop at m) (rw length-drop (omega arith))) (omega arith)
 
@@ -203,12 +208,11 @@ module _ (m : List ℕ) (at : ℕ) where
             (omega arith)
 
         pub at-v : 12 ≤ net24 m (at + 5) → at + up4 (net24 m (at + 5)) ≤ length m
-            → headAt m at ≡ One (record { slot = slotOf (vendor (net32 m (at + 8)) (net32 m at)); next = at + up4 (net24 m (at + 5)) })
-        unfolding spotAt
+            → headAt m at ≡ One (record { slot = slotOf (vendor (net32 m (at + 8)) (net32 m at)); length = net24 m (at + 5); mandatory = eqb (getD m (at + 4) 0 / 64 % 2) 1; next = at + up4 (net24 m (at + 5)) })
         at-v l p =
             let z : at + 0 ≡ at = omega arith in
             head-one m at (code-none (drop at m) left bits (omega (arith, v12, net24-drop at 5 m)) (rw (net24-drop at 5 m, length-drop) (omega arith)))
-            ∙ rw (name-v (drop at m) (rw getD-drop v), net24-drop at 5 m, net32-drop at 8 m, net32-drop at 0 m, z)
+            ∙ rw (spot-is, name-v (drop at m) (rw getD-drop v), net24-drop at 5 m, net32-drop at 8 m, net32-drop at 0 m, z)
 
       module _ (v : getD m (at + 4) 0 < 128) where
         v8 : headLength (drop at m) ≡ 8
@@ -224,9 +228,68 @@ module _ (m : List ℕ) (at : ℕ) where
             (omega arith)
 
         pub at-base : 8 ≤ net24 m (at + 5) → at + up4 (net24 m (at + 5)) ≤ length m
-            → headAt m at ≡ One (record { slot = slotOf (base (net32 m at)); next = at + up4 (net24 m (at + 5)) })
-        unfolding spotAt
+            → headAt m at ≡ One (record { slot = slotOf (base (net32 m at)); length = net24 m (at + 5); mandatory = eqb (getD m (at + 4) 0 / 64 % 2) 1; next = at + up4 (net24 m (at + 5)) })
         at-base l p =
             let z : at + 0 ≡ at = omega arith in
             head-one m at (code-none (drop at m) left bits (omega (arith, v8, net24-drop at 5 m)) (rw (net24-drop at 5 m, length-drop) (omega arith)))
-            ∙ rw (name-base (drop at m) (rw getD-drop v), net24-drop at 5 m, net32-drop at 0 m, z)
+            ∙ rw (spot-is, name-base (drop at m) (rw getD-drop v), net24-drop at 5 m, net32-drop at 0 m, z)
+
+-- BY FLAGS AND LENGTH IN ONE WORD
+
+module _ (m : List ℕ) (at w : ℕ) (h : at + 8 ≤ length m) (o : FlagsAndLength m at w) where
+  pub word-bits : 16777216 ≤ w % 536870912 → headAt m at ≡ Bad 3009
+  word-bits r = at-bits m at h (λ z. omega (arith, o .both, o .byte, o .three))
+
+  module _ (r : w % 536870912 < 16777216) where
+    clear : getD m (at + 4) 0 % 32 ≡ 0
+    clear = omega (arith, o .both, o .byte, o .three)
+
+    pub word-length : w % 536870912 ≡ net24 m (at + 5)
+    word-length = omega (arith, o .both, o .byte, o .three, clear)
+
+    -- by whether V is set
+    either : {A : Type 0} → (128 ≤ getD m (at + 4) 0 → A) → (getD m (at + 4) 0 < 128 → A) → A
+    either f g = by-test (leb 128 (getD m (at + 4) 0)) (λ t. f (leb-true 128 (getD m (at + 4) 0) t)) (λ t. g (leb-false 128 (getD m (at + 4) 0) t))
+
+    pub word-short : w % 536870912 < 8 → headAt m at ≡ Bad 5014
+    word-short n = either (λ v. at-length-v m at h clear v (omega (arith, word-length))) (λ v. at-length m at h clear v (omega (arith, word-length)))
+
+    module _ (n : 8 ≤ w % 536870912) where
+      pub word-past : length m < at + up4 (w % 536870912) → headAt m at ≡ Bad 5014
+      word-past p =
+          let q : length m < at + up4 (net24 m (at + 5)) = rw word-length at p in
+          either
+          (λ v. by-test (leb 12 (net24 m (at + 5)))
+          (λ t. at-past-v m at h clear v (leb-true 12 (net24 m (at + 5)) t) q)
+          (λ t. at-length-v m at h clear v (leb-false 12 (net24 m (at + 5)) t)))
+          (λ v. at-past m at h clear v (omega (arith, word-length)) q)
+
+      -- without V the word is what flags without V, and the length, say
+      low : w % 2147483648 ≡ getD m (at + 4) 0 % 128 * 16777216 + net24 m (at + 5)
+      low = omega (arith, o .both, o .byte, o .three)
+
+      word-m : leb 1073741832 (w % 2147483648) ≡ eqb (getD m (at + 4) 0 / 64 % 2) 1
+      word-m =
+          by-test (eqb (getD m (at + 4) 0 / 64 % 2) 1)
+          (λ t.
+          let e : getD m (at + 4) 0 / 64 % 2 ≡ 1 = eqb-true (getD m (at + 4) 0 / 64 % 2) 1 t in
+          let g : 64 ≤ getD m (at + 4) 0 % 128 = omega (arith, e, o .byte) in
+          rw t (le-leb 1073741832 (w % 2147483648) (omega (arith, g, low, word-length))))
+          (λ t.
+          let e : getD m (at + 4) 0 / 64 % 2 ≡ 0 = ne-lt (getD m (at + 4) 0 / 64 % 2) (omega arith) (eqb-false (getD m (at + 4) 0 / 64 % 2) 1 t) in
+          let g : getD m (at + 4) 0 % 128 < 64 = omega (arith, e, o .byte) in
+          let k : w % 2147483648 < 1073741832 = omega (arith, g, low, o .three) in
+          rw t (lt-leb 1073741832 (w % 2147483648) k))
+
+      pub word-v-short : 2147483656 ≤ w → w % 536870912 < 12 → headAt m at ≡ Bad 5014
+      word-v-short v l = at-length-v m at h clear (omega (arith, o .both, o .three)) (omega (arith, word-length))
+
+      pub word-v : 2147483656 ≤ w → 12 ≤ w % 536870912 → at + up4 (w % 536870912) ≤ length m
+          → headAt m at ≡ One (record { slot = slotOf (vendor (net32 m (at + 8)) (net32 m at)); length = w % 536870912; mandatory = leb 1073741832 (w % 2147483648); next = at + up4 (w % 536870912) })
+      word-v v l p =
+          at-v m at h clear (omega (arith, o .both, o .three)) (omega (arith, word-length)) (rw word-length at p) ∙ rw (word-m, word-length)
+
+      pub word-base : w < 2147483656 → at + up4 (w % 536870912) ≤ length m
+          → headAt m at ≡ One (record { slot = slotOf (base (net32 m at)); length = w % 536870912; mandatory = leb 1073741832 (w % 2147483648); next = at + up4 (w % 536870912) })
+      word-base v p =
+          at-base m at h clear (omega (arith, o .both, o .three, word-length)) (omega (arith, word-length)) (rw word-length at p) ∙ rw (word-m, word-length)

@@ -1,20 +1,16 @@
--- Which AVPs are known and which are supported: a number that is one of the keys of a `match`, or none of them, looked up among the known names.
+-- Which AVPs are known: a number that is one of the keys of a `match`, or none of them, looked up among the known names.
 use mathlib.Core.Path.{_≡_, refl, sym}
 use mathlib.Core.Bool.{Bool, true, false, _&&_, _||_, not}
 use mathlib.Core.Logic.{_⊎_, inl, inr}
 use mathlib.Core.List.{List, [], _∷_}
-use Prim.Native.Nat.{ℕ, zero, suc, _+_, _/_, _%_, _≤_}
-use native.Mathlib.Omega.{arith}
+use Prim.Native.Nat.{ℕ}
 use types.Run.{OneOf}
 use borrow.Author.Tests.{ne-eqb}
 use lib.Dec.{eqb}
-use lib.ListN.{getD, drop}
-use lib.Seq.{getD-drop}
 use Rattle.octets.specs.Lists.{every, isOn}
 use Rattle.octets.proofs.Lists.{by-test, and-left, and-right, both}
-use Rattle.message.specs.ReadingAMessage.{Name, base, vendor, sameName, knownAvps, isOneOf, known, avpOf, supported}
-use Rattle.message.specs.Positions.{slotOf}
-use Rattle.message.proofs.Gathering.{same-name-eq, slot-unknown}
+use Rattle.message.specs.ReadingAMessage.{Name, base, vendor, sameName, knownAvps, isOneOf, known}
+use Rattle.message.proofs.Gathering.{same-name-eq}
 
 -- NUMBERS AND NAMES
 
@@ -48,16 +44,3 @@ name-holds f (k ∷ ks) n a e =
 pub not-known : (f : Name → Bool) (n : Name) → every f knownAvps ≡ true → f n ≡ false → known n ≡ false
 unfolding known
 not-known f n a e = by-test (isOneOf knownAvps n) (λ t. let z = name-holds f knownAvps n a t in cc) (λ t. t)
-
--- SUPPORTED
-
--- an AVP that is not known is supported exactly without M
-pub unknown-supported : (m : List ℕ) (at : ℕ) → slotOf ((avpOf (drop at m)) .name) ≡ 15 → supported (avpOf (drop at m)) ≡ eqb (getD m (at + 4) 0 / 64 % 2) 0
-unfolding supported avpOf
-unknown-supported m at h =
-    rw (slot-unknown ((avpOf (drop at m)) .name) h, getD-drop at m 4 0) (other-bit (getD m (at + 4) 0 / 64 % 2) (omega arith))
-  where
-    other-bit : (b : ℕ) → b ≤ 1 → not (eqb b 1) ≡ eqb b 0
-    other-bit zero l = refl
-    other-bit (suc zero) l = refl
-    other-bit (suc (suc b)) l = absurd (omega arith)

@@ -19,7 +19,7 @@ use Rattle.message.specs.declared.Got.{Got}
 use Rattle.message.specs.declared.Got.the-variants.{Found, Absent, Code}
 use Rattle.message.specs.declared.Route.{Route}
 use Rattle.message.specs.declared.Routes.the-variants.{Brought, Missing, Wrong}
-use Rattle.message.specs.Positions.{names, nameAt, headOf, howOften, slotSays, Gathered}
+use Rattle.message.specs.Positions.{names, routesSlot, nameAt, headOf, howOften, slotSays, Gathered}
 use Rattle.message.specs.Spans.{bytesField, codeOf, Reads, routesFrom, avpBefore, RouteFrom, howMany, isFit, HoldsAt, routesCode, RoutesRead}
 use Rattle.message.proofs.Walks.{Passed, passes, up4-least, walk-end, walk-bad, walk-one, request-four}
 use Rattle.message.proofs.Heads.{net24-drop, net32-drop, head-v, name-v, name-base}
@@ -97,7 +97,7 @@ module _ (m : List ℕ) (at : ℕ) (i : at < length m) (p : (ahead m at) .code �
 
     head-here : headLength (drop at m) ≡ 12
     unfolding nameAt names headOf pick
-    head-here = slot-head 13 (drop at m) (omega arith) s
+    head-here = slot-head routesSlot (drop at m) (omega arith) s
 
     pub length-here : (12 ≤ net24 m (at + 5)) × (at + net24 m (at + 5) ≤ length m)
     length-here =
@@ -337,16 +337,16 @@ not-several m v (a ∷ (b ∷ xs)) e h =
     (λ t. let f = rw t at e in let z : _≡_ {A = ℕ} 0 1 = cc in absurd (omega arith))
     (λ t. by-test (eqb v 1) (λ u. absurd (h (eqb-true v 1 u))) (λ u. let f = rw (t, u) at e in let z : _≡_ {A = ℕ} 0 1 = cc in absurd (omega arith)))
 
-module _ (m index : List ℕ) (k : Gathered m index) (most : ℕ) (h : 1 ≤ most) (o : getD index 13 0 ≡ 1 → most ≡ 1) where
+module _ (m index : List ℕ) (k : Gathered m index) (most : ℕ) (h : 1 ≤ most) (o : getD index routesSlot 0 ≡ 1 → most ≡ 1) where
   as-one : (b : Bool) → fieldCode (avps m) (textsField most routingPolicy b) ≡ fieldCode (avps m) (bytesField routingPolicy b 1 128)
   unfolding fieldCode textsField bytesField nameAt names
   as-one b =
       let xs = having routingPolicy (avps m) in
       one-allowed most routingPolicy b xs h
       (λ l.
-      by-test (eqb (getD index 13 0) 1)
-      (λ t. o (eqb-true (getD index 13 0) 1 t))
-      (λ t. let n = not-several m (getD index 13 0) xs (k .says 13 (omega arith)) (eqb-false (getD index 13 0) 1 t) in absurd (omega arith)))
+      by-test (eqb (getD index routesSlot 0) 1)
+      (λ t. o (eqb-true (getD index routesSlot 0) 1 t))
+      (λ t. let n = not-several m (getD index routesSlot 0) xs (k .says routesSlot (omega arith)) (eqb-false (getD index routesSlot 0) 1 t) in absurd (omega arith)))
 
   module _ (g : Got) (r : (b : Bool) → Reads m (bytesField routingPolicy b 1 128) g) where
     pub one-found : (s : Span) → g ≡ Found s → RoutesRead most m (Brought s (record { at = 0; len = 0 }) (record { at = 0; len = 0 }))
@@ -377,7 +377,7 @@ module _ (m index : List ℕ) (k : Gathered m index) (most : ℕ) (h : 1 ≤ mos
     one-wrong n e = wrong-routes most m n (r true .real n e) (λ b. as-one b ∙ r b .code ∙ ap (codeOf b) e)
 
 -- a slot that says "not at all"
-pub slot-empty : (m index : List ℕ) (most : ℕ) → Gathered m index → 1 ≤ most → getD index 13 0 ≡ 0 → RoutesRead most m Missing
+pub slot-empty : (m index : List ℕ) (most : ℕ) → Gathered m index → 1 ≤ most → getD index routesSlot 0 ≡ 0 → RoutesRead most m Missing
 unfolding nameAt names
 slot-empty m index most k h z =
-    one-absent m index k most h (λ o. absurd (omega arith)) Absent (λ b. reads-absent m index 13 (omega arith) k b 1 128 z) refl
+    one-absent m index k most h (λ o. absurd (omega arith)) Absent (λ b. reads-absent m index routesSlot (omega arith) k b 1 128 z) refl

@@ -22,7 +22,7 @@ use Rattle.message.specs.declared.Span.{Span}
 use Rattle.message.specs.declared.Got.{Got}
 use Rattle.message.specs.declared.Got.the-variants.{Found, Absent, Code}
 use Rattle.message.proofs.Got.{the-type}
-use Rattle.message.specs.Positions.{names, nameAt, headOf, absent, once, twice, howOften, slotSays, Stands, Gathered}
+use Rattle.message.specs.Positions.{names, slots, nameAt, headOf, absent, once, twice, howOften, slotSays, Stands, Gathered}
 use Rattle.message.specs.Spans.{bytesField, codeOf, Reads}
 use Rattle.message.proofs.Walks.{Passed, passes, up4-least}
 use Rattle.message.proofs.Heads.{net24-drop}
@@ -59,7 +59,7 @@ rightHead : ℕ → Bool
 unfolding isBase
 rightHead k = eqb (headOf k) (pick (isBase (nameAt k)) 8 12)
 
-right-heads : every rightHead (counted 0 14) ≡ true
+right-heads : every rightHead (counted 0 slots) ≡ true
 unfolding every counted rightHead isBase headOf nameAt names pick
 right-heads = refl
 
@@ -68,17 +68,17 @@ unfolding isBase headLength avpOf pick
 head-name s = by-test (leb 128 (getD s 4 0)) (λ t. rw t) (λ t. rw t)
 
 -- an AVP with the name of a slot has the slot's header
-pub slot-head : (k : ℕ) (s : List ℕ) → k < 14 → sameName (nameAt k) ((avpOf s) .name) ≡ true → headLength s ≡ headOf k
+pub slot-head : (k : ℕ) (s : List ℕ) → k < slots → sameName (nameAt k) ((avpOf s) .name) ≡ true → headLength s ≡ headOf k
 unfolding rightHead
 slot-head k s h t =
     let z : 0 + k ≡ k = omega arith in
     let q : nameAt k ≡ (avpOf s) .name = same-name-eq (nameAt k) ((avpOf s) .name) t in
-    let r : headOf k ≡ pick (isBase (nameAt k)) 8 12 = eqb-true (headOf k) (pick (isBase (nameAt k)) 8 12) (rw z at (counted-every rightHead 0 14 right-heads k h)) in
+    let r : headOf k ≡ pick (isBase (nameAt k)) 8 12 = eqb-true (headOf k) (pick (isBase (nameAt k)) 8 12) (rw z at (counted-every rightHead 0 slots right-heads k h)) in
     head-name s ∙ rw (← q) (sym r)
 
 -- ONE FIELD
 
-module _ (m index : List ℕ) (k : ℕ) (h : k < 14) (g : Gathered m index) where
+module _ (m index : List ℕ) (k : ℕ) (h : k < slots) (g : Gathered m index) where
   there : List Avp
   there = having (nameAt k) (avps m)
 

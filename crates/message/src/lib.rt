@@ -1,6 +1,6 @@
 // Reading a request over the caller's bytes, up to its fields: nothing is copied, a text is a part of the message.
 ghost use mathlib.Core.Path.{_≡_};
-ghost use mathlib.Core.Bool.{Bool, true, false, _&&_};
+ghost use mathlib.Core.Bool.{Bool, true, false, _&&_, _||_, not};
 ghost use Prim.Native.Nat.{ℕ, _+_, _*_, _≤_, _<_};
 ghost use lib.Dec.{eqb};
 ghost use lib.ListN.{length, getD, drop};
@@ -8,7 +8,7 @@ ghost use Rattle.octets.specs.Texts.{zeros};
 ghost use Rattle.octets.specs.Numbers.{net24, net32};
 ghost use Rattle.message.specs.CallsThatGetNoAnswer.{messageNumber};
 ghost use Rattle.message.specs.ReadingAMessage.{base, vendor, sameName, routingPolicy, avpCode, avpOf, supported, command, headerCode, requestWalk, avps, walkCode, numberField, textsField, fieldCode};
-ghost use Rattle.message.specs.Positions.{slotOf, nameAt, headOf, headAt, Gathered};
+ghost use Rattle.message.specs.Positions.{slots, notKnown, routesSlot, slotOf, nameAt, headOf, headAt, FlagsAndLength, Gathered};
 ghost use Rattle.message.specs.Spans.{bytesField, codeOf, Reads, RouteFrom, howMany, isFit, routesCode, RoutesRead};
 
 // Which kind of code a call is answered with.
@@ -23,10 +23,54 @@ pub enum Kind {
 // The header, and so the least that a message has.
 pub const HEADER_LENGTH: usize = 20;
 
+// The most that a message has.
+pub const LENGTH_MOST: usize = 4096;
+
 // The most bytes of a text, and of the label of a W-APN.
 pub const TEXT_MOST: usize = 128;
 
 pub const LABEL_MOST: usize = 100;
+
+// THE SLOTS OF THE WALK: one for each AVP that a list or the answer asks for, those with V last
+
+pub const SESSION_ID: usize = 0;
+
+pub const AUTH_APPLICATION_ID: usize = 1;
+
+pub const ORIGIN_HOST: usize = 2;
+
+pub const ORIGIN_REALM: usize = 3;
+
+pub const DESTINATION_REALM: usize = 4;
+
+pub const AUTH_REQUEST_TYPE: usize = 5;
+
+pub const DESTINATION_HOST: usize = 6;
+
+pub const USER_NAME: usize = 7;
+
+pub const TERMINATION_CAUSE: usize = 8;
+
+pub const PROXY_INFO: usize = 9;
+
+pub const RE_AUTH_REQUEST_TYPE: usize = 10;
+
+pub const VISITED_NETWORK: usize = 11;
+
+pub const SESSION_REQUEST_TYPE: usize = 12;
+
+pub const WLAN_APN_ID: usize = 13;
+
+pub const ROUTING_POLICY: usize = 14;
+
+// How many slots there are, which is also what an AVP has that is known and that nothing asks for.
+pub const SLOTS: usize = 15;
+
+// What an AVP has that is not known.
+pub const NOT_KNOWN: usize = 16;
+
+// A place and a length for each slot.
+pub const INDEX_LENGTH: usize = 30;
 
 // CALLS THAT GET NO ANSWER
 
@@ -49,7 +93,7 @@ pub fn number(m: &[u8]) -> u32
     if n < HEADER_LENGTH {
         return 5;
     }
-    if 4096 < n {
+    if LENGTH_MOST < n {
         return 5;
     }
     if m[0] != 1 {
@@ -100,10 +144,12 @@ pub fn header_code(m: &[u8]) -> u32
 
 // ONE AVP
 
-// An AVP that passes the four tests: the slot of its name, 14 where it is known and no list names it, 15 where it is not known, and
-// where the next one starts.
+// An AVP that passes the four tests: the slot of its name, SLOTS where it is known and nothing asks for it, NOT_KNOWN where it is not
+// known; its length and whether M is set; and where the next one starts.
 pub struct Spot {
     pub slot: usize,
+    pub length: usize,
+    pub mandatory: bool,
     pub next: usize,
 }
 
@@ -118,21 +164,22 @@ fn base_slot(code: u32) -> usize
     ensures { λ r. ⌜ r ≡ slotOf (base code) ⌝ }
 {
     match code {
-        263 => 0,
-        258 => 1,
-        264 => 2,
-        296 => 3,
-        283 => 4,
-        274 => 5,
-        293 => 6,
-        1 => 7,
-        295 => 8,
-        284 => 9,
-        2 | 4 | 6 | 8 | 12 | 14 | 24 | 30 | 32 | 34 | 36 | 60 | 62 => 14,
-        70 | 74 | 94 | 96 | 98 | 266 | 268 | 276 | 278 | 282 | 298 | 402 | 444 | 450 | 578 => 14,
-        5 | 7 | 9 | 13 | 19 | 25 | 31 | 35 | 61 | 63 | 73 | 77 => 14,
-        87 | 95 | 277 | 279 | 285 | 291 | 297 | 401 | 443 => 14,
-        _ => 15,
+        263 => SESSION_ID,
+        258 => AUTH_APPLICATION_ID,
+        264 => ORIGIN_HOST,
+        296 => ORIGIN_REALM,
+        283 => DESTINATION_REALM,
+        274 => AUTH_REQUEST_TYPE,
+        293 => DESTINATION_HOST,
+        1 => USER_NAME,
+        295 => TERMINATION_CAUSE,
+        284 => PROXY_INFO,
+        285 => RE_AUTH_REQUEST_TYPE,
+        2 | 4 | 6 | 8 | 12 | 14 | 24 | 30 | 32 | 34 | 36 | 60 | 62 => SLOTS,
+        70 | 74 | 94 | 96 | 98 | 266 | 268 | 276 | 278 | 282 | 298 | 402 | 444 | 450 | 578 => SLOTS,
+        5 | 7 | 9 | 13 | 19 | 25 | 31 | 35 | 61 | 63 | 73 | 77 => SLOTS,
+        87 | 95 | 277 | 279 | 291 | 297 | 401 | 443 => SLOTS,
+        _ => NOT_KNOWN,
     }
 }
 
@@ -141,20 +188,28 @@ fn vendor_slot(id: u32, code: u32) -> usize
     ensures { λ r. ⌜ r ≡ slotOf (vendor id code) ⌝ }
 {
     if id != 10415 {
-        return 15;
+        return NOT_KNOWN;
     }
     match code {
-        600 => 10,
-        311 => 11,
-        100 => 12,
-        312 => 13,
-        304 => 14,
-        _ => 15,
+        600 => VISITED_NETWORK,
+        311 => SESSION_REQUEST_TYPE,
+        100 => WLAN_APN_ID,
+        312 => ROUTING_POLICY,
+        304 => SLOTS,
+        _ => NOT_KNOWN,
     }
 }
 
-// The AVP at a place, with so many bytes left from there on, by the four tests. Its code is read with the flags, before the tests: the message's place is
-// then looked up once.
+// Flags and length of the AVP at a place in one word, the flags in its highest byte.
+fn flags_and_length(m: &[u8], at: usize) -> u32
+    requires { ⌜ at + 8 ≤ length (now m) ⌝ }
+    ensures { λ r. ⌜ FlagsAndLength (now (m .entry)) at r ⌝ }
+{
+    octets::wide(m[at + 4]) * 16777216 + octets::read24(m, at + 5) as u32
+}
+
+// The AVP at a place, with so many bytes left from there on, by the four tests. Where no reserved bit is set, the word without its three highest bits is
+// the length. Where that is 8 at least, M and V are told by comparing the word as a whole: asked bit by bit, the compiler would load it byte by byte.
 pub fn head_at(m: &[u8], at: usize, left: usize) -> Head
     requires { ⌜ at + left ≡ length (now m) ⌝ }
     ensures { λ r. ⌜ r ≡ headAt (now (m .entry)) at ⌝ }
@@ -162,59 +217,60 @@ pub fn head_at(m: &[u8], at: usize, left: usize) -> Head
     if left < 8 {
         return Head::Bad(5014);
     }
-    let flags = m[at + 4];
+    let word = flags_and_length(m, at);
     let code = octets::read32(m, at);
-    if flags % 32 != 0 {
+    let length = (word % 536870912) as usize;
+    if 16777216 <= length {
         return Head::Bad(3009);
     }
-    let n = octets::read24(m, at + 5);
-    let whole = (n + 3) / 4 * 4;
-    if 128 <= flags {
-        if n < 12 {
-            return Head::Bad(5014);
-        }
-        if left < whole {
+    if length < 8 {
+        return Head::Bad(5014);
+    }
+    let whole = (length + 3) / 4 * 4;
+    if left < whole {
+        return Head::Bad(5014);
+    }
+    let mandatory = 1073741832 <= word % 2147483648;
+    if 2147483656 <= word {
+        if length < 12 {
             return Head::Bad(5014);
         }
         let slot = vendor_slot(octets::read32(m, at + 8), code);
         return Head::One(Spot {
             slot,
+            length,
+            mandatory,
             next: at + whole,
         });
-    }
-    if n < 8 {
-        return Head::Bad(5014);
-    }
-    if left < whole {
-        return Head::Bad(5014);
     }
     let slot = base_slot(code);
     Head::One(Spot {
         slot,
+        length,
+        mandatory,
         next: at + whole,
     })
 }
 
-// Whether the AVP at a place, of this slot, is supported: known, or without M.
-fn is_supported(m: &[u8], at: usize, slot: usize) -> bool
-    requires { ⌜ (at + 8 ≤ length (now m)) × (slot ≡ slotOf ((avpOf (drop at (now m))) .name)) ⌝ }
-    ensures { λ r. ⌜ r ≡ supported (avpOf (drop at (now (m .entry)))) ⌝ }
+// Whether an AVP of this slot is supported: known, or without M.
+fn is_supported(slot: usize, mandatory: bool) -> bool
+    ensures { λ r. ⌜ r ≡ (not (eqb slot notKnown) || not mandatory) ⌝ }
 {
-    if slot != 15 {
+    if slot != NOT_KNOWN {
         return true;
     }
-    m[at + 4] / 64 % 2 == 0
+    !mandatory
 }
 
 // THE WALK
 
 // One walk over all AVPs. It notes for each slot 0 where no AVP has its name, the place of the only one that has,
-// 1 where there are more, and 14 numbers further on that AVP's length; its result is the code of the first AVP that fails,
+// 1 where there are more, and SLOTS numbers further on that AVP's length; its result is the code of the first AVP that fails,
 // 0 where none does.
 // The inner loop steps over the AVPs that no list names, if they are supported, as those that a list names are; the end and
 // a failing AVP leave both loops.
 pub fn gather(m: &[u8], index: &mut [usize]) -> u32
-    requires { ⌜ (20 ≤ length (now m)) × (now index ≡ zeros 28) ⌝ }
+    requires { ⌜ (20 ≤ length (now m)) × (now index ≡ zeros (slots + slots)) ⌝ }
     ensures { λ r. ⌜ (r ≡ walkCode (now (m .entry))) × Gathered (now (m .entry)) (now (index .exit)) ⌝ }
 {
     let mut at: usize = HEADER_LENGTH;
@@ -228,10 +284,10 @@ pub fn gather(m: &[u8], index: &mut [usize]) -> u32
             match h {
                 Head::Bad(code) => break 'walk code,
                 Head::One(a) => {
-                    if a.slot < 14 {
+                    if a.slot < SLOTS {
                         break a;
                     }
-                    if !is_supported(m, at, a.slot) {
+                    if !is_supported(a.slot, a.mandatory) {
                         break 'walk 5001;
                     }
                     left -= a.next - at;
@@ -241,7 +297,7 @@ pub fn gather(m: &[u8], index: &mut [usize]) -> u32
         };
         let slot = named.slot;
         let seen = index[slot];
-        index[slot + 14] = octets::read24(m, at + 5);
+        index[slot + SLOTS] = named.length;
         if seen == 0 {
             index[slot] = at;
         } else {
@@ -278,7 +334,7 @@ pub enum Routes {
 fn head_of(slot: usize) -> usize
     ensures { λ r. ⌜ r ≡ headOf slot ⌝ }
 {
-    if slot < 10 {
+    if slot < VISITED_NETWORK {
         return 8;
     }
     12
@@ -294,7 +350,7 @@ pub fn value32(value: &[u8]) -> u32
 
 // The field of a slot, whose value has low to high bytes.
 pub fn text_field(m: &[u8], index: &[usize], slot: usize, low: usize, high: usize) -> Got
-    requires { ⌜ (slot < 14) × (1 ≤ low) × Gathered (now m) (now index) ⌝ }
+    requires { ⌜ (slot < slots) × (1 ≤ low) × Gathered (now m) (now index) ⌝ }
     ensures { λ r. ⌜ ((b : Bool) → Reads (now (m .entry)) (bytesField (nameAt slot) b low high) r) ⌝ }
 {
     let at = index[slot];
@@ -305,7 +361,7 @@ pub fn text_field(m: &[u8], index: &[usize], slot: usize, low: usize, high: usiz
         return Got::Code(5009);
     }
     let head = head_of(slot);
-    let len = index[slot + 14] - head;
+    let len = index[slot + SLOTS] - head;
     if len < low {
         return Got::Code(5014);
     }
@@ -317,7 +373,7 @@ pub fn text_field(m: &[u8], index: &[usize], slot: usize, low: usize, high: usiz
 
 // The field of a slot whose value is a number from low to high.
 pub fn number_field(m: &[u8], index: &[usize], slot: usize, low: u32, high: u32) -> Got
-    requires { ⌜ (slot < 14) × Gathered (now m) (now index) ⌝ }
+    requires { ⌜ (slot < slots) × Gathered (now m) (now index) ⌝ }
     ensures { λ r. ⌜ Reads (now (m .entry)) (numberField (nameAt slot) low high) r ⌝ }
 {
     let g = text_field(m, index, slot, 4, 4);
@@ -469,9 +525,9 @@ fn all_routes(m: &[u8], most: usize) -> Routes
 // are more.
 fn one_route(m: &[u8], index: &[usize]) -> Routes
     requires { ⌜ Gathered (now m) (now index) ⌝ }
-    ensures { λ r. ⌜ ((most : ℕ) → 1 ≤ most → (getD (now (index .entry)) 13 0 ≡ 1 → most ≡ 1) → RoutesRead most (now (m .entry)) r) ⌝ }
+    ensures { λ r. ⌜ ((most : ℕ) → 1 ≤ most → (getD (now (index .entry)) routesSlot 0 ≡ 1 → most ≡ 1) → RoutesRead most (now (m .entry)) r) ⌝ }
 {
-    let g = text_field(m, index, 13, 1, TEXT_MOST);
+    let g = text_field(m, index, ROUTING_POLICY, 1, TEXT_MOST);
     match g {
         Got::Found(first) => Routes::Brought(first, Span { at: 0, len: 0 }, Span { at: 0, len: 0 }),
         Got::Absent => Routes::Missing,
@@ -485,10 +541,10 @@ pub fn routes_field(m: &[u8], index: &[usize], most: usize) -> Routes
     requires { ⌜ (20 ≤ length (now m)) × (walkCode (now m) ≡ 0) × (1 ≤ most) × (most ≤ 3) × Gathered (now m) (now index) ⌝ }
     ensures { λ r. ⌜ RoutesRead most (now (m .entry)) r ⌝ }
 {
-    if index[13] == 0 {
+    if index[ROUTING_POLICY] == 0 {
         return Routes::Missing;
     }
-    if index[13] == 1 {
+    if index[ROUTING_POLICY] == 1 {
         if 1 < most {
             return all_routes(m, most);
         }

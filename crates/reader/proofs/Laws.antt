@@ -11,11 +11,10 @@ use lib.Seq.{getD-drop, drop-drop}
 use Rattle.octets.specs.Choice.{pick, require, firstOf}
 use Rattle.octets.specs.Numbers.{net24, net32, up4}
 use Rattle.octets.proofs.Lists.{by-test}
-use Rattle.message.specs.ReadingAMessage.{Name, known, headLength, avpLength, avpCode, avpOf, behind, walk}
+use Rattle.message.specs.ReadingAMessage.{known, headLength, avpLength, avpCode, avpOf, behind, walk}
 use Rattle.message.proofs.Walks.{Passed, passes, head-least, up4-least, walk-end, walk-bad, walk-one}
 use Rattle.message.proofs.Heads.{net24-drop, net32-drop, head-v, head-base}
-use Rattle.message.proofs.Gathering.{next-on, slot-known, slot-unknown}
-use Rattle.message.specs.Positions.{slotOf}
+use Rattle.message.proofs.Gathering.{next-on}
 use Rattle.reader.specs.Steps.{faultOf, seenAt, stepAt, faultCode, seenName, seenAvp, onward}
 use Rattle.reader.specs.declared.Seen.{Seen}
 use Rattle.reader.specs.declared.Fault.the-variants.{Few, Bits, Short, Past}
@@ -88,13 +87,6 @@ module _ (m : List ℕ) (at : ℕ) where
       let z : at + 0 ≡ at = omega arith in
       let t : leb 128 (getD (drop at m) 4 0) ≡ false = lt-leb 128 (getD (drop at m) 4 0) (rw getD-drop v) in
       rw (head-8 m at v, t, getD-drop at m 4 0, net24-drop at 5 m, net32-drop at 0 m, z)
-
--- a slot says whether the name is known
-pub slot-says : (n : Name) → not (eqb (slotOf n) 15) ≡ known n
-slot-says n =
-    by-test (eqb (slotOf n) 15)
-    (λ e. rw (e, slot-unknown n (eqb-true (slotOf n) 15 e)))
-    (λ e. rw (e, slot-known n (eqb-false (slotOf n) 15 e)))
 
 -- THE STEP
 

@@ -103,7 +103,7 @@ fn step_at(m: &[u8], at: usize) -> Step
     let h = message::head_at(m, at, left);
     match h {
         Head::Bad(_) => Step::Bad(fault_at(m, at)),
-        Head::One(a) => Step::One(seen_at(m, at, a.next, a.slot != 15)),
+        Head::One(a) => Step::One(seen_at(m, at, a.next, a.slot != message::NOT_KNOWN)),
     }
 }
 

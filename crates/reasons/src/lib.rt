@@ -15,7 +15,7 @@ ghost use lib.Dec.{eqb};
 ghost use lib.ListN.{length};
 ghost use Rattle.octets.specs.Lists.{every};
 ghost use Rattle.message.specs.ReadingAMessage.{Avp, Field, avpCode, avps, for265, for275, forBoth, numberField, policy, routingPolicy, termination, testedAs, textsField, tunnel, walkCode};
-ghost use Rattle.message.specs.Positions.{Gathered, nameAt};
+ghost use Rattle.message.specs.Positions.{Gathered, nameAt, slots};
 ghost use Rattle.message.specs.Spans.{asks, bytesField, bytesOf, codeOf, isInside, spansIn};
 ghost use Rattle.reader.specs.Steps.{faultOf};
 ghost use Rattle.table.specs.Answers.{lent};
@@ -175,7 +175,7 @@ fn text_failed(
     low: usize,
     high: usize,
 ) -> Reason
-    requires { ⌜ (slot < 14) × (1 ≤ low) × Gathered (now m) (now index) ⌝ }
+    requires { ⌜ (slot < slots) × (1 ≤ low) × Gathered (now m) (now index) ⌝ }
     ensures { λ r. ⌜ checkNamed r ≡ firstOfFields (now (m .entry)) (bytesField (nameAt slot) required low high ∷ []) ⌝ }
 {
     let g = message::text_field(m, index, slot, low, high);
@@ -184,7 +184,7 @@ fn text_failed(
 
 // The field of a slot whose value is a number from low to high.
 fn number_failed(m: &[u8], index: &[usize], slot: usize, low: u32, high: u32) -> Reason
-    requires { ⌜ (slot < 14) × Gathered (now m) (now index) ⌝ }
+    requires { ⌜ (slot < slots) × Gathered (now m) (now index) ⌝ }
     ensures { λ r. ⌜ checkNamed r ≡ firstOfFields (now (m .entry)) (numberField (nameAt slot) low high ∷ []) ⌝ }
 {
     let g = message::number_field(m, index, slot, low, high);
@@ -198,9 +198,12 @@ fn routes_failed(m: &[u8], index: &[usize], required: bool, most: usize) -> Reas
 {
     if required {
         let g = message::routes_field(m, index, most);
-        return field_failed(13, message::routes_refusal(g));
+        return field_failed(message::ROUTING_POLICY, message::routes_refusal(g));
     }
-    field_failed(13, message::routes_code(m, index, most))
+    field_failed(
+        message::ROUTING_POLICY,
+        message::routes_code(m, index, most),
+    )
 }
 
 // The fields of both requests.
@@ -208,11 +211,18 @@ fn both_failed(m: &[u8], index: &[usize]) -> Reason
     requires { ⌜ Gathered (now m) (now index) ⌝ }
     ensures { λ r. ⌜ checkNamed r ≡ firstOfFields (now (m .entry)) forBoth ⌝ }
 {
-    let session = text_failed(m, index, 0, true, 1, 128);
-    let application = number_failed(m, index, 1, 1, 1);
-    let host = text_failed(m, index, 2, true, 1, 128);
-    let realm = text_failed(m, index, 3, true, 1, 128);
-    let destination = text_failed(m, index, 4, true, 1, 128);
+    let session = text_failed(m, index, message::SESSION_ID, true, 1, message::TEXT_MOST);
+    let application = number_failed(m, index, message::AUTH_APPLICATION_ID, 1, 1);
+    let host = text_failed(m, index, message::ORIGIN_HOST, true, 1, message::TEXT_MOST);
+    let realm = text_failed(m, index, message::ORIGIN_REALM, true, 1, message::TEXT_MOST);
+    let destination = text_failed(
+        m,
+        index,
+        message::DESTINATION_REALM,
+        true,
+        1,
+        message::TEXT_MOST,
+    );
     let realms = first_of(realm, destination);
     first_of(session, first_of(application, first_of(host, realms)))
 }
@@ -222,8 +232,22 @@ fn end_failed(m: &[u8], index: &[usize], kind: u32, most: usize) -> Reason
     requires { ⌜ (20 ≤ length (now m)) × (walkCode (now m) ≡ 0) × (1 ≤ most) × (most ≤ 3) × Gathered (now m) (now index) ⌝ }
     ensures { λ r. ⌜ checkNamed r ≡ firstOfFields (now (m .entry)) (behindType most kind) ⌝ }
 {
-    let visited = text_failed(m, index, 10, false, 1, 128);
-    let label = text_failed(m, index, 12, kind == 0, 1, 100);
+    let visited = text_failed(
+        m,
+        index,
+        message::VISITED_NETWORK,
+        false,
+        1,
+        message::TEXT_MOST,
+    );
+    let label = text_failed(
+        m,
+        index,
+        message::WLAN_APN_ID,
+        kind == 0,
+        1,
+        message::LABEL_MOST,
+    );
     let routes = routes_failed(m, index, kind == 1, most);
     first_of(visited, first_of(label, routes))
 }
@@ -233,13 +257,23 @@ fn list_265_failed(m: &[u8], index: &[usize], most: usize) -> Reason
     requires { ⌜ (20 ≤ length (now m)) × (walkCode (now m) ≡ 0) × (1 ≤ most) × (most ≤ 3) × Gathered (now m) (now index) ⌝ }
     ensures { λ r. ⌜ checkNamed r ≡ firstOfFields (now (m .entry)) (for265 most (avps (now (m .entry)))) ⌝ }
 {
-    let request = number_failed(m, index, 5, 2, 2);
-    let host = text_failed(m, index, 6, true, 1, 128);
-    let user = text_failed(m, index, 7, true, 1, 128);
+    let request = number_failed(m, index, message::AUTH_REQUEST_TYPE, 2, 2);
+    let host = text_failed(
+        m,
+        index,
+        message::DESTINATION_HOST,
+        true,
+        1,
+        message::TEXT_MOST,
+    );
+    let user = text_failed(m, index, message::USER_NAME, true, 1, message::TEXT_MOST);
     let before = first_of(request, first_of(host, user));
-    let g = message::number_field(m, index, 11, 0, 1);
+    let g = message::number_field(m, index, message::SESSION_REQUEST_TYPE, 0, 1);
     let Got::Found(kind) = g else {
-        return first_of(before, field_failed(11, message::refusal(g)));
+        return first_of(
+            before,
+            field_failed(message::SESSION_REQUEST_TYPE, message::refusal(g)),
+        );
     };
     let a = kind.at;
     let e = a + kind.len;
@@ -254,10 +288,17 @@ fn list_275_failed(m: &[u8], index: &[usize]) -> Reason
     requires { ⌜ Gathered (now m) (now index) ⌝ }
     ensures { λ r. ⌜ checkNamed r ≡ firstOfFields (now (m .entry)) for275 ⌝ }
 {
-    let cause = number_failed(m, index, 8, 1, 8);
-    let host = text_failed(m, index, 6, true, 1, 128);
-    let user = text_failed(m, index, 7, true, 1, 128);
-    let label = text_failed(m, index, 12, true, 1, 100);
+    let cause = number_failed(m, index, message::TERMINATION_CAUSE, 1, 8);
+    let host = text_failed(
+        m,
+        index,
+        message::DESTINATION_HOST,
+        true,
+        1,
+        message::TEXT_MOST,
+    );
+    let user = text_failed(m, index, message::USER_NAME, true, 1, message::TEXT_MOST);
+    let label = text_failed(m, index, message::WLAN_APN_ID, true, 1, message::LABEL_MOST);
     first_of(cause, first_of(host, first_of(user, label)))
 }
 
@@ -286,7 +327,7 @@ pub fn reading_failed(m: &[u8], most: usize) -> Reason
     if message::header_code(m) != 0 {
         return header_failed(m);
     }
-    let mut index = [0usize; 28];
+    let mut index = [0usize; message::INDEX_LENGTH];
     if message::gather(m, &mut index) != 0 {
         return walk_failed(m);
     }

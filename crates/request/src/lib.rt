@@ -36,23 +36,23 @@ pub fn first_five(m: &[u8], index: &[usize]) -> Both
     if !starts(m) {
         return Both::Failed(5005);
     }
-    let g1 = message::text_field(m, index, 0, 1, message::TEXT_MOST);
+    let g1 = message::text_field(m, index, message::SESSION_ID, 1, message::TEXT_MOST);
     let Got::Found(session) = g1 else {
         return Both::Failed(message::refusal(g1));
     };
-    let g2 = message::number_field(m, index, 1, 1, 1);
+    let g2 = message::number_field(m, index, message::AUTH_APPLICATION_ID, 1, 1);
     let Got::Found(_) = g2 else {
         return Both::Failed(message::refusal(g2));
     };
-    let g3 = message::text_field(m, index, 2, 1, message::TEXT_MOST);
+    let g3 = message::text_field(m, index, message::ORIGIN_HOST, 1, message::TEXT_MOST);
     let Got::Found(host) = g3 else {
         return Both::Failed(message::refusal(g3));
     };
-    let g4 = message::text_field(m, index, 3, 1, message::TEXT_MOST);
+    let g4 = message::text_field(m, index, message::ORIGIN_REALM, 1, message::TEXT_MOST);
     let Got::Found(realm) = g4 else {
         return Both::Failed(message::refusal(g4));
     };
-    let g5 = message::text_field(m, index, 4, 1, message::TEXT_MOST);
+    let g5 = message::text_field(m, index, message::DESTINATION_REALM, 1, message::TEXT_MOST);
     let Got::Found(_) = g5 else {
         return Both::Failed(message::refusal(g5));
     };
@@ -74,7 +74,7 @@ fn tunnel_end(
     ensures { λ r. ⌜ ((most : ℕ) → wrong ≡ fieldCode (avps (now (m .entry))) (textsField most routingPolicy false)
         → Listed (now (m .entry)) (tunnelCode most (avps (now (m .entry)))) (tunnelOf visited (avps (now (m .entry)))) r) ⌝ }
 {
-    let g1 = message::text_field(m, index, 12, 1, message::LABEL_MOST);
+    let g1 = message::text_field(m, index, message::WLAN_APN_ID, 1, message::LABEL_MOST);
     let Got::Found(label) = g1 else {
         return Told::Refused(message::refusal(g1));
     };
@@ -99,7 +99,7 @@ fn policy_end(m: &[u8], index: &[usize], user: Span, session: Span, routes: Rout
     ensures { λ r. ⌜ ((most : ℕ) → RoutesRead most (now (m .entry)) routes
         → Listed (now (m .entry)) (policyCode most (avps (now (m .entry)))) (policyOf (avps (now (m .entry)))) r) ⌝ }
 {
-    let g1 = message::text_field(m, index, 12, 1, message::LABEL_MOST);
+    let g1 = message::text_field(m, index, message::WLAN_APN_ID, 1, message::LABEL_MOST);
     if let Got::Code(n) = g1 {
         return Told::Refused(n);
     }
@@ -133,23 +133,23 @@ fn list_265(m: &[u8], index: &[usize], session: Span, host: Span, realm: Span, m
     ensures { λ r. ⌜ Listed (now (m .entry)) (restCode most 265 (avps (now (m .entry)))) (requestOf 265 (avps (now (m .entry)))) r ⌝ }
 {
     let routes = message::routes_field(m, index, most);
-    let g1 = message::number_field(m, index, 5, 2, 2);
+    let g1 = message::number_field(m, index, message::AUTH_REQUEST_TYPE, 2, 2);
     let Got::Found(_) = g1 else {
         return Told::Refused(message::refusal(g1));
     };
-    let g2 = message::text_field(m, index, 6, 1, message::TEXT_MOST);
+    let g2 = message::text_field(m, index, message::DESTINATION_HOST, 1, message::TEXT_MOST);
     let Got::Found(_) = g2 else {
         return Told::Refused(message::refusal(g2));
     };
-    let g3 = message::text_field(m, index, 7, 1, message::TEXT_MOST);
+    let g3 = message::text_field(m, index, message::USER_NAME, 1, message::TEXT_MOST);
     let Got::Found(user) = g3 else {
         return Told::Refused(message::refusal(g3));
     };
-    let g4 = message::number_field(m, index, 11, 0, 1);
+    let g4 = message::number_field(m, index, message::SESSION_REQUEST_TYPE, 0, 1);
     let Got::Found(kind) = g4 else {
         return Told::Refused(message::refusal(g4));
     };
-    let g5 = message::text_field(m, index, 10, 1, message::TEXT_MOST);
+    let g5 = message::text_field(m, index, message::VISITED_NETWORK, 1, message::TEXT_MOST);
     if let Got::Code(n) = g5 {
         return Told::Refused(n);
     }
@@ -168,19 +168,25 @@ fn list_275(m: &[u8], index: &[usize], session: Span) -> Told
     requires { ⌜ (Gathered (now m) (now index)) × (Holds (now m) sessionId session) ⌝ }
     ensures { λ r. ⌜ ((most : ℕ) → Listed (now (m .entry)) (restCode most 275 (avps (now (m .entry)))) (requestOf 275 (avps (now (m .entry)))) r) ⌝ }
 {
-    let cause = message::number_field(m, index, 8, 1, 8);
+    let cause = message::number_field(m, index, message::TERMINATION_CAUSE, 1, 8);
     let Got::Found(_) = cause else {
         return Told::Refused(message::refusal(cause));
     };
-    let destination = message::text_field(m, index, 6, 1, message::TEXT_MOST);
+    let destination = message::text_field(
+        m,
+        index,
+        message::DESTINATION_HOST,
+        1,
+        message::TEXT_MOST,
+    );
     let Got::Found(_) = destination else {
         return Told::Refused(message::refusal(destination));
     };
-    let name = message::text_field(m, index, 7, 1, message::TEXT_MOST);
+    let name = message::text_field(m, index, message::USER_NAME, 1, message::TEXT_MOST);
     let Got::Found(user) = name else {
         return Told::Refused(message::refusal(name));
     };
-    let apn = message::text_field(m, index, 12, 1, message::LABEL_MOST);
+    let apn = message::text_field(m, index, message::WLAN_APN_ID, 1, message::LABEL_MOST);
     let Got::Found(label) = apn else {
         return Told::Refused(message::refusal(apn));
     };
@@ -192,7 +198,7 @@ fn proxies_seen(m: &[u8], index: &[usize]) -> bool
     requires { ⌜ (headerCode (now m) ≡ 0) × (walkCode (now m) ≡ 0) × Gathered (now m) (now index) ⌝ }
     ensures { λ r. ⌜ r ≡ hasProxies (now (m .entry)) ⌝ }
 {
-    index[9] != 0
+    index[message::PROXY_INFO] != 0
 }
 
 // Both lists, of a message whose header and walk passed.
@@ -231,7 +237,7 @@ pub fn read(m: &[u8], most: usize) -> Heard
             proxies: false,
         };
     }
-    let mut index = [0usize; 28];
+    let mut index = [0usize; message::INDEX_LENGTH];
     let w = message::gather(m, &mut index);
     if w != 0 {
         return Heard {

@@ -21,6 +21,8 @@ pub const PLACES: usize = 8;
 
 pub const ROW_LENGTH_1: usize = 4608;
 
+pub const ROW_LENGTH_2: usize = 8704;
+
 // A table has at most 1,024 rows.
 const MOST_ROWS: usize = 1024;
 
@@ -252,7 +254,8 @@ fn next_like(t: &[u8], form: usize, end: u64, from: usize) -> usize
 }
 
 // Rows from the i-th on and before the result are not the account's. Of a name of 8 bytes or more the last eight are looked at first, at once:
-// names of one operator differ there. Where they are the same, the operator is looked at: other operators may have the same names.
+// names of one operator differ there. Where they are the same, the operator is looked at: other operators may have the same names. So that this costs little too, the table from
+// the first operator's byte on is a part by itself, and one place serves both; no table is shorter than that, but without the test the compiler would add up a place each time.
 fn rows_passed(t: &[u8], form: usize, op: u32, name: &[u8], i: usize) -> usize
     requires { ⌜ (tableNumber (lent form (now t)) ≡ 0) × (i ≤ length (now t) / rowLength form) ⌝ }
     ensures { λ r. ⌜ (i ≤ r) × (r ≤ length (now (t .entry)) / rowLength form)
@@ -267,10 +270,15 @@ fn rows_passed(t: &[u8], form: usize, op: u32, name: &[u8], i: usize) -> usize
     }
     let end = octets::eight(name, n - 8);
     let behind = 25 - n;
+    let all = t.len();
+    if all < behind {
+        return i;
+    }
+    let operators = &t[behind..all];
     let width = row_length(form);
     let mut at: usize = next_like(t, form, end, width * i + (n - 6));
     while at < t.len() {
-        if octets::wide(t[at + behind]) == op {
+        if octets::wide(operators[at]) == op {
             break;
         }
         at = next_like(t, form, end, at + width);

@@ -101,9 +101,9 @@ fn fits(bytes: &[u8], form: u32) -> bool {
 fn refuse_both(path: &[u8], n: usize) {
     let mut out = [0u8; 4096];
     let a = say(&mut out, 0, b": its length is that of ");
-    let b = number(&mut out, a, (n / 4608) as u64);
+    let b = number(&mut out, a, (n / table::ROW_LENGTH_1) as u64);
     let c = say(&mut out, b, b" rows of form 1 and of ");
-    let d = number(&mut out, c, (n / 8704) as u64);
+    let d = number(&mut out, c, (n / table::ROW_LENGTH_2) as u64);
     let e = say(&mut out, d, b" rows of form 2: say form=1 or form=2");
     refuse_line(path, &out, e);
 }

@@ -7,19 +7,20 @@ use tool_words::say;
 // The AVP of a slot by its name; the last four are 3GPP's.
 fn avp(out: &mut [u8; 4096], at: usize, slot: usize) -> usize {
     match slot {
-        0 => tool_avps::base_name(out, at, 263),
-        1 => tool_avps::base_name(out, at, 258),
-        2 => tool_avps::base_name(out, at, 264),
-        3 => tool_avps::base_name(out, at, 296),
-        4 => tool_avps::base_name(out, at, 283),
-        5 => tool_avps::base_name(out, at, 274),
-        6 => tool_avps::base_name(out, at, 293),
-        7 => tool_avps::base_name(out, at, 1),
-        8 => tool_avps::base_name(out, at, 295),
-        9 => tool_avps::base_name(out, at, 284),
-        10 => tool_avps::our_name(out, at, 600),
-        11 => tool_avps::our_name(out, at, 311),
-        12 => tool_avps::our_name(out, at, 100),
+        message::SESSION_ID => tool_avps::base_name(out, at, 263),
+        message::AUTH_APPLICATION_ID => tool_avps::base_name(out, at, 258),
+        message::ORIGIN_HOST => tool_avps::base_name(out, at, 264),
+        message::ORIGIN_REALM => tool_avps::base_name(out, at, 296),
+        message::DESTINATION_REALM => tool_avps::base_name(out, at, 283),
+        message::AUTH_REQUEST_TYPE => tool_avps::base_name(out, at, 274),
+        message::DESTINATION_HOST => tool_avps::base_name(out, at, 293),
+        message::USER_NAME => tool_avps::base_name(out, at, 1),
+        message::TERMINATION_CAUSE => tool_avps::base_name(out, at, 295),
+        message::PROXY_INFO => tool_avps::base_name(out, at, 284),
+        message::RE_AUTH_REQUEST_TYPE => tool_avps::base_name(out, at, 285),
+        message::VISITED_NETWORK => tool_avps::our_name(out, at, 600),
+        message::SESSION_REQUEST_TYPE => tool_avps::our_name(out, at, 311),
+        message::WLAN_APN_ID => tool_avps::our_name(out, at, 100),
         _ => tool_avps::our_name(out, at, 312),
     }
 }
@@ -39,7 +40,7 @@ fn in_list(out: &mut [u8; 4096], at: usize, wrong: &[u8], slot: usize) -> usize 
 
 // An AVP that stands too often. Of policies form 2 takes three, of everything else a request has one.
 fn too_many(out: &mut [u8; 4096], at: usize, slot: usize, form: u32) -> usize {
-    if slot == 13 {
+    if slot == message::ROUTING_POLICY {
         if form == 2 {
             return in_list(out, at, b": more than three ", slot);
         }

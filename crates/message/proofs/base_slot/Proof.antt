@@ -1,5 +1,5 @@
--- Each code is looked up among the names: one that is asked for has its place, one that is known has 14, and one that is no known name's
--- has 15.
+-- Each code is looked up among the names: one that is asked for has its place, one that is known besides comes behind them, and then
+-- one that is no known name's.
 use mathlib.Core.Path.{_≡_, refl, sym}
 use mathlib.Core.Bool.{Bool, true, false, _||_}
 use mathlib.Core.List.{List, [], _∷_}
@@ -9,13 +9,13 @@ use borrow.Author.Tests.{eqb-true, ne-eqb}
 use Rattle.octets.specs.Choice.{pick}
 use Rattle.octets.specs.Lists.{every, isOn}
 use Rattle.message.specs.ReadingAMessage.{Name, base, vendor, sameName, namedIn01, codesOfAARequest, codesOfTermination, knownAvps, isOneOf, known}
-use Rattle.message.specs.Positions.{names, slotIn, slotOf}
+use Rattle.message.specs.Positions.{names, slots, notKnown, slotIn, slotOf}
 use Rattle.message.proofs.Known.{key-holds, no-key, not-known}
 use Rattle.message.proofs.base_slot.Statement.{statement}
 use Rattle.message.proofs.base_slot.Tie as tie
 
 asked : List ℕ
-asked = 263 ∷ 258 ∷ 264 ∷ 296 ∷ 283 ∷ 274 ∷ 293 ∷ 1 ∷ 295 ∷ 284 ∷ []
+asked = 263 ∷ 258 ∷ 264 ∷ 296 ∷ 283 ∷ 274 ∷ 293 ∷ 1 ∷ 295 ∷ 284 ∷ 285 ∷ []
 
 arm1 : List ℕ
 arm1 = 2 ∷ 4 ∷ 6 ∷ 8 ∷ 12 ∷ 14 ∷ 24 ∷ 30 ∷ 32 ∷ 34 ∷ 36 ∷ 60 ∷ 62 ∷ []
@@ -27,26 +27,26 @@ arm3 : List ℕ
 arm3 = 5 ∷ 7 ∷ 9 ∷ 13 ∷ 19 ∷ 25 ∷ 31 ∷ 35 ∷ 61 ∷ 63 ∷ 73 ∷ 77 ∷ []
 
 arm4 : List ℕ
-arm4 = 87 ∷ 95 ∷ 277 ∷ 279 ∷ 285 ∷ 291 ∷ 297 ∷ 401 ∷ 443 ∷ []
+arm4 = 87 ∷ 95 ∷ 277 ∷ 279 ∷ 291 ∷ 297 ∷ 401 ∷ 443 ∷ []
 
 -- known and not asked for
-has14 : ℕ → Bool
-has14 k = eqb (slotOf (base k)) 14
+besides : ℕ → Bool
+besides k = eqb (slotOf (base k)) slots
 
-arm1-known : every has14 arm1 ≡ true
-unfolding names slotIn slotOf sameName pick known knownAvps namedIn01 codesOfAARequest codesOfTermination isOneOf every has14 arm1
+arm1-known : every besides arm1 ≡ true
+unfolding names slotIn slotOf sameName pick known knownAvps namedIn01 codesOfAARequest codesOfTermination isOneOf every besides arm1
 arm1-known = refl
 
-arm2-known : every has14 arm2 ≡ true
-unfolding names slotIn slotOf sameName pick known knownAvps namedIn01 codesOfAARequest codesOfTermination isOneOf every has14 arm2
+arm2-known : every besides arm2 ≡ true
+unfolding names slotIn slotOf sameName pick known knownAvps namedIn01 codesOfAARequest codesOfTermination isOneOf every besides arm2
 arm2-known = refl
 
-arm3-known : every has14 arm3 ≡ true
-unfolding names slotIn slotOf sameName pick known knownAvps namedIn01 codesOfAARequest codesOfTermination isOneOf every has14 arm3
+arm3-known : every besides arm3 ≡ true
+unfolding names slotIn slotOf sameName pick known knownAvps namedIn01 codesOfAARequest codesOfTermination isOneOf every besides arm3
 arm3-known = refl
 
-arm4-known : every has14 arm4 ≡ true
-unfolding names slotIn slotOf sameName pick known knownAvps namedIn01 codesOfAARequest codesOfTermination isOneOf every has14 arm4
+arm4-known : every besides arm4 ≡ true
+unfolding names slotIn slotOf sameName pick known knownAvps namedIn01 codesOfAARequest codesOfTermination isOneOf every besides arm4
 arm4-known = refl
 
 -- each known name without V has one of the codes
@@ -58,12 +58,12 @@ all-here : every isHere knownAvps ≡ true
 unfolding every isOn isHere asked arm1 arm2 arm3 arm4 knownAvps namedIn01 codesOfAARequest codesOfTermination
 all-here = refl
 
-none-asked : (k : ℕ) → (k ≡ 263 → ⊥) → (k ≡ 258 → ⊥) → (k ≡ 264 → ⊥) → (k ≡ 296 → ⊥) → (k ≡ 283 → ⊥) → (k ≡ 274 → ⊥) → (k ≡ 293 → ⊥) → (k ≡ 1 → ⊥) → (k ≡ 295 → ⊥) → (k ≡ 284 → ⊥) → isOn asked k ≡ false
+none-asked : (k : ℕ) → (k ≡ 263 → ⊥) → (k ≡ 258 → ⊥) → (k ≡ 264 → ⊥) → (k ≡ 296 → ⊥) → (k ≡ 283 → ⊥) → (k ≡ 274 → ⊥) → (k ≡ 293 → ⊥) → (k ≡ 1 → ⊥) → (k ≡ 295 → ⊥) → (k ≡ 284 → ⊥) → (k ≡ 285 → ⊥) → isOn asked k ≡ false
 unfolding isOn every asked
-none-asked k n0 n1 n2 n3 n4 n5 n6 n7 n8 n9 =
-    simp (ne-eqb 263 k (λ e. n0 (sym e)), ne-eqb 258 k (λ e. n1 (sym e)), ne-eqb 264 k (λ e. n2 (sym e)), ne-eqb 296 k (λ e. n3 (sym e)), ne-eqb 283 k (λ e. n4 (sym e)), ne-eqb 274 k (λ e. n5 (sym e)), ne-eqb 293 k (λ e. n6 (sym e)), ne-eqb 1 k (λ e. n7 (sym e)), ne-eqb 295 k (λ e. n8 (sym e)), ne-eqb 284 k (λ e. n9 (sym e)))
+none-asked k n0 n1 n2 n3 n4 n5 n6 n7 n8 n9 n10 =
+    simp (ne-eqb 263 k (λ e. n0 (sym e)), ne-eqb 258 k (λ e. n1 (sym e)), ne-eqb 264 k (λ e. n2 (sym e)), ne-eqb 296 k (λ e. n3 (sym e)), ne-eqb 283 k (λ e. n4 (sym e)), ne-eqb 274 k (λ e. n5 (sym e)), ne-eqb 293 k (λ e. n6 (sym e)), ne-eqb 1 k (λ e. n7 (sym e)), ne-eqb 295 k (λ e. n8 (sym e)), ne-eqb 284 k (λ e. n9 (sym e)), ne-eqb 285 k (λ e. n10 (sym e)))
 
-unknown : (k : ℕ) → known (base k) ≡ false → 15 ≡ slotOf (base k)
+unknown : (k : ℕ) → known (base k) ≡ false → notKnown ≡ slotOf (base k)
 unfolding slotOf pick
 unknown k e = rw e
 
@@ -108,29 +108,33 @@ unfolding names slotIn slotOf sameName pick known knownAvps namedIn01 codesOfAAR
 returns-10 c = rw (c .match .keys10)
 
 returns-11 : tie.Need-returns-11
-unfolding has14 arm1
-returns-11 c = sym (eqb-true _ 14 (key-holds has14 arm1 (c .before .args .code) arm1-known (c .match .keys11)))
+unfolding names slotIn slotOf sameName pick known knownAvps namedIn01 codesOfAARequest codesOfTermination isOneOf
+returns-11 c = rw (c .match .keys11)
 
 returns-12 : tie.Need-returns-12
-unfolding has14 arm2
-returns-12 c = sym (eqb-true _ 14 (key-holds has14 arm2 (c .before .args .code) arm2-known (c .match .keys12)))
+unfolding besides arm1
+returns-12 c = sym (eqb-true _ slots (key-holds besides arm1 (c .before .args .code) arm1-known (c .match .keys12)))
 
 returns-13 : tie.Need-returns-13
-unfolding has14 arm3
-returns-13 c = sym (eqb-true _ 14 (key-holds has14 arm3 (c .before .args .code) arm3-known (c .match .keys13)))
+unfolding besides arm2
+returns-13 c = sym (eqb-true _ slots (key-holds besides arm2 (c .before .args .code) arm2-known (c .match .keys13)))
 
 returns-14 : tie.Need-returns-14
-unfolding has14 arm4
-returns-14 c = sym (eqb-true _ 14 (key-holds has14 arm4 (c .before .args .code) arm4-known (c .match .keys14)))
+unfolding besides arm3
+returns-14 c = sym (eqb-true _ slots (key-holds besides arm3 (c .before .args .code) arm3-known (c .match .keys14)))
 
 returns-15 : tie.Need-returns-15
+unfolding besides arm4
+returns-15 c = sym (eqb-true _ slots (key-holds besides arm4 (c .before .args .code) arm4-known (c .match .keys15)))
+
+returns-16 : tie.Need-returns-16
 unfolding isHere arm1 arm2 arm3 arm4
-returns-15 c =
+returns-16 c =
     let n = c .match .rest in
     let k = c .before .args .code in
     let q = n .0 .0 .0 .0 in
     let a : isOn asked k ≡ false =
-    none-asked k (q .0 .0 .0 .0 .0 .0 .0 .0 .0 .1) (q .0 .0 .0 .0 .0 .0 .0 .0 .1) (q .0 .0 .0 .0 .0 .0 .0 .1) (q .0 .0 .0 .0 .0 .0 .1) (q .0 .0 .0 .0 .0 .1) (q .0 .0 .0 .0 .1) (q .0 .0 .0 .1) (q .0 .0 .1) (q .0 .1) (q .1) in
+    none-asked k (q .0 .0 .0 .0 .0 .0 .0 .0 .0 .0 .1) (q .0 .0 .0 .0 .0 .0 .0 .0 .0 .1) (q .0 .0 .0 .0 .0 .0 .0 .0 .1) (q .0 .0 .0 .0 .0 .0 .0 .1) (q .0 .0 .0 .0 .0 .0 .1) (q .0 .0 .0 .0 .0 .1) (q .0 .0 .0 .0 .1) (q .0 .0 .0 .1) (q .0 .0 .1) (q .0 .1) (q .1) in
     unknown k (not-known isHere (base k) all-here (rw (a, no-key arm1 k (n .0 .0 .0 .1), no-key arm2 k (n .0 .0 .1), no-key arm3 k (n .0 .1), no-key arm4 k (n .1))))
 
 pub base-slot-spec : {M : Type 1} → statement M
@@ -151,4 +155,5 @@ base-slot-spec =
     returns-12
     returns-13
     returns-14
-    returns-15)
+    returns-15
+    returns-16)

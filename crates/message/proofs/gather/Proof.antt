@@ -9,10 +9,10 @@ use lib.ListN.{length, drop, length-set}
 use borrow.Author.Tests.{not-true, not-false}
 use borrow.Author.Needs.{needs}
 use Rattle.message.specs.ReadingAMessage.{avpOf, supported}
-use Rattle.message.specs.Positions.{headAt}
+use Rattle.message.specs.Positions.{slots, headAt}
 use Rattle.octets.proofs.Texts.{length-zeros}
 use Rattle.message.specs.declared.Head.the-variants.{One}
-use Rattle.message.proofs.Gathering.{Walked, started, at-end, at-bad, at-unsupported, slot-is, slot-supported, stepped-over, noted-first, noted-again, next-place}
+use Rattle.message.proofs.Gathering.{Walked, started, at-end, at-bad, at-unsupported, slot-is, length-is, slot-supported, supported-by, stepped-over, noted-first, noted-again, next-place}
 use Rattle.message.proofs.gather.Statement.{statement}
 use Rattle.message.proofs.gather.Tie as tie
 
@@ -49,13 +49,7 @@ enum-known-h-2 : tie.Need-enum-known-h-2 Inv-loop μ-loop Inv-walk μ-walk
 enum-known-h-2 c = search needs
 
 is-supported-requires : tie.Need-is-supported-requires Inv-loop μ-loop Inv-walk μ-walk
-is-supported-requires c κs =
-    let l = c .before .before .before .before .before .before .before in
-    let m = c .before .before .before .before .before .before .before .before .before .before .before .args .m .now in
-    let a = c .before .before .before .h2 .given .0 .0 in
-    let o : headAt m (l .loop .at) ≡ One a = sym (c .before .before .before .before .before .head-at .ensures) ∙ c .before .before .before .h2 .given .1 in
-    let n = next-place m (l .loop .at) a (l .loop .inv .1 .inside) o in
-    (omega (arith, n .0, n .1), slot-is m (l .loop .at) a o)
+is-supported-requires c κs = search needs
 
 sub-left-2 : tie.Need-sub-left-2 Inv-loop μ-loop Inv-walk μ-walk
 sub-left-2 c =
@@ -91,7 +85,7 @@ loop-again c =
     let a = c .before .before .before .before .before .before .h2 .given .0 .0 in
     let o : headAt m (l .loop .at) ≡ One a = sym (c .before .before .before .before .before .before .before .before .head-at .ensures) ∙ c .before .before .before .before .before .before .h2 .given .1 in
     let n = next-place m (l .loop .at) a (l .loop .inv .1 .inside) o in
-    let u : supported (avpOf (drop (l .loop .at) m)) ≡ true = sym (c .before .before .is-supported .ensures) ∙ not-false _ (c .before .if3 .left) in
+    let u : supported (avpOf (drop (l .loop .at) m)) ≡ true = supported-by m (l .loop .at) a o ∙ sym (c .before .before .is-supported .ensures) ∙ not-false _ (c .before .if3 .left) in
     (omega (arith, n .0, l .loop .inv .0), stepped-over m (l .before .walk .index) (l .loop .at) a (l .loop .inv .1) o u (c .before .before .before .if2 .left), omega (arith, n .0, n .1, l .loop .inv .2))
 
 mul-seen : tie.Need-mul-seen Inv-loop μ-loop Inv-walk μ-walk
@@ -100,97 +94,78 @@ mul-seen c = omega (arith, c .before .before .before .before .before .before .be
 slice-read-seen : tie.Need-slice-read-seen Inv-loop μ-loop Inv-walk μ-walk
 slice-read-seen c = omega (arith, c .before .before .before .before .before .before .before .before .loop .inv .1 .size, c .before .if2 .taken)
 
-add-read24 : tie.Need-add-read24 Inv-loop μ-loop Inv-walk μ-walk
-add-read24 c =
-    let l = c .before .before .before .before .before .before .before .before in
-    let m = c .before .before .before .before .before .before .before .before .before .before .before .before .args .m .now in
-    let a = c .before .before .before .before .h2 .given .0 .0 in
-    let o : headAt m (l .loop .at) ≡ One a = sym (c .before .before .before .before .before .before .head-at .ensures) ∙ c .before .before .before .before .h2 .given .1 in
-    let n = next-place m (l .loop .at) a (l .loop .inv .1 .inside) o in
-    omega (arith, n .0, n .1)
-
-read24-requires : tie.Need-read24-requires Inv-loop μ-loop Inv-walk μ-walk
-read24-requires c κs =
-    let l = c .before .before .before .before .before .before .before .before in
-    let m = c .before .before .before .before .before .before .before .before .before .before .before .before .args .m .now in
-    let a = c .before .before .before .before .h2 .given .0 .0 in
-    let o : headAt m (l .loop .at) ≡ One a = sym (c .before .before .before .before .before .before .head-at .ensures) ∙ c .before .before .before .before .h2 .given .1 in
-    let n = next-place m (l .loop .at) a (l .loop .inv .1 .inside) o in
-    omega (arith, n .0, n .1)
-
 add-index : tie.Need-add-index Inv-loop μ-loop Inv-walk μ-walk
-add-index c = omega (arith, c .before .before .before .before .before .before .before .before .before .loop .inv .1 .size, c .before .before .if2 .taken)
+add-index c = omega (arith, c .before .before .before .before .before .before .before .before .loop .inv .1 .size, c .before .if2 .taken)
 
 mul-index : tie.Need-mul-index Inv-loop μ-loop Inv-walk μ-walk
-mul-index c = omega (arith, c .before .before .before .before .before .before .before .before .before .loop .inv .1 .size, c .before .before .if2 .taken)
+mul-index c = omega (arith, c .before .before .before .before .before .before .before .before .loop .inv .1 .size, c .before .if2 .taken)
 
 slice-write-index : tie.Need-slice-write-index Inv-loop μ-loop Inv-walk μ-walk
-slice-write-index c = omega (arith, c .before .before .before .before .before .before .before .before .before .loop .inv .1 .size, c .before .before .if2 .taken)
+slice-write-index c = omega (arith, c .before .before .before .before .before .before .before .before .loop .inv .1 .size, c .before .if2 .taken)
 
 mul-index-2 : tie.Need-mul-index-2 Inv-loop μ-loop Inv-walk μ-walk
-mul-index-2 c = omega (arith, c .before .before .before .before .before .before .before .before .before .before .loop .inv .1 .size, c .before .before .before .if2 .taken)
+mul-index-2 c = omega (arith, c .before .before .before .before .before .before .before .before .before .loop .inv .1 .size, c .before .before .if2 .taken)
 
 slice-write-index-2 : tie.Need-slice-write-index-2 Inv-loop μ-loop Inv-walk μ-walk
-slice-write-index-2 c = simp length-set (omega (arith, c .before .before .before .before .before .before .before .before .before .before .loop .inv .1 .size, c .before .before .before .if2 .taken))
+slice-write-index-2 c = simp length-set (omega (arith, c .before .before .before .before .before .before .before .before .before .loop .inv .1 .size, c .before .before .if2 .taken))
 
 mul-index-3 : tie.Need-mul-index-3 Inv-loop μ-loop Inv-walk μ-walk
-mul-index-3 c = omega (arith, c .before .before .before .before .before .before .before .before .before .before .loop .inv .1 .size, c .before .before .before .if2 .taken)
+mul-index-3 c = omega (arith, c .before .before .before .before .before .before .before .before .before .loop .inv .1 .size, c .before .before .if2 .taken)
 
 slice-write-index-3 : tie.Need-slice-write-index-3 Inv-loop μ-loop Inv-walk μ-walk
-slice-write-index-3 c = simp length-set (omega (arith, c .before .before .before .before .before .before .before .before .before .before .loop .inv .1 .size, c .before .before .before .if2 .taken))
+slice-write-index-3 c = simp length-set (omega (arith, c .before .before .before .before .before .before .before .before .before .loop .inv .1 .size, c .before .before .if2 .taken))
 
 sub-left-4 : tie.Need-sub-left-4 Inv-loop μ-loop Inv-walk μ-walk
 sub-left-4 c =
-    let l = c .before .before .before .before .before .before .before .before .before .before .before in
-    let m = c .before .before .before .before .before .before .before .before .before .before .before .before .before .before .before .args .m .now in
-    let a = c .before .before .before .before .before .before .before .h2 .given .0 .0 in
-    let o : headAt m (l .loop .at) ≡ One a = sym (c .before .before .before .before .before .before .before .before .before .head-at .ensures) ∙ c .before .before .before .before .before .before .before .h2 .given .1 in
+    let l = c .before .before .before .before .before .before .before .before .before .before in
+    let m = c .before .before .before .before .before .before .before .before .before .before .before .before .before .before .args .m .now in
+    let a = c .before .before .before .before .before .before .h2 .given .0 .0 in
+    let o : headAt m (l .loop .at) ≡ One a = sym (c .before .before .before .before .before .before .before .before .head-at .ensures) ∙ c .before .before .before .before .before .before .h2 .given .1 in
     let n = next-place m (l .loop .at) a (l .loop .inv .1 .inside) o in
     omega (arith, n .0)
 
 sub-left-5 : tie.Need-sub-left-5 Inv-loop μ-loop Inv-walk μ-walk
 sub-left-5 c =
-    let l = c .before .before .before .before .before .before .before .before .before .before .before in
-    let m = c .before .before .before .before .before .before .before .before .before .before .before .before .before .before .before .args .m .now in
-    let a = c .before .before .before .before .before .before .before .h2 .given .0 .0 in
-    let o : headAt m (l .loop .at) ≡ One a = sym (c .before .before .before .before .before .before .before .before .before .head-at .ensures) ∙ c .before .before .before .before .before .before .before .h2 .given .1 in
+    let l = c .before .before .before .before .before .before .before .before .before .before in
+    let m = c .before .before .before .before .before .before .before .before .before .before .before .before .before .before .args .m .now in
+    let a = c .before .before .before .before .before .before .h2 .given .0 .0 in
+    let o : headAt m (l .loop .at) ≡ One a = sym (c .before .before .before .before .before .before .before .before .head-at .ensures) ∙ c .before .before .before .before .before .before .h2 .given .1 in
     let n = next-place m (l .loop .at) a (l .loop .inv .1 .inside) o in
     omega (arith, n .0, n .1, l .loop .inv .2)
 
 walk-less : tie.Need-walk-less Inv-loop μ-loop Inv-walk μ-walk
 walk-less c =
-    let l = c .before .before .before .before .before .before .before .before .before .before .before in
-    let m = c .before .before .before .before .before .before .before .before .before .before .before .before .before .before .before .args .m .now in
-    let a = c .before .before .before .before .before .before .before .h2 .given .0 .0 in
-    let o : headAt m (l .loop .at) ≡ One a = sym (c .before .before .before .before .before .before .before .before .before .head-at .ensures) ∙ c .before .before .before .before .before .before .before .h2 .given .1 in
+    let l = c .before .before .before .before .before .before .before .before .before .before in
+    let m = c .before .before .before .before .before .before .before .before .before .before .before .before .before .before .args .m .now in
+    let a = c .before .before .before .before .before .before .h2 .given .0 .0 in
+    let o : headAt m (l .loop .at) ≡ One a = sym (c .before .before .before .before .before .before .before .before .head-at .ensures) ∙ c .before .before .before .before .before .before .h2 .given .1 in
     let n = next-place m (l .loop .at) a (l .loop .inv .1 .inside) o in
     omega (arith, n .0, n .1, l .loop .inv .0, l .loop .inv .2, l .before .walk .inv .1)
 
 walk-again : tie.Need-walk-again Inv-loop μ-loop Inv-walk μ-walk
 walk-again c =
-    let l = c .before .before .before .before .before .before .before .before .before .before .before in
-    let m = c .before .before .before .before .before .before .before .before .before .before .before .before .before .before .before .args .m .now in
-    let a = c .before .before .before .before .before .before .before .h2 .given .0 .0 in
-    let o : headAt m (l .loop .at) ≡ One a = sym (c .before .before .before .before .before .before .before .before .before .head-at .ensures) ∙ c .before .before .before .before .before .before .before .h2 .given .1 in
+    let l = c .before .before .before .before .before .before .before .before .before .before in
+    let m = c .before .before .before .before .before .before .before .before .before .before .before .before .before .before .args .m .now in
+    let a = c .before .before .before .before .before .before .h2 .given .0 .0 in
+    let o : headAt m (l .loop .at) ≡ One a = sym (c .before .before .before .before .before .before .before .before .head-at .ensures) ∙ c .before .before .before .before .before .before .h2 .given .1 in
     let n = next-place m (l .loop .at) a (l .loop .inv .1 .inside) o in
-    let r = c .before .before .read24 in
-    let s = c .before .before .before .before .if2 .taken in
+    let s = c .before .before .before .if2 .taken in
     let u = slot-supported (drop (l .loop .at) m) (λ z. omega (arith, z, s, slot-is m (l .loop .at) a o)) in (
       ⊎-elim
-          (λ w. rw (w .1) (noted-first m (l .before .walk .index) (l .loop .at) a (l .loop .inv .1) o u s (r .result) (r .ensures .0) (w .0 .taken)))
-          (λ w. rw (w .1) (noted-again m (l .before .walk .index) (l .loop .at) a (l .loop .inv .1) o u s (r .result) (r .ensures .0) (w .0 .left)))
+          (λ w. rw (w .1) (noted-first m (l .before .walk .index) (l .loop .at) a (l .loop .inv .1) o u s (a .length) (length-is m (l .loop .at) a o) (w .0 .taken)))
+          (λ w. rw (w .1) (noted-again m (l .before .walk .index) (l .loop .at) a (l .loop .inv .1) o u s (a .length) (length-is m (l .loop .at) a o) (w .0 .left)))
           (c .before .if4 .came),
       omega (arith, n .0, n .1, l .loop .inv .2),
     )
 
 same-length : tie.Need-same-length Inv-loop μ-loop Inv-walk μ-walk
-same-length c = omega (arith, c .before .loop .inv .1 .size, ap length (c .before .before .before .before .before .pre .1), length-zeros 28)
+same-length c = omega (arith, c .before .loop .inv .1 .size, ap length (c .before .before .before .before .before .pre .1), length-zeros (slots + slots))
 
 returns : tie.Need-returns Inv-loop μ-loop Inv-walk μ-walk
 returns c = at-end (c .before .before .before .before .before .args .m .now) (c .before .before .walk .index) (c .before .loop .at) (c .before .loop .inv .1) (omega (arith, c .if1 .taken, c .before .loop .inv .2))
 
 same-length-2 : tie.Need-same-length-2 Inv-loop μ-loop Inv-walk μ-walk
-same-length-2 c = omega (arith, c .before .before .before .before .before .loop .inv .1 .size, ap length (c .before .before .before .before .before .before .before .before .before .pre .1), length-zeros 28)
+same-length-2 c = omega (arith, c .before .before .before .before .before .loop .inv .1 .size, ap length (c .before .before .before .before .before .before .before .before .before .pre .1), length-zeros (slots + slots))
 
 returns-2 : tie.Need-returns-2 Inv-loop μ-loop Inv-walk μ-walk
 returns-2 c =
@@ -198,7 +173,7 @@ returns-2 c =
     (sym (c .before .before .before .head-at .ensures) ∙ c .before .h .given .1)
 
 same-length-3 : tie.Need-same-length-3 Inv-loop μ-loop Inv-walk μ-walk
-same-length-3 c = omega (arith, c .before .before .before .before .before .before .before .before .before .loop .inv .1 .size, ap length (c .before .before .before .before .before .before .before .before .before .before .before .before .before .pre .1), length-zeros 28)
+same-length-3 c = omega (arith, c .before .before .before .before .before .before .before .before .before .loop .inv .1 .size, ap length (c .before .before .before .before .before .before .before .before .before .before .before .before .before .pre .1), length-zeros (slots + slots))
 
 returns-3 : tie.Need-returns-3 Inv-loop μ-loop Inv-walk μ-walk
 returns-3 c =
@@ -206,7 +181,7 @@ returns-3 c =
     let m = c .before .before .before .before .before .before .before .before .before .before .before .before .before .args .m .now in
     let a = c .before .before .before .before .before .h2 .given .0 .0 in
     let o : headAt m (l .loop .at) ≡ One a = sym (c .before .before .before .before .before .before .before .head-at .ensures) ∙ c .before .before .before .before .before .h2 .given .1 in
-    let u : supported (avpOf (drop (l .loop .at) m)) ≡ false = sym (c .before .is-supported .ensures) ∙ not-true _ (c .if3 .taken) in
+    let u : supported (avpOf (drop (l .loop .at) m)) ≡ false = supported-by m (l .loop .at) a o ∙ sym (c .before .is-supported .ensures) ∙ not-true _ (c .if3 .taken) in
     at-unsupported m (l .before .walk .index) (l .loop .at) a (l .loop .inv .1) (omega (arith, c .before .before .before .before .before .before .before .before .if1 .left, l .loop .inv .2)) o u
 
 pub gather-spec : {M : Type 1} → statement M
@@ -230,8 +205,6 @@ gather-spec =
     loop-again
     mul-seen
     slice-read-seen
-    add-read24
-    read24-requires
     add-index
     mul-index
     slice-write-index

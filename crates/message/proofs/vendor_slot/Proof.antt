@@ -1,5 +1,5 @@
--- Vendor and code are looked up among the names: those of 3GPP that are asked for have their place, the one that is known has 14, and what is
--- no known name has 15.
+-- Vendor and code are looked up among the names: those of 3GPP that are asked for have their place, the one that is known besides comes
+-- behind them, and then what is no known name.
 use mathlib.Core.Path.{_≡_, refl, sym}
 use mathlib.Core.Bool.{Bool, true, false, _&&_}
 use mathlib.Core.List.{List, [], _∷_}
@@ -9,7 +9,7 @@ use borrow.Author.Tests.{ne-eqb}
 use Rattle.octets.specs.Choice.{pick}
 use Rattle.octets.specs.Lists.{every, isOn}
 use Rattle.message.specs.ReadingAMessage.{Name, base, vendor, sameName, namedIn01, codesOfAARequest, codesOfTermination, knownAvps, isOneOf, known}
-use Rattle.message.specs.Positions.{names, slotIn, slotOf}
+use Rattle.message.specs.Positions.{names, notKnown, slotIn, slotOf}
 use Rattle.message.proofs.Known.{not-known}
 use Rattle.message.proofs.vendor_slot.Statement.{statement}
 use Rattle.message.proofs.vendor_slot.Tie as tie
@@ -30,7 +30,7 @@ none-of : (k : ℕ) → (k ≡ 600 → ⊥) → (k ≡ 311 → ⊥) → (k ≡ 1
 unfolding isOn every codes
 none-of k n0 n1 n2 n3 n4 = simp (ne-eqb 600 k (λ e. n0 (sym e)), ne-eqb 311 k (λ e. n1 (sym e)), ne-eqb 100 k (λ e. n2 (sym e)), ne-eqb 312 k (λ e. n3 (sym e)), ne-eqb 304 k (λ e. n4 (sym e)))
 
-unknown : (v k : ℕ) → known (vendor v k) ≡ false → 15 ≡ slotOf (vendor v k)
+unknown : (v k : ℕ) → known (vendor v k) ≡ false → notKnown ≡ slotOf (vendor v k)
 unfolding slotOf pick
 unknown v k e = rw e
 

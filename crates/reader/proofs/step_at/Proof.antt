@@ -4,9 +4,9 @@ use native.Mathlib.Omega.{arith}
 use lib.ListN.{drop}
 use Rattle.message.specs.ReadingAMessage.{avpOf}
 use Rattle.message.specs.Positions.{spotAt}
-use Rattle.message.proofs.Gathering.{head-is-one, head-is-bad}
+use Rattle.message.proofs.Gathering.{slot-says, head-is-one, head-is-bad}
 use Rattle.reader.specs.declared.Step.the-variants.{One, Bad}
-use Rattle.reader.proofs.Laws.{slot-says, step-end, step-one, step-bad}
+use Rattle.reader.proofs.Laws.{step-end, step-one, step-bad}
 use borrow.Author.Needs.{needs}
 use Rattle.reader.proofs.step_at.Statement.{statement}
 use Rattle.reader.proofs.step_at.Tie as tie
@@ -36,7 +36,7 @@ unfolding spotAt
 seen-at-requires c κs =
     let a = c .before .before .before .before .before .before .before .args in
     let o = head-is-one (a .m .now) (a .at) _ (sym (c .before .before .before .before .head-at .ensures) ∙ c .before .before .h .given .1) in
-    (omega arith, o .0, ap (λ s. s .next) (o .1), rw (o .1) (slot-says ((avpOf (drop (a .at) (a .m .now))) .name)))
+    (omega arith, o .0, ap (λ s. s .next) (o .1), rw (o .1) (sym (slot-says ((avpOf (drop (a .at) (a .m .now))) .name))))
 
 returns-2 : tie.Need-returns-2
 returns-2 c =
