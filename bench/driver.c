@@ -5,6 +5,7 @@
  *                                  the outcome is the one expected
  *   driver mix CALLS SEED          the same on calls by chance (mix.c)
  *   driver tally LISTS SEED        the same on lists of results by chance, counted into a report (tally.c)
+ *   driver board CALLS SEED        the same on lists of screens by chance, fed and counted (screens.c)
  *   driver answers FILE CALLS      the proved library's answers to such calls, one behind the other, into a file
  *   driver aborts FILE CALLS       its Abort-Session-Requests for the cuts of such calls on a table of form 2, the same way
  *   driver reauths FILE CALLS      its Re-Auth-Answers and AA-Requests for Re-Auth-Requests by chance, the same way
@@ -29,6 +30,13 @@ int tally_check(void);
 int tally_mix(uint32_t lists, uint64_t seed);
 int tally_count(size_t line, const char *library, uint32_t calls);
 int tally_time(void);
+/* and those of the screen board, behind them */
+size_t screens_lines(void);
+const char *screens_name(size_t line);
+int screens_check(void);
+int screens_mix(uint32_t calls, uint64_t seed);
+int screens_count(size_t line, const char *library, uint32_t calls);
+int screens_time(void);
 enum { CLOCK_MONOTONIC = 1 };
 
 enum { ROWS = 1024, MESSAGES = 12, MOVED = 64 };
@@ -829,7 +837,10 @@ static int count_line(const struct line *line, const char *library, uint32_t cal
 }
 
 static int count_any(size_t line, const char *library, uint32_t calls) {
-    return line < LINES ? count_line(&lines[line], library, calls) : tally_count(line - LINES, library, calls);
+    if (line < LINES)
+        return count_line(&lines[line], library, calls);
+    line -= LINES;
+    return line < tally_lines() ? tally_count(line, library, calls) : screens_count(line - tally_lines(), library, calls);
 }
 
 int main(int count, char **words) {
@@ -839,12 +850,16 @@ int main(int count, char **words) {
             printf("%s\n", lines[i].name);
         for (size_t i = 0; i < tally_lines(); i++)
             printf("%s\n", tally_name(i));
+        for (size_t i = 0; i < screens_lines(); i++)
+            printf("%s\n", screens_name(i));
     } else if (!strcmp(what, "check"))
-        return check() || tally_check();
+        return check() || tally_check() || screens_check();
     else if (!strcmp(what, "mix") && count == 4)
         return mix((uint32_t)strtoul(words[2], 0, 10), strtoul(words[3], 0, 10), 0, false);
     else if (!strcmp(what, "tally") && count == 4)
         return tally_mix((uint32_t)strtoul(words[2], 0, 10), strtoul(words[3], 0, 10));
+    else if (!strcmp(what, "board") && count == 4)
+        return screens_mix((uint32_t)strtoul(words[2], 0, 10), strtoul(words[3], 0, 10));
     else if ((!strcmp(what, "answers") || !strcmp(what, "aborts")) && count == 4)
         return mix((uint32_t)strtoul(words[3], 0, 10), 1, words[2], !strcmp(what, "aborts"));
     else if (!strcmp(what, "reauths") && count == 4)
@@ -853,11 +868,11 @@ int main(int count, char **words) {
         for (size_t i = 0; i < LINES; i++)
             if (!time_line(&lines[i]))
                 return 1;
-        return tally_time();
+        return tally_time() || screens_time();
     } else if (!strcmp(what, "count") && count == 5)
-        return count_any(strtoul(words[2], 0, 10) % (LINES + tally_lines()), words[3], (uint32_t)strtoul(words[4], 0, 10));
+        return count_any(strtoul(words[2], 0, 10) % (LINES + tally_lines() + screens_lines()), words[3], (uint32_t)strtoul(words[4], 0, 10));
     else {
-        printf("driver: lines, check, mix CALLS SEED, tally LISTS SEED, answers FILE CALLS, aborts FILE CALLS, reauths FILE CALLS, count LINE LIBRARY N, or time\n");
+        printf("driver: lines, check, mix CALLS SEED, tally LISTS SEED, board CALLS SEED, answers FILE CALLS, aborts FILE CALLS, reauths FILE CALLS, count LINE LIBRARY N, or time\n");
         return 2;
     }
     return 0;

@@ -45,5 +45,10 @@ struct wm_reauthorized plain_reauth(const uint8_t *host, size_t host_length, con
                                     const uint8_t *message, size_t message_length, uint32_t hop, uint32_t end, uint8_t *answer,
                                     size_t answer_length, uint8_t *request, size_t request_length);
 uint32_t plain_report_count(struct wm_report *report, const struct wm_told *told, size_t told_length);
+uint32_t plain_screen_request(struct wm_screen *screens, size_t screens_length, uint32_t which, const uint8_t *session, size_t session_length);
+uint32_t plain_screen_result(struct wm_screen *screens, size_t screens_length, uint32_t which, const uint8_t *session, size_t session_length,
+                             uint32_t code, uint32_t kind, uint32_t place);
+uint32_t plain_screen_notice(struct wm_screen *screens, size_t screens_length, const uint8_t *session, size_t session_length);
+struct wm_connected plain_screens_connected(const struct wm_screen *screens, size_t screens_length);
 
 #endif

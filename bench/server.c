@@ -1225,3 +1225,83 @@ uint32_t plain_report_count(struct wm_report *report, const struct wm_told *told
         tally(report->totals[t->hour], t);
     return 0;
 }
+
+/* ---- the screen board ---- */
+
+enum { SCREENS = 64 };
+
+/* The last sixteen bytes are looked at first: Session-Ids of one gateway begin alike, and may end alike too. */
+static inline bool is_screen_of(const struct wm_screen *s, const uint8_t *session, size_t length) {
+    if (s->session_length != length || (length >= 16 && word(s->session + length - 16) != word(session + length - 16)))
+        return false;
+    return same(s->session, session, length);
+}
+
+/* 25 or 0. */
+static uint32_t board_number(const struct wm_screen *screens, size_t length) {
+    if (length > SCREENS)
+        return 25;
+    for (size_t i = 0; i < length; i++)
+        if (screens[i].session_length - 1 >= TEXT_MOST)
+            return 25;
+    for (size_t i = 0; i < length; i++)
+        for (size_t j = i + 1; j < length; j++)
+            if (is_screen_of(&screens[j], screens[i].session, screens[i].session_length))
+                return 25;
+    return 0;
+}
+
+/* The screen of a Session-Id; null, and then `number` is 25 or 24. */
+static inline struct wm_screen *screen_of(struct wm_screen *screens, size_t length, const uint8_t *session, size_t session_length,
+                                          uint32_t *number) {
+    *number = board_number(screens, length);
+    for (size_t i = 0; *number == 0 && i < length; i++)
+        if (is_screen_of(&screens[i], session, session_length))
+            return &screens[i];
+    *number = *number ? *number : 24;
+    return 0;
+}
+
+static inline void show(struct wm_screen *s, uint32_t state, uint32_t place) {
+    s->state = state;
+    s->place = place;
+}
+
+uint32_t plain_screen_request(struct wm_screen *screens, size_t screens_length, uint32_t which, const uint8_t *session, size_t session_length) {
+    uint32_t number;
+    struct wm_screen *s = screen_of(screens, screens_length, session, session_length, &number);
+    if (s && which == 0 && (s->state == WM_OFF || s->state == WM_CUT))
+        show(s, WM_ASKED, 0);
+    return number;
+}
+
+uint32_t plain_screen_result(struct wm_screen *screens, size_t screens_length, uint32_t which, const uint8_t *session, size_t session_length,
+                             uint32_t code, uint32_t kind, uint32_t place) {
+    uint32_t number;
+    struct wm_screen *s = screen_of(screens, screens_length, session, session_length, &number);
+    bool success = kind == RESULT && code == 2001;
+    if (!s)
+        return number;
+    if (which == 2 && success)
+        show(s, WM_OFF, 0);
+    else if (which == 0 && s->state == WM_ASKED && !success)
+        show(s, WM_OFF, 0);
+    else if (which == 0 && s->state == WM_ASKED && place - 1 < PLACES)
+        show(s, WM_CONNECTED, place);
+    return 0;
+}
+
+uint32_t plain_screen_notice(struct wm_screen *screens, size_t screens_length, const uint8_t *session, size_t session_length) {
+    uint32_t number;
+    struct wm_screen *s = screen_of(screens, screens_length, session, session_length, &number);
+    if (s)
+        show(s, WM_CUT, 0);
+    return number;
+}
+
+struct wm_connected plain_screens_connected(const struct wm_screen *screens, size_t screens_length) {
+    struct wm_connected c = {board_number(screens, screens_length), 0};
+    for (size_t i = 0; c.number == 0 && i < screens_length; i++)
+        c.screens += screens[i].state == WM_CONNECTED;
+    return c;
+}

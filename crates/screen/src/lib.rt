@@ -7,6 +7,7 @@ ghost use Prim.Native.Nat.{_+_, _/_, _%_, _≤_, _<_};
 ghost use lib.ListN.{length, getD, drop, set};
 ghost use Rattle.octets.specs.Lists.{every, keep, distinct};
 ghost use Rattle.octets.specs.Numbers.{low32};
+ghost use Rattle.octets.specs.Texts.{same};
 ghost use Rattle.screen.specs.TheBoard.{line, stays, to, stateOf, shown, sessionOf, numberOf, placeIn, showing, requestSays, resultSays, success, after, movedBy, sameScreen, sized, isOf, onBoard, right, feed, feedRequest, feedResult, feedNotice, isConnected, countConnected};
 ghost use Rattle.screen.specs.Code.{screenOf, boardOf, differs, stateSaid, eventSaid, moveSaid, leaves, countSaid};
 
@@ -185,6 +186,24 @@ fn sizes_right(screens: &[[u8; 140]]) -> bool
     true
 }
 
+// Whether two Session-Ids are the same. Their ends are looked at first: those of one gateway begin alike.
+fn same_session(a: &[u8], b: &[u8]) -> bool
+    ensures { λ r. ⌜ r ≡ same (now (a .entry)) (now (b .entry)) ⌝ }
+{
+    let n = a.len();
+    if n != b.len() {
+        return false;
+    }
+    if n < 16 {
+        return octets::same_bytes(a, b);
+    }
+    let k = n - 16;
+    if !octets::same_bytes(&a[k..n], &b[k..n]) {
+        return false;
+    }
+    octets::same_bytes(a, b)
+}
+
 // Whether the Session-Id of entry i stands on no entry behind it.
 fn stands_once(screens: &[[u8; 140]], i: usize) -> bool
     requires { ⌜ (i < length (now screens)) × (every sized (boardOf (now screens)) ≡ true) ⌝ }
@@ -193,7 +212,7 @@ fn stands_once(screens: &[[u8; 140]], i: usize) -> bool
     let session = session_of(&screens[i][..]);
     let mut j: usize = i + 1;
     while j < screens.len() {
-        if octets::same_bytes(session, session_of(&screens[j][..])) {
+        if same_session(session, session_of(&screens[j][..])) {
             return false;
         }
         j += 1;
@@ -236,7 +255,7 @@ fn find(screens: &[[u8; 140]], session: &[u8]) -> usize
 {
     let mut i: usize = 0;
     while i < screens.len() { // the last entry too
-        if octets::same_bytes(session_of(&screens[i][..]), session) {
+        if same_session(session_of(&screens[i][..]), session) {
             return i;
         }
         i += 1;

@@ -1,125 +1,20 @@
 // The tool's board: the messages of a file put to the server on a table that stays as it is, and what each of them tells the screens of another file.
-use decision::Outcome;
-use effects::Cut;
-use message::Asked;
-use message::Kind;
-use message::Span;
-use message::Told;
 use tool_operator::Number;
 use tool_streams::Source;
 use tool_streams::Way;
 
-// WHAT A MESSAGE IS TO THE BOARD
+// ALL MESSAGES
 
-// The request's kind and where its Session-Id stands.
-struct About {
-    which: u32,
-    session: Span,
-}
-
-fn about_of(asked: Asked) -> About {
-    match asked {
-        Asked::Tunnel {
-            session,
-            host: _,
-            realm: _,
-            label: _,
-            visited: _,
-        } => About { which: 0, session },
-        Asked::Policy {
-            session,
-            first: _,
-            second: _,
-            third: _,
-        } => About { which: 1, session },
-        Asked::Termination { session, label: _ } => About { which: 2, session },
-    }
-}
-
-fn kind_of(kind: Kind) -> u32 {
-    match kind {
-        Kind::NoAnswer => 0,
-        Kind::Plain => 1,
-        Kind::Experimental => 2,
-    }
-}
-
-fn place_of(n: usize) -> u32 {
-    if n < 256 {
-        return n as u32;
-    }
-    255
-}
-
-// How many bytes the Session-Id of the cut access has, 0 without a cut.
-fn cut_of(cut: Cut) -> usize {
-    match cut {
-        Cut::NoCut => 0,
-        Cut::Lengths(session, _, _) => session,
-    }
-}
-
-// FEEDING. Each says that a screen moved, and whether that could be said. A Session-Id that is on no line of the file moves none.
-
-fn feed_request(k: usize, screens: &mut [[u8; 140]], which: u32, session: &[u8]) -> bool {
-    let before = tool_screens::entry(screens, session);
-    screen::request(screens, which, session);
-    tool_screens::tell_moved(k, before, tool_screens::entry(screens, session))
-}
-
-fn feed_result(
-    k: usize,
-    screens: &mut [[u8; 140]],
-    which: u32,
-    session: &[u8],
-    o: Outcome,
-) -> bool {
-    let before = tool_screens::entry(screens, session);
-    let kind = o.kind;
-    screen::result(
-        screens,
-        which,
-        session,
-        o.code,
-        kind_of(kind),
-        place_of(o.place),
-    );
-    tool_screens::tell_moved(k, before, tool_screens::entry(screens, session))
-}
-
-fn feed_notice(k: usize, screens: &mut [[u8; 140]], session: &[u8]) -> bool {
-    let before = tool_screens::entry(screens, session);
-    screen::notice(screens, session);
-    tool_screens::tell_moved(k, before, tool_screens::entry(screens, session))
-}
-
-// The notice of a cut, of which the Session-Id has n bytes; nothing where there was none.
-fn feed_cut(k: usize, screens: &mut [[u8; 140]], notice: &[u8; 384], n: usize) -> bool {
-    let all: &[u8] = notice;
-    if n == 0 {
-        return true;
-    }
-    if all.len() < n {
-        return true;
-    }
-    feed_notice(k, screens, &all[0..n])
-}
-
-// A request: fed, served on the table in memory, its result and the notice of its cut fed.
-fn serve(
+// A message served on the table in memory, and what it tells the board.
+fn serve_message(
     k: usize,
     form: u32,
     table: &mut [u8],
     screens: &mut [[u8; 140]],
     m: &[u8],
-    which: u32,
-    session: &[u8],
 ) -> bool {
     let mut answer = [0u8; 5120];
     let mut notice = [0u8; 384];
-    if !feed_request(k, screens, which, session) {
-        return false;
-    }
     let o = decision::handle(
         table,
         form,
@@ -131,54 +26,8 @@ fn serve(
         &mut answer,
         &mut notice,
     );
-    if !feed_result(k, screens, which, session, o) {
-        return false;
-    }
-    let cut = o.cut;
-    feed_cut(k, screens, &notice, cut_of(cut))
+    tool_feed::feed(k, false, form, screens, m, o, &notice)
 }
-
-// A message whose Session-Id is that part of it.
-fn serve_about(
-    k: usize,
-    form: u32,
-    table: &mut [u8],
-    screens: &mut [[u8; 140]],
-    m: &[u8],
-    a: About,
-) -> bool {
-    let span = a.session;
-    let from = span.at;
-    let n = span.len;
-    if m.len() < from {
-        return true;
-    }
-    if m.len() - from < n {
-        return true;
-    }
-    serve(k, form, table, screens, m, a.which, &m[from..from + n])
-}
-
-// A message. One that is no whole request is refused by the server as it is read, and tells the board nothing.
-fn serve_message(
-    k: usize,
-    form: u32,
-    table: &mut [u8],
-    screens: &mut [[u8; 140]],
-    m: &[u8],
-) -> bool {
-    if m.len() < 20 {
-        return true;
-    }
-    let heard = request::read(m, tool_request_line::most_policies(form));
-    let told = heard.told;
-    let Told::Request(_, asked) = told else {
-        return true;
-    };
-    serve_about(k, form, table, screens, m, about_of(asked))
-}
-
-// ALL MESSAGES
 
 // The messages stand back to back in their file.
 fn source(file: i32) -> Source {
@@ -261,33 +110,35 @@ fn open_and_follow(
 
 // THE COMMAND
 
-// The board that the screens make, fed and drawn.
-fn feed_and_draw(
-    path: &[u8],
-    requests: &[u8],
-    form: u32,
-    table: &mut [u8],
-    screens: &mut [[u8; 140]],
-) {
-    if !tool_screens::check(path, screens) {
-        return;
-    }
+// The board fed and drawn.
+fn feed_and_draw(requests: &[u8], form: u32, table: &mut [u8], screens: &mut [[u8; 140]]) {
     if open_and_follow(requests, form, table, screens) {
         tool_screens::draw(screens);
     }
 }
 
-// The screens of a file, one more than a board may have, so that too many are told.
+// The screens of a file: how many they are, 0 where they make no board, which is said.
+fn read_screens(path: &[u8], screens: &mut [[u8; 140]]) -> usize {
+    let fd = tool_files::open_plain(path);
+    if fd < 0 {
+        return 0;
+    }
+    let n = tool_screens::read(fd, path, screens);
+    libc::close(fd);
+    n
+}
+
+// The screens, with room for one more than a board may have, so that too many are told.
 fn with_screens(path: &[u8], requests: &[u8], form: u32, table: &mut [u8]) {
     let mut screens = [[0u8; 140]; 65];
-    let n = tool_screens::read(path, &mut screens);
+    let n = read_screens(path, &mut screens);
     if n == 0 {
         return;
     }
     if n > 65 {
         return;
     }
-    feed_and_draw(path, requests, form, table, &mut screens[0..n]);
+    feed_and_draw(requests, form, table, &mut screens[0..n]);
 }
 
 fn with_table(path: &[u8], said: u32, from: &[u8], requests: &[u8], table: &mut [u8]) {

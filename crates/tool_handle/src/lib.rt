@@ -1,6 +1,6 @@
 // The command that puts a file of messages to the server. The table is held from the start. All files that are read are followed to their end
 // before anything is written, so that one that can not be followed changes nothing; the table is replaced last, once every answer is written
-// and said, and only if all codes are those that were expected.
+// and said and the board is drawn, and only if all codes are those that were expected.
 use tool_hold::Held;
 use tool_inputs::Inputs;
 use tool_operator::Number;
@@ -19,9 +19,20 @@ fn check_codes(t: Totals) -> bool {
     false
 }
 
+// The board, if it has screens; whether it could be drawn.
+fn draw(screens: &[[u8; 140]]) -> bool {
+    if screens.len() == 0 {
+        return true;
+    }
+    tool_screens::draw(screens)
+}
+
 // What was done, said, and the table replaced if all is as it should be.
-fn finish(d: Desk, path: &[u8], t: Totals) {
+fn finish(d: Desk, path: &[u8], screens: &[[u8; 140]], t: Totals) {
     if !tool_totals::summary(t, d.only != 0, 0 <= d.codes) {
+        return;
+    }
+    if !draw(screens) {
         return;
     }
     if check_codes(t) {
@@ -38,9 +49,10 @@ fn serve(
     answers: &[u8],
     notices: &[u8],
     table: &mut [u8],
+    screens: &mut [[u8; 140]],
     all: usize,
 ) {
-    let t = tool_serve::serve_all(d, requests, answers, notices, table, all);
+    let t = tool_serve::serve_all(d, requests, answers, notices, table, screens, all);
     if !t.whole {
         return;
     }
@@ -51,7 +63,7 @@ fn serve(
         return;
     }
     if tool_hold::write_new(path, h, table) {
-        finish(d, path, t);
+        finish(d, path, screens, t);
     }
 }
 
@@ -85,6 +97,7 @@ fn begin(
     answers: &[u8],
     notices: &[u8],
     table: &mut [u8],
+    screens: &mut [[u8; 140]],
     all: usize,
 ) {
     if libc::lseek(i.requests, 0, libc::SEEK_SET) != 0 {
@@ -96,7 +109,64 @@ fn begin(
         return;
     }
     let d = desk(i, both, h.form, op);
-    serve(d, h, path, requests, answers, notices, table, all);
+    serve(d, h, path, requests, answers, notices, table, screens, all);
+}
+
+// More screens than the list has room for, in the place of those that make no board.
+const NO_BOARD: usize = 66;
+
+// The screens of an open file with the name of n bytes, read to the list: how many they are; why they make no board is said.
+fn read_named(fd: i32, name: &[u8; 4096], n: usize, screens: &mut [[u8; 140]]) -> usize {
+    let path: &[u8] = name;
+    if path.len() < n {
+        return NO_BOARD;
+    }
+    let k = tool_screens::read(fd, &path[0..n], screens);
+    if k == 0 {
+        return NO_BOARD;
+    }
+    k
+}
+
+// The same of the file that the word names; none without it.
+fn read_screens(fd: i32, screens: &mut [[u8; 140]]) -> usize {
+    if fd < 0 {
+        return 0;
+    }
+    let mut name = [0u8; 4096];
+    let n = tool_options::board(tool_options::find(tool_options::BOARD), &mut name);
+    read_named(fd, &name, n, screens)
+}
+
+// With the screens that the word names, none without it. The list has room for one more than a board may have, so that too many are told.
+fn with_screens(
+    op: u32,
+    i: Inputs,
+    h: Held,
+    path: &[u8],
+    requests: &[u8],
+    answers: &[u8],
+    notices: &[u8],
+    table: &mut [u8],
+    all: usize,
+) {
+    let mut screens = [[0u8; 140]; 65];
+    let n = read_screens(i.screens, &mut screens);
+    if n > 65 {
+        return;
+    }
+    begin(
+        op,
+        i,
+        h,
+        path,
+        requests,
+        answers,
+        notices,
+        table,
+        &mut screens[0..n],
+        all,
+    );
 }
 
 // The requests followed to their end, and the files that have a line for each of them.
@@ -119,7 +189,7 @@ fn follow(
     }
     let i = tool_inputs::open(fd, all);
     if tool_inputs::are_there(i) {
-        begin(op, i, h, path, requests, answers, notices, table, all);
+        with_screens(op, i, h, path, requests, answers, notices, table, all);
     }
 }
 

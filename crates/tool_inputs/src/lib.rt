@@ -1,4 +1,4 @@
-// The files that `handle` reads: the requests, and those that have a line for each of them.
+// The files that `handle` reads: the requests, those that have a line for each of them, and the screens of a board.
 mod following;
 
 pub use following::count;
@@ -9,6 +9,7 @@ pub struct Inputs {
     pub requests: i32,
     pub wags: i32,
     pub codes: i32,
+    pub screens: i32,
 }
 
 pub fn is_hex() -> bool {
@@ -22,10 +23,10 @@ pub fn source(fd: i32) -> Source {
 // A file that is not well, in the place of one that is: -1 is one that was not asked for.
 const BAD: i32 = -2;
 
-// A file with a line for each of so many messages, open at its start.
-fn open_lines(path: &[u8], kind: u8, all: usize) -> i32 {
+// A file that a word names, open at its start.
+fn open_file(path: &[u8]) -> i32 {
     if path.len() < 1 {
-        tool_files::refuse(b"behind wags= and codes= stands the name of a file");
+        tool_files::refuse(b"behind wags=, codes= and board= stands the name of a file");
         return BAD;
     }
     if !tool_files::check_mark() {
@@ -35,19 +36,28 @@ fn open_lines(path: &[u8], kind: u8, all: usize) -> i32 {
     if fd < 0 {
         return BAD;
     }
+    fd
+}
+
+// A file with a line for each of so many messages, open at its start.
+fn open_lines(path: &[u8], kind: u8, all: usize) -> i32 {
+    let fd = open_file(path);
+    if fd == BAD {
+        return BAD;
+    }
     if tool_expected::check_lines(fd, path, kind, all) {
         return fd;
     }
     BAD
 }
 
-// The same of the file with the name of n bytes.
-fn open_named(name: &[u8; 4096], n: usize, kind: u8, all: usize) -> i32 {
-    let path: &[u8] = name;
-    if path.len() < n {
-        return BAD;
+// The name of n bytes at the start of a room.
+fn name(room: &[u8; 4096], n: usize) -> &[u8] {
+    let all: &[u8] = room;
+    if all.len() < n {
+        return &all[0..0];
     }
-    open_lines(&path[0..n], kind, all)
+    &all[0..n]
 }
 
 // What the gateway says to each message, where a file has it.
@@ -58,7 +68,7 @@ fn open_wags(all: usize) -> i32 {
     }
     let mut path = [0u8; 4096];
     let n = tool_options::wags(i, &mut path);
-    open_named(&path, n, tool_expected::WAGS, all)
+    open_lines(name(&path, n), tool_expected::WAGS, all)
 }
 
 // The codes that are expected, where a file has them.
@@ -69,29 +79,48 @@ fn open_codes(all: usize) -> i32 {
     }
     let mut path = [0u8; 4096];
     let n = tool_options::codes(i, &mut path);
-    open_named(&path, n, tool_expected::CODES, all)
+    open_lines(name(&path, n), tool_expected::CODES, all)
 }
 
-// What is read besides the requests, which are so many. Why one of the files is not well is said.
+// The screens of a board, where there is one.
+fn open_screens() -> i32 {
+    let i = tool_options::find(tool_options::BOARD);
+    if i == 0 {
+        return -1;
+    }
+    let mut path = [0u8; 4096];
+    let n = tool_options::board(i, &mut path);
+    open_file(name(&path, n))
+}
+
+fn bad(requests: i32) -> Inputs {
+    Inputs {
+        requests,
+        wags: BAD,
+        codes: BAD,
+        screens: BAD,
+    }
+}
+
+// What is read besides the requests, which are so many. Why one of the files is not well is said, and those behind it are not opened.
 pub fn open(requests: i32, all: usize) -> Inputs {
     let wags = open_wags(all);
     if wags == BAD {
-        return Inputs {
-            requests,
-            wags,
-            codes: BAD,
-        };
+        return bad(requests);
+    }
+    let codes = open_codes(all);
+    if codes == BAD {
+        return bad(requests);
     }
     Inputs {
         requests,
         wags,
-        codes: open_codes(all),
+        codes,
+        screens: open_screens(),
     }
 }
 
+// Whether all of them are well. The screens, which come last, are not where another is not.
 pub fn are_there(i: Inputs) -> bool {
-    if i.wags == BAD {
-        return false;
-    }
-    i.codes != BAD
+    i.screens != BAD
 }

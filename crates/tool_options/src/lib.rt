@@ -21,10 +21,12 @@ pub const OPERATOR: usize = 8;
 
 pub const FORM: usize = 9;
 
+pub const BOARD: usize = 10;
+
 // The first of these words.
 const FIRST: usize = 6;
 // As many as there are kinds.
-const BEHIND: usize = 15;
+const BEHIND: usize = 16;
 
 // What the gateway says, for all messages or for each one in a file: one of the three.
 fn is_of_gateway(word: &[u8]) -> bool {
@@ -65,6 +67,9 @@ fn kind_of(word: &[u8]) -> usize {
     }
     if tool_files::is_begun(word, b"form=") {
         return FORM;
+    }
+    if tool_files::is_begun(word, b"board=") {
+        return BOARD;
     }
     0
 }
@@ -168,6 +173,11 @@ pub fn only(i: usize, room: &mut [u8; 4096]) -> usize {
 
 // The file of expected codes.
 pub fn codes(i: usize, room: &mut [u8; 4096]) -> usize {
+    value(i, 6, room)
+}
+
+// The file of screens.
+pub fn board(i: usize, room: &mut [u8; 4096]) -> usize {
     value(i, 6, room)
 }
 

@@ -52,18 +52,33 @@ fn fill(fd: i32, screens: &mut [[u8; 140]]) -> usize {
     i
 }
 
-// The screens of a file: how many they are, 0 where it can not be read. Whether they make a board is asked of the board.
-pub fn read(path: &[u8], screens: &mut [[u8; 140]]) -> usize {
-    let fd = tool_files::open_plain(path);
-    if fd < 0 {
-        return 0;
+// Whether they make a board; why not is said.
+fn check(path: &[u8], screens: &[[u8; 140]]) -> bool {
+    let c = screen::connected(screens);
+    if c.number == 0 {
+        return true;
     }
+    tool_files::refuse_word(
+        path,
+        b": over 64 lines, or a Session-Id that stands twice or has not 1 to 128 bytes (number 25)",
+    );
+    false
+}
+
+// The screens of an open file: how many they are, 0 where they make no board, which is said. With room for 65 of them too many are told.
+pub fn read(fd: i32, path: &[u8], screens: &mut [[u8; 140]]) -> usize {
     let n = fill(fd, screens);
-    libc::close(fd);
     if n == 0 {
         tool_files::refuse_word(path, b": no screens: it has no line");
+        return 0;
     }
-    n
+    if screens.len() < n {
+        return 0;
+    }
+    if check(path, &screens[0..n]) {
+        return n;
+    }
+    0
 }
 
 // LINES
@@ -111,39 +126,26 @@ fn draw_one(e: [u8; 140]) -> bool {
     tool_files::print(&out, d)
 }
 
-fn draw_count(connected: u32, all: usize) {
+fn draw_count(connected: u32, all: usize) -> bool {
     let mut out = [0u8; 4096];
     let a = number(&mut out, 0, connected as u64);
     let b = say(&mut out, a, b" of ");
     let c = number(&mut out, b, all as u64);
     let d = say(&mut out, c, b" screens are lit\n");
-    tool_files::print(&out, d);
+    tool_files::print(&out, d)
 }
 
-// The board, a line a screen, and how many of them are connected.
-pub fn draw(screens: &[[u8; 140]]) {
+// The board, a line a screen, and how many of them are connected; whether it could be said.
+pub fn draw(screens: &[[u8; 140]]) -> bool {
     let mut i: usize = 0;
     while i < screens.len() {
         if !draw_one(screens[i]) {
-            return;
+            return false;
         }
         i += 1;
     }
     let c = screen::connected(screens);
-    draw_count(c.screens, screens.len());
-}
-
-// Whether they make a board; why not is said.
-pub fn check(path: &[u8], screens: &[[u8; 140]]) -> bool {
-    let c = screen::connected(screens);
-    if c.number == 0 {
-        return true;
-    }
-    tool_files::refuse_word(
-        path,
-        b": over 64 lines, or a Session-Id that stands twice or has not 1 to 128 bytes (number 25)",
-    );
-    false
+    draw_count(c.screens, screens.len())
 }
 
 // ONE SESSION-ID

@@ -1,4 +1,4 @@
-// The messages of a file put to the server, in order, a burst at a time: each answer and each notice written, and a line said.
+// The messages of a file put to the server, in order, a burst at a time: each answer and each notice written, a line said, and the board fed, if there is one.
 use burst::Taken;
 use decision::Outcome;
 use effects::Cut;
@@ -32,11 +32,12 @@ fn part(s: &[u8], from: usize, n: usize) -> &[u8] {
 
 // ONE MESSAGE
 
-// What came of a message, written, counted and said.
+// What came of a message, written, counted, said and fed to the board.
 fn report(
     d: Desk,
     answers: &[u8],
     notices: &[u8],
+    screens: &mut [[u8; 140]],
     m: &[u8],
     b: Beside,
     o: Outcome,
@@ -49,7 +50,7 @@ fn report(
         return tool_totals::broken(t);
     }
     let u = tool_totals::counted(t, o, tool_expected::is_expected(o, b.expected));
-    if tool_outcomes::tell_unless_quiet(
+    if !tool_outcomes::tell_unless_quiet(
         d.quiet,
         b.expected,
         u.messages,
@@ -59,6 +60,9 @@ fn report(
         why,
         notice,
     ) {
+        return tool_totals::broken(u);
+    }
+    if tool_feed::feed(u.messages, d.quiet, d.form, screens, m, o, notice) {
         return u;
     }
     tool_totals::broken(u)
@@ -70,6 +74,7 @@ fn serve_one(
     answers: &[u8],
     notices: &[u8],
     table: &mut [u8],
+    screens: &mut [[u8; 140]],
     host: &[u8],
     realm: &[u8],
     m: &[u8],
@@ -91,7 +96,19 @@ fn serve_one(
         &mut answer,
         &mut notice,
     );
-    report(d, answers, notices, m, b, o, why, &answer, &notice, t)
+    report(
+        d,
+        answers,
+        notices,
+        screens,
+        m,
+        b,
+        o,
+        why,
+        &answer,
+        &notice,
+        t,
+    )
 }
 
 // WHAT A BURST GIVES
@@ -251,6 +268,7 @@ fn tell_taken(
     answers: &[u8],
     notices: &[u8],
     table: &[u8],
+    screens: &mut [[u8; 140]],
     host: &[u8],
     realm: &[u8],
     m: &[u8],
@@ -264,7 +282,19 @@ fn tell_taken(
     let why = why_told(d, table, host, realm, m, b, o);
     let answer = part(said, a.answers, o.length);
     let notice = part(cuts, a.notices, noticed(d.form, o));
-    report(d, answers, notices, m, b, o, why, answer, notice, t)
+    report(
+        d,
+        answers,
+        notices,
+        screens,
+        m,
+        b,
+        o,
+        why,
+        answer,
+        notice,
+        t,
+    )
 }
 
 // The slot at which the page is: passed over, taken by the burst, or put to the server by itself.
@@ -273,6 +303,7 @@ fn tell_slot(
     answers: &[u8],
     notices: &[u8],
     table: &mut [u8],
+    screens: &mut [[u8; 140]],
     host: &[u8],
     realm: &[u8],
     messages: &[u8],
@@ -299,6 +330,7 @@ fn tell_slot(
             answers,
             notices,
             table,
+            screens,
             host,
             realm,
             m,
@@ -310,7 +342,7 @@ fn tell_slot(
             t,
         );
     }
-    serve_one(d, answers, notices, table, host, realm, m, b, t)
+    serve_one(d, answers, notices, table, screens, host, realm, m, b, t)
 }
 
 // All slots of a page, in order, up to the first of which something could not be written.
@@ -319,6 +351,7 @@ fn tell_page(
     answers: &[u8],
     notices: &[u8],
     table: &mut [u8],
+    screens: &mut [[u8; 140]],
     host: &[u8],
     realm: &[u8],
     messages: &[u8],
@@ -342,6 +375,7 @@ fn tell_page(
             answers,
             notices,
             table,
+            screens,
             host,
             realm,
             messages,
@@ -413,6 +447,7 @@ fn serve_page(
     answers: &[u8],
     notices: &[u8],
     table: &mut [u8],
+    screens: &mut [[u8; 140]],
     host: &[u8],
     realm: &[u8],
     messages: &[u8],
@@ -442,6 +477,7 @@ fn serve_page(
         answers,
         notices,
         table,
+        screens,
         host,
         realm,
         messages,
@@ -489,6 +525,7 @@ fn turn_in(
     answers: &[u8],
     notices: &[u8],
     table: &mut [u8],
+    screens: &mut [[u8; 140]],
     host: &[u8],
     realm: &[u8],
     messages: &mut [u8],
@@ -514,6 +551,7 @@ fn turn_in(
         answers,
         notices,
         table,
+        screens,
         host,
         realm,
         messages,
@@ -535,6 +573,7 @@ fn turn(
     answers: &[u8],
     notices: &[u8],
     table: &mut [u8],
+    screens: &mut [[u8; 140]],
     host: &[u8],
     realm: &[u8],
     messages: &mut [u8],
@@ -551,6 +590,7 @@ fn turn(
         answers,
         notices,
         table,
+        screens,
         host,
         realm,
         messages,
@@ -570,6 +610,7 @@ fn serve_pages(
     answers: &[u8],
     notices: &[u8],
     table: &mut [u8],
+    screens: &mut [[u8; 140]],
     host: &[u8],
     realm: &[u8],
     messages: &mut [u8],
@@ -587,6 +628,7 @@ fn serve_pages(
             answers,
             notices,
             table,
+            screens,
             host,
             realm,
             messages,
@@ -611,6 +653,7 @@ fn lend(
     answers: &[u8],
     notices: &[u8],
     table: &mut [u8],
+    screens: &mut [[u8; 140]],
     host: &[u8],
     realm: &[u8],
     messages: &mut [u8; 262144],
@@ -624,6 +667,7 @@ fn lend(
         answers,
         notices,
         table,
+        screens,
         host,
         realm,
         messages,
@@ -640,6 +684,7 @@ fn in_rooms(
     answers: &[u8],
     notices: &[u8],
     table: &mut [u8],
+    screens: &mut [[u8; 140]],
     host: &[u8],
     realm: &[u8],
     all: usize,
@@ -653,6 +698,7 @@ fn in_rooms(
         answers,
         notices,
         table,
+        screens,
         host,
         realm,
         &mut messages,
@@ -675,6 +721,7 @@ pub fn serve_all(
     answers: &[u8],
     notices: &[u8],
     table: &mut [u8],
+    screens: &mut [[u8; 140]],
     all: usize,
 ) -> Totals {
     let mut host = [0u8; 4096];
@@ -683,7 +730,18 @@ pub fn serve_all(
         host: tool_options::host(d.host, &mut host),
         realm: tool_options::realm(d.realm, &mut realm),
     };
-    serve_under(d, requests, answers, notices, table, &host, &realm, n, all)
+    serve_under(
+        d,
+        requests,
+        answers,
+        notices,
+        table,
+        screens,
+        &host,
+        &realm,
+        n,
+        all,
+    )
 }
 
 fn serve_under(
@@ -692,6 +750,7 @@ fn serve_under(
     answers: &[u8],
     notices: &[u8],
     table: &mut [u8],
+    screens: &mut [[u8; 140]],
     host: &[u8; 4096],
     realm: &[u8; 4096],
     n: Lengths,
@@ -699,5 +758,15 @@ fn serve_under(
 ) -> Totals {
     let own = part(host, 0, n.host);
     let ours = part(realm, 0, n.realm);
-    in_rooms(d, requests, answers, notices, table, own, ours, all)
+    in_rooms(
+        d,
+        requests,
+        answers,
+        notices,
+        table,
+        screens,
+        own,
+        ours,
+        all,
+    )
 }

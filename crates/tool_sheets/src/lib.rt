@@ -71,6 +71,9 @@ fn is_none_of(fd: i32, i: Inputs) -> bool {
     if !is_apart(fd, i.wags) {
         return false;
     }
+    if !is_apart(fd, i.screens) {
+        return false;
+    }
     is_apart(fd, i.codes)
 }
 

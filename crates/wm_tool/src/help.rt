@@ -68,6 +68,12 @@ fn expecting() {
         b"                                  gets no answer, as 6. If something differs, that is said, the table\n",
     );
     line(b"                                  is as it was, and the status is 1\n");
+    line(
+        b"    board=SCREENS                 a board of screens: SCREENS has a Session-Id a line, and all are off at first. Below\n",
+    );
+    line(
+        b"                                  each message how it moves them, unless all is quiet; behind the totals which are lit\n",
+    );
     line(b"play decode FILE                  the messages of a file in words\n");
     line(b"play decode FILE hex              the same of a file with a message a line\n");
     line(b"play decode FILE notices          the notices of a file: Session-Id and gateway\n");
@@ -218,7 +224,7 @@ fn is_other(word: &[u8]) -> bool {
     if is_used(
         word,
         b"handle",
-        b"usage: play handle TABLE REQUESTS ANSWERS NOTICES [hex] [quiet] [host=NAME] [realm=NAME] [wag=yes|wag=no|wags=FILE] [operator=N] [only=NAME] [codes=FILE] [form=1|form=2]",
+        b"usage: play handle TABLE REQUESTS ANSWERS NOTICES [hex] [quiet] [host=NAME] [realm=NAME] [wag=yes|wag=no|wags=FILE] [operator=N] [only=NAME] [codes=FILE] [board=SCREENS] [form=1|form=2]",
     ) {
         return true;
     }

@@ -90,7 +90,7 @@ fn run(word: &[u8], table: &mut [u8], spare: &mut [u8]) {
         tool_show::show(table);
         return;
     }
-    if is_called(word, b"handle", 6, 15) {
+    if is_called(word, b"handle", 6, 16) {
         tool_handle::handle(table);
         return;
     }
@@ -168,7 +168,7 @@ fn is_whole(i: usize) -> bool {
 // The words that a command may have, all of them.
 fn are_whole() -> bool {
     let mut i: usize = 1;
-    while i < 15 {
+    while i < 16 {
         if !is_whole(i) {
             return false;
         }

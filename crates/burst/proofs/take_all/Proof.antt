@@ -1,4 +1,4 @@
--- The loop keeps what `Going` says: the laws of Loop, each at the values of the code.
+-- The loop keeps what `Going` says: the laws of Loop, each at the values of the code. That stands before the bounds: of a wrong program the first need that fails is shown.
 use mathlib.Core.Path.{refl, sym, _∙_}
 use mathlib.Core.Bool.{not}
 use mathlib.Core.List.{map}
@@ -20,6 +20,15 @@ Inv-loop table₀ form op host realm messages wags answers₀ notices₀ results
 abbrev μ-loop : tie.MeasureT-loop
 μ-loop table₀ form op host realm messages wags answers₀ notices₀ results₀ room most last taken₀ at₀ used₀ cuts₀ from₀ next₀ table answers notices results taken at used cuts from next =
     length messages - at
+
+loop-again : tie.Need-loop-again Inv-loop μ-loop
+loop-again c =
+    let a = c .before .before .before .before .before .before .before .before .before .before .before .before .before .before .before .before .before .before .before .before .before .before .before .before .before .before .before .before .args in
+    let l = c .before .before .before .before .before .before .before .before .before .before .before .before .before .before .before .before .before .before .loop in
+    let some = c .before .before .before .before .before .before .before .before .before .before .before .before .before .before .before .before .before .loop-test .taken in
+    let one = c .before .before .before .before .before .before .before .before .before .before .take-one in
+    let room = c .before .before .before .before .before .before .before .before .before .before .before .before .before .before .before .before .before .before .before .before .notice-length in
+    going-again (a .form) (a .op) (a .host .now) (a .realm .now) (a .messages .now) (a .wags .now) (a .table .now) (a .answers .now) (a .notices .now) (a .results .now) (l .table) (l .answers) (l .notices) (l .results) (l .taken) (l .at) (l .used) (l .cuts) (l .from) (l .next) (l .inv) some (not (eqb (getD (a .wags .now) (l .taken) 0) 0)) refl (one .result) (one .last .0) (one .last .1 .1 .1 .1 .1 .1 .1 .0) (one .last .1 .1 .1 .1 .1 .1 .1 .1 .0) (one .last .1 .1 .1 .1 .1 .1 .1 .1 .1 .0) (one .ensures .0) (one .kept .1 .1 .1 .1 .1 .1 .1 .0) (one .kept .1 .1 .1 .1 .1 .1 .1 .1 .0) _ _ refl refl (one .kept .0) (one .ensures .1) (c .before .cut-number .result) (c .before .cut-number .ensures) (room .result) (c .next-taken2 .result) (room .ensures) (c .next-taken2 .ensures)
 
 notice-length-requires : tie.Need-notice-length-requires Inv-loop μ-loop
 notice-length-requires c κs = search needs
@@ -170,15 +179,6 @@ loop-less c =
     let l = c .before .before .before .before .before .before .before .before .before .before .before .before .before .before .before .before .before .before .loop in
     let some = c .before .before .before .before .before .before .before .before .before .before .before .before .before .before .before .before .before .loop-test .taken in
     omega (arith, l .inv .at-within, some)
-
-loop-again : tie.Need-loop-again Inv-loop μ-loop
-loop-again c =
-    let a = c .before .before .before .before .before .before .before .before .before .before .before .before .before .before .before .before .before .before .before .before .before .before .before .before .before .before .before .before .args in
-    let l = c .before .before .before .before .before .before .before .before .before .before .before .before .before .before .before .before .before .before .loop in
-    let some = c .before .before .before .before .before .before .before .before .before .before .before .before .before .before .before .before .before .loop-test .taken in
-    let one = c .before .before .before .before .before .before .before .before .before .before .take-one in
-    let room = c .before .before .before .before .before .before .before .before .before .before .before .before .before .before .before .before .before .before .before .before .notice-length in
-    going-again (a .form) (a .op) (a .host .now) (a .realm .now) (a .messages .now) (a .wags .now) (a .table .now) (a .answers .now) (a .notices .now) (a .results .now) (l .table) (l .answers) (l .notices) (l .results) (l .taken) (l .at) (l .used) (l .cuts) (l .from) (l .next) (l .inv) some (not (eqb (getD (a .wags .now) (l .taken) 0) 0)) refl (one .result) (one .last .0) (one .last .1 .1 .1 .1 .1 .1 .1 .0) (one .last .1 .1 .1 .1 .1 .1 .1 .1 .0) (one .last .1 .1 .1 .1 .1 .1 .1 .1 .1 .0) (one .ensures .0) (one .kept .1 .1 .1 .1 .1 .1 .1 .0) (one .kept .1 .1 .1 .1 .1 .1 .1 .1 .0) _ _ refl refl (one .kept .0) (one .ensures .1) (c .before .cut-number .result) (c .before .cut-number .ensures) (room .result) (c .next-taken2 .result) (room .ensures) (c .next-taken2 .ensures)
 
 same-length : tie.Need-same-length Inv-loop μ-loop
 same-length c = c .before .loop .inv .same-table

@@ -36,17 +36,17 @@ session-of-requires c κs =
     let pre-was = c .before .before .before .before .before .pre in
     (omega arith, size-at (given .screens .now) (loop-was .i) (omega arith) pre-was)
 
-same-bytes-requires : tie.Need-same-bytes-requires Inv-loop μ-loop
-same-bytes-requires c κs = search needs
+same-session-requires : tie.Need-same-session-requires Inv-loop μ-loop
+same-session-requires c κs = search needs
 
 returns : tie.Need-returns Inv-loop μ-loop
 returns c =
     let given = c .before .before .before .before .before .before .before .before .args in
     let loop-was = c .before .before .before .before .before .before .loop in
-    let same-bytes-was = c .before .same-bytes in
+    let same-session-was = c .before .same-session in
     let session-of-was = c .before .before .session-of in
     let test1 = c .if1 in
-    let d : isOf (given .session .now) (screenOf (getD (given .screens .now) (loop-was .i) [])) ≡ same-bytes-was .result = compared-of (given .session .now) (screenOf (getD (given .screens .now) (loop-was .i) [])) _ (same-bytes-was .result) (session-of-was .ensures) (same-bytes-was .ensures) in
+    let d : isOf (given .session .now) (screenOf (getD (given .screens .now) (loop-was .i) [])) ≡ same-session-was .result = compared-of (given .session .now) (screenOf (getD (given .screens .now) (loop-was .i) [])) _ (same-session-was .result) (session-of-was .ensures) (same-session-was .ensures) in
     (omega arith, (λ h. d ∙ test1 .taken), (λ h. absurd (omega arith)))
 
 add-i : tie.Need-add-i Inv-loop μ-loop
@@ -59,10 +59,10 @@ loop-again : tie.Need-loop-again Inv-loop μ-loop
 loop-again c =
     let given = c .before .before .before .before .before .before .before .before .args in
     let loop-was = c .before .before .before .before .before .before .loop in
-    let same-bytes-was = c .before .same-bytes in
+    let same-session-was = c .before .same-session in
     let session-of-was = c .before .before .session-of in
     let test1 = c .if1 in
-    let d : isOf (given .session .now) (screenOf (getD (given .screens .now) (loop-was .i) [])) ≡ same-bytes-was .result = compared-of (given .session .now) (screenOf (getD (given .screens .now) (loop-was .i) [])) _ (same-bytes-was .result) (session-of-was .ensures) (same-bytes-was .ensures) in
+    let d : isOf (given .session .now) (screenOf (getD (given .screens .now) (loop-was .i) [])) ≡ same-session-was .result = compared-of (given .session .now) (screenOf (getD (given .screens .now) (loop-was .i) [])) _ (same-session-was .result) (session-of-was .ensures) (same-session-was .ensures) in
     (omega arith, every-step (given .screens .now) (loop-was .i) (λ s. not (isOf (given .session .now) s)) (omega arith) (ap not (d ∙ test1 .left)) ∙ loop-was .inv .1)
 
 returns-2 : tie.Need-returns-2 Inv-loop μ-loop
@@ -81,7 +81,7 @@ find-spec =
     mul-session-of
     shared-slice-element-session-of
     session-of-requires
-    same-bytes-requires
+    same-session-requires
     returns
     add-i
     loop-less

@@ -52,18 +52,18 @@ session-of-requires-2 c κs =
     let pre-was = c .before .before .before .before .before .before .before .pre in
     (omega arith, size-at (given .screens .now) (loop-was .j) (omega arith) (pre-was .1))
 
-same-bytes-requires : tie.Need-same-bytes-requires Inv-loop μ-loop
-same-bytes-requires c κs = search needs
+same-session-requires : tie.Need-same-session-requires Inv-loop μ-loop
+same-session-requires c κs = search needs
 
 returns : tie.Need-returns Inv-loop μ-loop
 returns c =
     let given = c .before .before .before .before .before .before .before .before .before .before .args in
     let loop-was = c .before .before .before .before .before .before .loop in
-    let same-bytes-was = c .before .same-bytes in
+    let same-session-was = c .before .same-session in
     let session-of-was = c .before .before .before .before .before .before .before .session-of in
     let session-of2-was = c .before .before .session-of2 in
     let test1 = c .if1 in
-    let d : differs (screenOf (getD (given .screens .now) (given .i) [])) (screenOf (getD (given .screens .now) (loop-was .j) [])) ≡ not (same-bytes-was .result) = compared (screenOf (getD (given .screens .now) (given .i) [])) (screenOf (getD (given .screens .now) (loop-was .j) [])) _ _ (same-bytes-was .result) (session-of-was .ensures) (session-of2-was .ensures) (same-bytes-was .ensures) in
+    let d : differs (screenOf (getD (given .screens .now) (given .i) [])) (screenOf (getD (given .screens .now) (loop-was .j) [])) ≡ not (same-session-was .result) = compared (screenOf (getD (given .screens .now) (given .i) [])) (screenOf (getD (given .screens .now) (loop-was .j) [])) _ _ (same-session-was .result) (session-of-was .ensures) (session-of2-was .ensures) (same-session-was .ensures) in
     sym (every-stop (given .screens .now) (loop-was .j) (differs (screenOf (getD (given .screens .now) (given .i) []))) (omega arith) (d ∙ ap not (test1 .taken))) ∙ loop-was .inv .2
 
 add-j-2 : tie.Need-add-j-2 Inv-loop μ-loop
@@ -76,11 +76,11 @@ loop-again : tie.Need-loop-again Inv-loop μ-loop
 loop-again c =
     let given = c .before .before .before .before .before .before .before .before .before .before .args in
     let loop-was = c .before .before .before .before .before .before .loop in
-    let same-bytes-was = c .before .same-bytes in
+    let same-session-was = c .before .same-session in
     let session-of-was = c .before .before .before .before .before .before .before .session-of in
     let session-of2-was = c .before .before .session-of2 in
     let test1 = c .if1 in
-    let d : differs (screenOf (getD (given .screens .now) (given .i) [])) (screenOf (getD (given .screens .now) (loop-was .j) [])) ≡ not (same-bytes-was .result) = compared (screenOf (getD (given .screens .now) (given .i) [])) (screenOf (getD (given .screens .now) (loop-was .j) [])) _ _ (same-bytes-was .result) (session-of-was .ensures) (session-of2-was .ensures) (same-bytes-was .ensures) in
+    let d : differs (screenOf (getD (given .screens .now) (given .i) [])) (screenOf (getD (given .screens .now) (loop-was .j) [])) ≡ not (same-session-was .result) = compared (screenOf (getD (given .screens .now) (given .i) [])) (screenOf (getD (given .screens .now) (loop-was .j) [])) _ _ (same-session-was .result) (session-of-was .ensures) (session-of2-was .ensures) (same-session-was .ensures) in
     (omega arith, omega arith, every-step (given .screens .now) (loop-was .j) (differs (screenOf (getD (given .screens .now) (given .i) []))) (omega arith) (d ∙ ap not (test1 .left)) ∙ loop-was .inv .2)
 
 returns-2 : tie.Need-returns-2 Inv-loop μ-loop
@@ -103,7 +103,7 @@ stands-once-spec =
     mul-session-of-2
     shared-slice-element-session-of-2
     session-of-requires-2
-    same-bytes-requires
+    same-session-requires
     returns
     add-j-2
     loop-less

@@ -1,4 +1,4 @@
--- The table stays as long as it is.
+-- The table and the screens stay as many as they are.
 use mathlib.Core.Path.{_≡_}
 use lib.ListN.{length}
 use borrow.Author.Needs.{needs}
@@ -6,11 +6,11 @@ use Rattle.tool_serve.proofs.tell_page.Statement.{statement}
 use Rattle.tool_serve.proofs.tell_page.Tie as tie
 
 abbrev Inv-loop : tie.InvT-loop
-Inv-loop d answers notices table₀ host realm messages slots said cuts results taken all t₀ a₀ left₀ table t a left =
-    length table ≡ length table₀
+Inv-loop d answers notices table₀ screens₀ host realm messages slots said cuts results taken all t₀ a₀ left₀ table screens t a left =
+    (length table ≡ length table₀) × (length screens ≡ length screens₀)
 
 abbrev μ-loop : tie.MeasureT-loop
-μ-loop d answers notices table₀ host realm messages slots said cuts results taken all t₀ a₀ left₀ table t a left = left
+μ-loop d answers notices table₀ screens₀ host realm messages slots said cuts results taken all t₀ a₀ left₀ table screens t a left = left
 
 at-start-requires : tie.Need-at-start-requires Inv-loop μ-loop
 at-start-requires c κs = search needs
@@ -30,6 +30,9 @@ tell-slot-requires c κs = search needs
 same-length : tie.Need-same-length Inv-loop μ-loop
 same-length c = search needs
 
+same-length-2 : tie.Need-same-length-2 Inv-loop μ-loop
+same-length-2 c = search needs
+
 returns : tie.Need-returns Inv-loop μ-loop
 returns c = search needs
 
@@ -45,8 +48,11 @@ loop-less c = search needs
 loop-again : tie.Need-loop-again Inv-loop μ-loop
 loop-again c = search needs
 
-same-length-2 : tie.Need-same-length-2 Inv-loop μ-loop
-same-length-2 c = search needs
+same-length-3 : tie.Need-same-length-3 Inv-loop μ-loop
+same-length-3 c = search needs
+
+same-length-4 : tie.Need-same-length-4 Inv-loop μ-loop
+same-length-4 c = search needs
 
 returns-2 : tie.Need-returns-2 Inv-loop μ-loop
 returns-2 c = search needs
@@ -63,10 +69,12 @@ tell-page-spec =
     slot-at-requires
     tell-slot-requires
     same-length
+    same-length-2
     returns
     progress-requires
     next-requires
     loop-less
     loop-again
-    same-length-2
+    same-length-3
+    same-length-4
     returns-2)
