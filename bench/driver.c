@@ -53,6 +53,9 @@ typedef struct wm_reauthorized reauth_function(const uint8_t *, size_t, const ui
                                                const uint8_t *, size_t, const uint8_t *, size_t, const uint8_t *, size_t, uint32_t, uint32_t,
                                                uint8_t *, size_t, uint8_t *, size_t);
 typedef uint32_t answered_function(const uint8_t *, size_t, const uint8_t *, size_t, uint32_t, uint32_t);
+typedef struct wm_judged judge_function(uint8_t *, size_t, const uint8_t *, size_t, uint32_t, uint32_t, const uint8_t *, size_t, const uint8_t *,
+                                        size_t, const uint8_t *, size_t, bool, const uint8_t *, size_t, const uint8_t *, size_t, uint8_t *, size_t,
+                                        uint8_t *, size_t);
 
 /* What a call costs without a library: the loop around it. */
 static struct wm_outcome none_handle(uint8_t *t, size_t tl, uint32_t f, uint32_t op, const uint8_t *h, size_t hl, const uint8_t *r, size_t rl,
@@ -93,6 +96,14 @@ static struct wm_reauthorized none_reauth(const uint8_t *h, size_t hl, const uin
     return (struct wm_reauthorized){0};
 }
 
+static struct wm_judged none_judge(uint8_t *t, size_t tl, const uint8_t *u, size_t ul, uint32_t f, uint32_t op, const uint8_t *h, size_t hl,
+                                   const uint8_t *r, size_t rl, const uint8_t *m, size_t ml, bool w, const uint8_t *ta, size_t tal,
+                                   const uint8_t *tn, size_t tnl, uint8_t *a, size_t al, uint8_t *n, size_t nl) {
+    (void)t, (void)tl, (void)u, (void)ul, (void)f, (void)op, (void)h, (void)hl, (void)r, (void)rl, (void)m, (void)ml, (void)w, (void)ta, (void)tal;
+    (void)tn, (void)tnl, (void)a, (void)al, (void)n, (void)nl;
+    return (struct wm_judged){0};
+}
+
 /* volatile: the compiler must not see which function it is, or it takes the loop around the empty one away. */
 static const struct library {
     const char *name;
@@ -102,9 +113,10 @@ static const struct library {
     abort_function *volatile abort;
     answered_function *volatile answered;
     reauth_function *volatile reauth;
-} libraries[3] = {{"proved", wm_handle, wm_burst, wm_move, wm_abort, wm_abort_answered, wm_reauth},
-                  {"plain", plain_handle, plain_burst, plain_move, plain_abort, plain_abort_answered, plain_reauth},
-                  {"none", none_handle, none_burst, none_move, none_abort, none_answered, none_reauth}};
+    judge_function *volatile judge;
+} libraries[3] = {{"proved", wm_handle, wm_burst, wm_move, wm_abort, wm_abort_answered, wm_reauth, wm_judge},
+                  {"plain", plain_handle, plain_burst, plain_move, plain_abort, plain_abort_answered, plain_reauth, plain_judge},
+                  {"none", none_handle, none_burst, none_move, none_abort, none_answered, none_reauth, none_judge}};
 
 /* Everything that a library is lent. */
 struct lent {
@@ -187,8 +199,9 @@ static void put_termination(uint32_t i, uint32_t session, uint32_t row) {
 /* ---- lines ---- */
 
 /* What a line calls: a request is handled, a hundred of them are, by a call each or by one for all, the table is moved to the other form, an Abort-Session-Request is written from the notice that `cut` has, with the
- * identifiers of the message, the message is an answer that is judged, or a Re-Auth-Request about the access that `held` has. */
-enum what { HANDLE, EACH, ALL, MOVE, WRITE, JUDGE, REAUTH };
+ * identifiers of the message, the message is an answer that is judged, or a Re-Auth-Request about the access that `held` has, or what `old` has, another server's answer to the request, is
+ * held against ours. */
+enum what { HANDLE, EACH, ALL, MOVE, WRITE, JUDGE, REAUTH, HOLD };
 
 /* restore: the subscriber's row is set back before each call. form: of the table. */
 struct line {
@@ -213,6 +226,13 @@ static struct {
     size_t session_length;
     const char *visited;
 } held;
+
+/* What another server did with the first message: its answer, which ends at `answer.length`, its notice and its row. */
+static struct {
+    struct request answer;
+    uint8_t notice[WM_NOTICE_2_LEAST], after[WM_ROW_2];
+    size_t notice_length;
+} old;
 
 static uint8_t *table;
 static uint32_t rows, form;
@@ -561,6 +581,65 @@ static void re_authorizing_none(void) {
     held.session_length = 0;
 }
 
+/* Another server that did what ours does, with an opening that cuts. */
+static void hold_opening(void) {
+    static uint8_t answer[WM_ANSWER_LEAST];
+    memcpy(old.after, table, row_of(form));
+    struct wm_outcome o = plain_handle(old.after, row_of(form), form, 0, (const uint8_t *)host, sizeof host - 1, (const uint8_t *)realm, sizeof realm - 1,
+                                       messages[0].bytes, messages[0].length, true, answer, sizeof answer, old.notice, sizeof old.notice);
+    memcpy(old.answer.bytes, answer, o.length);
+    old.answer.length = o.length;
+    old.notice_length = o.cut ? notice_of(form) : 0;
+}
+
+static void holding(void) {
+    cutting();
+    hold_opening();
+}
+
+/* The last byte of Subscription-Id's 15 digits, before one of padding. */
+static void holding_last(void) {
+    holding();
+    old.answer.bytes[old.answer.length - 2] ^= 1;
+}
+
+/* The realm and Subscription-Id, the two last, stand behind Session-Id, which ends at byte 100. */
+static void holding_turned(void) {
+    static uint8_t last[88];
+    holding();
+    uint8_t *turned = old.answer.bytes + 100, *end = old.answer.bytes + old.answer.length;
+    memcpy(last, end - sizeof last, sizeof last);
+    for (uint8_t *p = end; p-- > turned + sizeof last;)
+        *p = p[-(int)sizeof last];
+    memcpy(turned, last, sizeof last);
+}
+
+/* A Failed-AVP behind all, in it three more, one inside the other, and an AVP in the innermost. */
+static void holding_groups(void) {
+    struct request *r = &old.answer;
+    holding();
+    for (uint32_t depth = 4; depth > 0; depth--) {
+        put_number(r, 4, 279);
+        put_number(r, 1, 0x40);
+        put_number(r, 3, 8 * depth + 12);
+    }
+    put_value(r, 268, false, 5012);
+    finish(r);
+}
+
+static void holding_proxies(size_t count) {
+    put_proxies(count, false);
+    hold_opening();
+}
+
+static void holding_some_proxies(void) {
+    holding_proxies(4);
+}
+
+static void holding_many_proxies(void) {
+    holding_proxies(64);
+}
+
 static const struct line lines[] = {
     {"opening with a cut, 1 row", cutting, 1, MESSAGES, false, {2001, 1, 0, 0, 1, 72, 39, 0}, 1, HANDLE},
     {"opening with a cut, 64 rows", cutting, 64, MESSAGES, false, {2001, 1, 0, 0, 1, 72, 39, 0}, 1, HANDLE},
@@ -610,6 +689,13 @@ static const struct line lines[] = {
     {"re-authorization, refused: type 1", re_authenticating, 1, MESSAGES, false, {5004, 1, 0, 0, 0, 0, 0, 0}, 1, REAUTH},
     {"re-authorization, refused: Session-Id", re_authorizing_another, 1, MESSAGES, false, {5002, 1, 0, 0, 0, 0, 0, 0}, 1, REAUTH},
     {"re-authorization, refused: number 22", re_authorizing_none, 1, MESSAGES, false, {22, 0, 0, 0, 0, 0, 0, 0}, 1, REAUTH},
+    {"judged: our own answer accepted", holding, 1, 1, true, {0, 0, 0, 0, 0, 0, 0, 0}, 1, HOLD},
+    {"form 2: judged: our own answer accepted", holding, 1, 1, true, {0, 0, 0, 0, 0, 0, 0, 0}, 2, HOLD},
+    {"judged: accepted, in another order", holding_turned, 1, 1, true, {0, 0, 0, 0, 0, 0, 0, 0}, 1, HOLD},
+    {"judged: refused at the last AVP", holding_last, 1, 1, true, {32, 0, 0, 3, 0, 228, 0, 0}, 1, HOLD},
+    {"judged: accepted, four groups nested", holding_groups, 1, 1, true, {0, 0, 0, 0, 0, 0, 0, 0}, 1, HOLD},
+    {"judged: accepted, 4 Proxy-Infos", holding_some_proxies, 1, 1, true, {0, 0, 0, 0, 0, 0, 0, 0}, 1, HOLD},
+    {"judged: accepted, 64 Proxy-Infos", holding_many_proxies, 1, 1, true, {0, 0, 0, 0, 0, 0, 0, 0}, 1, HOLD},
 };
 enum { LINES = sizeof lines / sizeof *lines };
 
@@ -647,6 +733,15 @@ static inline struct wm_outcome re_authorize(const struct library *library, stru
         (const uint8_t *)label, sizeof label - 1, (const uint8_t *)held.visited, strlen(held.visited), r->bytes, r->length, hop, end, l->answer,
         WM_ANSWER_LEAST, l->target, WM_ANSWER_LEAST);
     return (struct wm_outcome){.code = w.code, .kind = w.kind, .length = w.length, .place = w.request_length};
+}
+
+/* The kind of the mismatch is told as a place, its byte as the length of a cut Session-Id. */
+static inline struct wm_outcome hold_against(const struct library *library, struct lent *l, const struct line *line) {
+    size_t size = row_of(line->form);
+    struct wm_judged j = library->judge(l->table, size, old.after, size, line->form, 0, (const uint8_t *)host, sizeof host - 1, (const uint8_t *)realm,
+                                        sizeof realm - 1, messages[0].bytes, messages[0].length, true, old.answer.bytes, old.answer.length, old.notice,
+                                        old.notice_length, l->answer, WM_ANSWER_LEAST, l->notice, notice_of(line->form));
+    return (struct wm_outcome){.code = j.number, .place = j.mismatch, .cut_session = (uint32_t)j.at};
 }
 
 /* The outcome of the last message; whether all were taken, and each with a cut, stands in its kind and its cut. */
@@ -697,6 +792,8 @@ static inline struct wm_outcome call(const struct library *library, struct lent 
         return re_authorize(library, l, &messages[i], four(m + 12), four(m + 16));
     if (line->restore)
         memcpy(l->table + (line->rows - 1) * size, saved, size);
+    if (line->what == HOLD)
+        return hold_against(library, l, line);
     return library->handle(l->table, line->rows * size, line->form, 0, (const uint8_t *)host, sizeof host - 1, (const uint8_t *)realm,
                            sizeof realm - 1, messages[i].bytes, messages[i].length, true, l->answer, WM_ANSWER_LEAST, l->notice,
                            notice_of(line->form));

@@ -1,5 +1,5 @@
-/* Calls by chance: set-up operations, requests, bursts of them, moves, disconnections and re-authorizations, good and damaged, on tables of both forms that live on. After each one both libraries must
- * have given the same and left the same bytes everywhere. */
+/* Calls by chance: set-up operations, requests, bursts of them, moves, disconnections, another server's answers and re-authorizations, good and damaged, on tables of both forms that live on. After each one both
+ * libraries must have given the same and left the same bytes everywhere. */
 #include "requests.h"
 
 int printf(const char *, ...);
@@ -111,8 +111,9 @@ static uint8_t *pick_row(void) {
     return row;
 }
 
-/* A subscriber of the table with an access that stands: half of the requests are about one. */
+/* A row, and its subscriber if an access of his stands: half of the requests are about one. */
 static struct {
+    const uint8_t *row;
     bool there;
     uint32_t op;
     struct text name, session, label;
@@ -121,6 +122,7 @@ static struct {
 static void look_at_table(void) {
     const uint8_t *row = pick_row(), *block = row + 512 + 512 * form * (one_in(2) ? below(8) : first_place(row));
     uint32_t entry = block[1] - 1u;
+    held.row = row;
     held.there = !decoded && one_in(2) && row[0] == 1 && row[1] <= 15 && block[0] == 2 && block[2] <= 128 && entry < 4;
     if (!held.there)
         return;
@@ -610,6 +612,235 @@ static bool judge(uint32_t *belongs) {
     return *belongs == plain_abort_answered(r.bytes, r.length, (const uint8_t *)sent->bytes, sent->length, hop, end);
 }
 
+/* ---- another server ---- */
+
+enum { PARTS = 1024, OLD_ANSWER = 8192 };
+
+/* What another server is said to have done: its answer, its notice and the row as it left it; with some room behind each. */
+static struct {
+    uint8_t answer[OLD_ANSWER + 64], notice[WM_NOTICE_2_LEAST + 64], row[2 * WM_ROW_2];
+    size_t answer_length, notice_length;
+} old;
+
+/* An answer taken apart: its AVPs with their padding, in their order, and what is behind them if no AVP stands there. */
+static struct {
+    uint8_t bytes[OLD_ANSWER + 64];
+    struct text part[PARTS];
+    uint32_t count;
+} apart;
+
+static size_t part_length(const uint8_t *avp) {
+    return (((size_t)avp[5] << 16 | (size_t)avp[6] << 8 | avp[7]) + 3) / 4 * 4;
+}
+
+static void take_apart(void) {
+    memcpy(apart.bytes, old.answer, old.answer_length);
+    apart.count = 0;
+    for (size_t at = 20, n; at < old.answer_length; at += n) {
+        n = part_length(apart.bytes + at);
+        if (n < 8 || n > old.answer_length - at)
+            n = old.answer_length - at;
+        apart.part[apart.count++] = (struct text){(const char *)apart.bytes + at, n};
+    }
+}
+
+/* The header's length becomes a true one. */
+static void put_length(void) {
+    old.answer[1] = (uint8_t)(old.answer_length >> 16);
+    old.answer[2] = (uint8_t)(old.answer_length >> 8);
+    old.answer[3] = (uint8_t)old.answer_length;
+}
+
+/* Its AVPs behind its header. */
+static void put_together(void) {
+    old.answer_length = 20;
+    for (uint32_t i = 0; i < apart.count && old.answer_length + apart.part[i].length <= OLD_ANSWER; i++) {
+        memcpy(old.answer + old.answer_length, apart.part[i].bytes, apart.part[i].length);
+        old.answer_length += apart.part[i].length;
+    }
+    put_length();
+}
+
+/* A place among the AVPs: behind the first one mostly, so that Session-Id stays first. */
+static uint32_t some_place(void) {
+    return apart.count == 0 ? 0 : one_in(12) ? below(apart.count + 1) : 1 + below(apart.count);
+}
+
+static void put_part(uint32_t place, struct text part) {
+    if (apart.count == PARTS)
+        return;
+    for (uint32_t i = apart.count++; i > place; i--)
+        apart.part[i] = apart.part[i - 1];
+    apart.part[place] = part;
+}
+
+static struct text take_part(uint32_t place) {
+    struct text part = apart.part[place];
+    apart.count--;
+    for (uint32_t i = place; i < apart.count; i++)
+        apart.part[i] = apart.part[i + 1];
+    return part;
+}
+
+/* Groups one inside another, one to six deep, with an AVP or nothing in the innermost, and now and then one beside the group in it. One that has V is no group, and one bit of it all may be
+ * another. */
+static void put_nested(struct request *r) {
+    static const uint16_t groups[] = {279, 279, 297, 443, 284};
+    uint32_t depth = 1 + below(6), inside = one_in(3) ? 0 : 8 + below(6), beside = 8 * one_in(3);
+    size_t start = r->length;
+    for (; depth > 0; depth--) {
+        put_number(r, 4, groups[one_in(12) ? 4 : below(4)]);
+        put_number(r, 1, one_in(40) ? 0xC0 : 0x40 * below(2));
+        put_number(r, 3, 8 * depth + beside * (depth - 1) + (one_in(30) ? inside : (inside + 3) / 4 * 4));
+        if (beside && depth > 1)
+            put_avp(r, 33, false, "", 0);
+    }
+    if (inside)
+        put_avp(r, one_in(2) ? 263 : 268, false, "within", inside - 8);
+    if (one_in(6))
+        damage(r->bytes + start, r->length - start, 1);
+}
+
+/* One AVP more: one that ours never has, with M or without; a name of ours, with the vendor or with another value; Failed-AVP; groups. */
+static struct text some_part(void) {
+    static const uint16_t ours[] = {263, 258, 274, 268, 297, 264, 296, 443, 284, 284, 279};
+    static struct request kept[4];
+    static uint32_t next;
+    struct request *r = &kept[next++ % 4];
+    uint32_t chance = below(4);
+    r->length = 0;
+    if (chance == 0)
+        put_nested(r);
+    else if (chance == 1)
+        put_text(r, 33 + below(3), one_in(2) ? "" : "another");
+    else
+        put_avp(r, ours[below(sizeof ours / sizeof *ours)], one_in(6), one_in(2) ? "\0\0\7\321" : "longer", one_in(2) ? 4 : 6);
+    if (chance != 0 && one_in(2))
+        r->bytes[4] &= 0xBF;
+    return (struct text){(const char *)r->bytes, r->length};
+}
+
+/* An AVP is elsewhere, gone, there twice, or one more is there. */
+static void change_parts(void) {
+    if (old.answer_length < 20)
+        return;
+    take_apart();
+    uint32_t chance = below(6), place = some_place();
+    if (chance > 2 || apart.count == 0)
+        put_part(place, some_part());
+    else {
+        struct text part = chance == 2 ? apart.part[place % apart.count] : take_part(place % apart.count);
+        if (chance != 1)
+            put_part(one_in(3) ? apart.count : some_place(), part);
+    }
+    put_together();
+}
+
+/* One byte of an AVP is another: mostly of its flags, its code, its length, or the last of it, which may be padding. */
+static void change_avp(void) {
+    if (old.answer_length < 28)
+        return;
+    take_apart();
+    const struct text *part = &apart.part[below(apart.count)];
+    uint8_t *avp = old.answer + ((const uint8_t *)part->bytes - apart.bytes);
+    static const uint8_t bits[] = {0x80, 0x40, 0x20, 0x10, 1};
+    uint32_t chance = below(5);
+    if (part->length < 8)
+        return;
+    if (chance == 0)
+        avp[4] ^= bits[below(5)];
+    else
+        avp[chance == 1 ? 3 : chance == 2 ? 7 : chance == 3 ? part->length - 1 - below(4) : below((uint32_t)part->length)] ^= (uint8_t)(1u << below(8));
+}
+
+/* The answer is shorter or longer than its header says, none at all, or nothing but a header. */
+static void change_length(void) {
+    uint32_t chance = below(6);
+    if (chance == 0)
+        old.answer_length = 0;
+    else if (chance == 1 && old.answer_length >= 20)
+        old.answer_length = below(32);
+    else if (chance == 2 && old.answer_length >= 20)
+        old.answer_length -= 1 + below(8);
+    else if (chance == 3) {
+        old.answer[old.answer_length] = 0;
+        old.answer_length += 1;
+    } else if (old.answer_length + 64 < OLD_ANSWER && old.answer_length >= 20) {
+        take_apart();
+        apart.count = one_in(2) ? 0 : apart.count;
+        put_together();
+        memset(old.answer + old.answer_length, 0, 64);
+        old.answer_length += one_in(2) ? 4 * below(16) : below(64);
+        put_length();
+    }
+}
+
+static void change_notice(void) {
+    size_t whole = form == 1 ? WM_NOTICE_LEAST : WM_NOTICE_2_LEAST;
+    uint32_t chance = below(4);
+    if (chance == 0)
+        old.notice_length = old.notice_length ? 0 : whole;
+    else if (chance == 1)
+        old.notice_length = one_in(2) ? below((uint32_t)whole + 2) : whole - 1 + below(3);
+    else
+        damage(old.notice, whole, 1);
+}
+
+static void change_one(void) {
+    uint32_t chance = below(12);
+    if (chance < 4)
+        change_parts();
+    else if (chance < 7)
+        change_avp();
+    else if (chance == 7)
+        old.answer[below(20)] ^= (uint8_t)(1u << below(8));
+    else if (chance == 8)
+        change_length();
+    else if (chance == 9)
+        change_notice();
+    else
+        damage(old.row, row_of(form), 1);
+}
+
+/* What plain C does with a request on a row, and on top of it none to three changes. */
+static void another_server(uint32_t op, const struct text *host, const struct text *realm, const struct request *r, bool wag) {
+    memset(&old, 0, sizeof old);
+    memcpy(old.row, held.row, row_of(form));
+    struct wm_outcome o = plain_handle(old.row, row_of(form), form, op, (const uint8_t *)host->bytes, host->length, (const uint8_t *)realm->bytes,
+                                       realm->length, r->bytes, r->length, wag, old.answer, sizeof old.answer, old.notice, sizeof old.notice);
+    old.answer_length = o.length;
+    old.notice_length = o.cut == 0 ? 0 : form == 1 ? WM_NOTICE_LEAST : WM_NOTICE_2_LEAST;
+    for (uint32_t changes = below(4); changes > 0; changes--)
+        change_one();
+}
+
+static size_t around(size_t right) {
+    return one_in(60) ? right + below(3) - 1 : right;
+}
+
+/* The row before stands where the target of a move does. */
+static bool hold_against(struct wm_judged *w) {
+    static struct request r;
+    const struct text *host = PICK(texts), *realm = PICK(texts);
+    size_t row = one_in(60) ? 2 * row_of(form) : around(row_of(form)), after = one_in(60) ? 2 * row_of(form) : around(row_of(form));
+    size_t answer = around(WM_ANSWER_LEAST);
+    size_t notice = around(one_in(60) || form == 1 ? WM_NOTICE_LEAST : WM_NOTICE_2_LEAST);
+    bool wag = !one_in(4);
+    look_at_table();
+    uint32_t said = say_form(form), op = held.there && !one_in(20) ? held.op : pick_operator();
+    by_chance(&r);
+    another_server(op, host, realm, &r, wag);
+    memcpy(proved.target, held.row, row_of(form));
+    memcpy(plain.target, held.row, row_of(form));
+    *w = wm_judge(proved.target, row, old.row, after, said, op, (const uint8_t *)host->bytes, host->length, (const uint8_t *)realm->bytes,
+                  realm->length, r.bytes, r.length, wag, old.answer, old.answer_length, old.notice, old.notice_length, proved.answer, answer,
+                  proved.notice, notice);
+    struct wm_judged mine = plain_judge(plain.target, row, old.row, after, said, op, (const uint8_t *)host->bytes, host->length,
+                                        (const uint8_t *)realm->bytes, realm->length, r.bytes, r.length, wag, old.answer, old.answer_length,
+                                        old.notice, old.notice_length, plain.answer, answer, plain.notice, notice);
+    return w->number == mine.number && w->mismatch == mine.mismatch && w->at == mine.at;
+}
+
 /* ---- the gateway ---- */
 
 /* A Re-Auth-Request by chance about this Session-Id. */
@@ -680,7 +911,7 @@ static uint32_t keep(FILE *file, uint32_t length) {
 /* One call by chance. Gives back what to count it under. */
 static uint32_t one_call(struct wm_outcome *o, bool *same) {
     struct wm_written w;
-    uint32_t chance = decoded ? 1 : below(20);
+    uint32_t chance = decoded ? 1 : below(24);
     if (one_in(8)) {
         *same = set_up(&o->code);
         return 20000 + o->code;
@@ -709,6 +940,12 @@ static uint32_t one_call(struct wm_outcome *o, bool *same) {
         *same = re_authorize(&r);
         o->code = r.code;
         return 60000 + r.code;
+    }
+    if (chance > 19) {
+        struct wm_judged j;
+        *same = hold_against(&j);
+        o->code = j.number;
+        return 70000 + 10 * j.number + j.mismatch;
     }
     *same = request(o);
     return o->code + 10000 * (o->kind == 2);

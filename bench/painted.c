@@ -1,5 +1,5 @@
 /* A stack of 4 KiB with nothing behind it, as of a request task: how deep the C library's memory functions go on it, a request that cuts
- * a tunnel, a burst of two that do, the request for a disconnection, the answer to that, and a Re-Auth-Request at the gateway. What was not touched still has its paint. Ends with 1 where a memory function takes over LIBRARY bytes; a call that needs more
+ * a tunnel, a burst of two that do, the request for a disconnection, the answer to that, a Re-Auth-Request at the gateway, and another server's answer with groups in it. What was not touched still has its paint. Ends with 1 where a memory function takes over LIBRARY bytes; a call that needs more
  * than 4 KiB does not come back at all. */
 
 /* The kit's compiler comes without headers, so the types and the functions of the C library stand here. */
@@ -77,6 +77,9 @@ static struct wm_outcome outcome;
 static struct wm_written written;
 static uint32_t belongs;
 static struct wm_reauthorized reauthorized;
+static uint8_t before[WM_ROW_2], theirs[512];
+static size_t theirs_length;
+static struct wm_judged judged;
 
 #define TEXT(s) (const uint8_t *)(s), sizeof(s) - 1
 
@@ -190,6 +193,27 @@ static void authorize_again(void) {
                              end, 7, 8, answers, WM_ANSWER_LEAST, answers + WM_ANSWER_LEAST, WM_ANSWER_LEAST);
 }
 
+/* What another server did with the request is what ours does, but for a Failed-AVP in its answer, with three more one inside another. */
+static void put_theirs(void) {
+    memcpy(before, table, sizeof before);
+    open_tunnel();
+    memcpy(theirs, answer, outcome.length);
+    memcpy(notices, notice, sizeof notice);
+    theirs_length = outcome.length;
+    for (uint8_t depth = 4; depth > 0; depth--) {
+        const uint8_t group[8] = {0, 0, 1, 279 - 256, 0x40, 0, 0, (uint8_t)(8 * depth)};
+        memcpy(theirs + theirs_length, group, sizeof group);
+        theirs_length += sizeof group;
+    }
+    theirs[2] = (uint8_t)(theirs_length / 256);
+    theirs[3] = (uint8_t)theirs_length;
+}
+
+static void hold_against(void) {
+    judged = wm_judge(before, sizeof before, table, sizeof table, 2, 0, TEXT("server.example"), TEXT("example"), message, end, true, theirs, theirs_length,
+                      notices, WM_NOTICE_2_LEAST, answer, sizeof answer, notice, sizeof notice);
+}
+
 int main(void) {
     uint8_t *pages = mmap(0, 2 * PAGE, 3, 0x22, -1, 0);
     stack = pages + PAGE;
@@ -218,5 +242,8 @@ int main(void) {
     printf("of 4 KiB, the same way: writing an Abort-Session-Request %zu bytes, judging the answer %zu\n", writing, judging);
     ask_again();
     printf("of 4 KiB, the same way: a Re-Auth-Request that goes on %zu bytes\n", depth_of(authorize_again));
-    return reauthorized.code == 2001 && outcome.code == 2001 && outcome.cut == 1 && written.number == 0 && belongs == 1 && taken.messages == 2 && taken.notices == 2 ? 0 : 1;
+    ask(TEXT("e"));
+    put_theirs();
+    printf("of 4 KiB, the same way: another server's answer with four groups, one inside another, %zu bytes\n", depth_of(hold_against));
+    return judged.number == 0 && reauthorized.code == 2001 && outcome.code == 2001 && outcome.cut == 1 && written.number == 0 && belongs == 1 && taken.messages == 2 && taken.notices == 2 ? 0 : 1;
 }

@@ -39,6 +39,10 @@ struct wm_written plain_abort(const uint8_t *host, size_t host_length, const uin
                               uint32_t cut_realm, uint32_t hop, uint32_t end, uint8_t *room, size_t room_length);
 uint32_t plain_abort_answered(const uint8_t *answer, size_t answer_length, const uint8_t *session, size_t session_length,
                               uint32_t hop, uint32_t end);
+struct wm_judged plain_judge(uint8_t *row, size_t row_length, const uint8_t *after, size_t after_length, uint32_t form, uint32_t op,
+                             const uint8_t *host, size_t host_length, const uint8_t *realm, size_t realm_length, const uint8_t *message,
+                             size_t message_length, bool wag, const uint8_t *theirs, size_t theirs_length, const uint8_t *their_notice,
+                             size_t their_notice_length, uint8_t *answer, size_t answer_length, uint8_t *notice, size_t notice_length);
 struct wm_reauthorized plain_reauth(const uint8_t *host, size_t host_length, const uint8_t *realm, size_t realm_length,
                                     const uint8_t *session, size_t session_length, const uint8_t *user, size_t user_length,
                                     const uint8_t *label, size_t label_length, const uint8_t *visited, size_t visited_length,

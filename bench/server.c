@@ -935,21 +935,27 @@ static inline uint32_t frame_number(const uint8_t *message, size_t message_lengt
     return (number(message) & 0xFFFFFF) != message_length || message_length % 4 != 0 ? 7 : 0;
 }
 
-static uint32_t no_answer(size_t table_length, uint32_t form, uint32_t op, size_t host_length, size_t realm_length,
-                          const uint8_t *message, size_t message_length, size_t answer_length, size_t notice_length) {
-    if (!table_fits(table_length, form))
-        return 1;
+/* What is asked of a call besides its table and its message. */
+static inline uint32_t call_number(uint32_t form, uint32_t op, size_t host_length, size_t realm_length, size_t answer_length,
+                                   size_t notice_length) {
     if (op >= OPERATORS)
         return 33;
     if (host_length - 1 >= TEXT_MOST || realm_length - 1 >= TEXT_MOST)
         return 2;
     if (answer_length < WM_ANSWER_LEAST)
         return 3;
-    if (notice_length < (form == 1 ? WM_NOTICE_LEAST : WM_NOTICE_2_LEAST))
-        return 4;
-    uint32_t frame = frame_number(message, message_length);
-    if (frame)
-        return frame;
+    return notice_length < (form == 1 ? WM_NOTICE_LEAST : WM_NOTICE_2_LEAST) ? 4 : 0;
+}
+
+static uint32_t no_answer(size_t table_length, uint32_t form, uint32_t op, size_t host_length, size_t realm_length,
+                          const uint8_t *message, size_t message_length, size_t answer_length, size_t notice_length) {
+    if (!table_fits(table_length, form))
+        return 1;
+    uint32_t refused = call_number(form, op, host_length, realm_length, answer_length, notice_length);
+    if (refused == 0)
+        refused = frame_number(message, message_length);
+    if (refused)
+        return refused;
     return message[4] & 0x80 ? 0 : 8;
 }
 
@@ -1095,6 +1101,160 @@ uint32_t plain_abort_answered(const uint8_t *answer, size_t answer_length, const
         left -= padded;
     }
     return sessions == 1 && results == 1;
+}
+
+/* ---- judging another server's answer ---- */
+
+enum { DEEPEST = 4, MORE_THAN_24_BITS = 1 << 24 };
+
+/* The kinds of AVP that an answer of ours is made of, none of them with V, and each once at most but Proxy-Info, which stands behind all others. A STRANGER is none of
+ * them; Failed-AVP is never in ours, and is PASSED over. */
+enum part { STRANGER, SESSION_PART, APPLICATION_PART, TYPE_PART, CODE_PART, EXPERIMENTAL_PART, HOST_PART, REALM_PART, SUBSCRIPTION_PART, PROXY_PART, PASSED, PARTS };
+
+static const uint8_t part_of[444] = {[258] = APPLICATION_PART, [263] = SESSION_PART, [264] = HOST_PART,  [268] = CODE_PART,         [274] = TYPE_PART,
+                                     [279] = PASSED,           [284] = PROXY_PART,   [296] = REALM_PART, [297] = EXPERIMENTAL_PART, [443] = SUBSCRIPTION_PART};
+enum { GROUPS = 1 << PASSED | 1 << EXPERIMENTAL_PART | 1 << SUBSCRIPTION_PART };
+
+static inline uint32_t part_at(const uint8_t *avp, uint32_t flags_length) {
+    uint32_t code = number(avp);
+    return code < sizeof part_of && !(flags_length >> 31) ? part_of[code] : STRANGER;
+}
+
+static inline size_t padded_length(uint32_t flags_length) {
+    return ((flags_length & 0xFFFFFF) + 3) & ~3u;
+}
+
+static inline struct wm_judged told(uint32_t number, uint32_t mismatch, size_t at) {
+    return (struct wm_judged){number, mismatch, at};
+}
+
+/* The first AVP that fails one of the four tests, or the first group too deep, each group walked as it comes. Inside one, `ends` has where it and those around it end; a group
+ * without a fault ends where its last AVP does, so that the walk goes on from there. */
+static struct wm_judged first_fault(const uint8_t *m, size_t m_length) {
+    size_t ends[DEEPEST + 1] = {m_length}, depth = 0, at = 20;
+    if (m_length < 20)
+        return told(0, 0, 0);
+    for (;;) {
+        size_t left = ends[depth] - at;
+        if (left == 0) {
+            if (depth == 0)
+                return told(0, 0, 0);
+            depth--;
+            continue;
+        }
+        if (left < 8)
+            return told(32, 2, at);
+        uint32_t flags_length = number(m + at + 4), length = flags_length & 0xFFFFFF;
+        if ((flags_length & 0x1F000000) || length < (flags_length >> 31 ? 12 : 8) || padded_length(flags_length) > left)
+            return told(32, 2, at);
+        if (!(GROUPS >> part_at(m + at, flags_length) & 1)) {
+            at += padded_length(flags_length);
+            continue;
+        }
+        if (depth == DEEPEST)
+            return told(31, 0, 0);
+        ends[++depth] = at + length;
+        at += 8;
+    }
+}
+
+/* Nothing where two texts are the same, else the first byte that differs; one that only one of them has differs too. */
+static inline struct wm_judged first_difference(uint32_t mismatch, const uint8_t *a, size_t a_length, const uint8_t *b, size_t b_length) {
+    size_t i = 0;
+    if (a_length == b_length && memcmp(a, b, a_length) == 0)
+        return told(0, 0, 0);
+    while (i < a_length && i < b_length && a[i] == b[i])
+        i++;
+    return told(32, mismatch, i);
+}
+
+/* The header due is ours with the length of theirs. Of a length that has no three bytes the first differs from whatever stands there. */
+static struct wm_judged judge_header(const uint8_t *ours, size_t ours_length, const uint8_t *theirs, size_t theirs_length) {
+    uint8_t due[20];
+    if (ours_length == 0)
+        return theirs_length == 0 ? told(0, 0, 0) : told(32, 1, 0);
+    memcpy(due, ours, 20);
+    put_number(due, (uint32_t)ours[0] << 24 | (uint32_t)(theirs_length & 0xFFFFFF));
+    if (theirs_length >= MORE_THAN_24_BITS)
+        due[1] = theirs[1] ^ 1;
+    return first_difference(1, theirs, theirs_length < 20 ? theirs_length : 20, due, 20);
+}
+
+/* Where each AVP of ours starts; bit s of `there` for part s, and of `left` as long as none of theirs met it. `proxy` is the first Proxy-Info not yet met. */
+struct ours {
+    uint32_t there, left;
+    const uint8_t *of[PARTS], *proxy, *end;
+};
+
+static void take_apart(struct ours *o, const uint8_t *answer, size_t answer_length) {
+    const uint8_t *p = answer + 20;
+    o->there = 0;
+    o->end = answer + answer_length;
+    for (; p != o->end; p += padded_length(number(p + 4))) {
+        uint32_t part = part_of[number(p)];
+        o->there |= 1u << part;
+        if (part == PROXY_PART)
+            break;
+        o->of[part] = p;
+    }
+    o->proxy = p;
+    o->left = o->there;
+}
+
+/* Whether the AVP of theirs, of this part, has flags and value of the next of ours, which is then met. */
+static inline bool meets(struct ours *o, uint32_t part, const uint8_t *p, uint32_t flags_length) {
+    const uint8_t *mine = part == PROXY_PART ? o->proxy : o->of[part];
+    if (!(o->left >> part & 1) || number(mine + 4) != flags_length || !same(mine + 8, p + 8, (flags_length & 0xFFFFFF) - 8))
+        return false;
+    if (part == PROXY_PART && (o->proxy += padded_length(flags_length)) != o->end)
+        return true;
+    o->left &= ~(1u << part);
+    return true;
+}
+
+/* The AVPs of theirs, none of which fails, each in its place, and whether one is missing. */
+static struct wm_judged judge_avps(const uint8_t *ours, size_t ours_length, const uint8_t *theirs, size_t theirs_length) {
+    struct ours o;
+    take_apart(&o, ours, ours_length);
+    for (size_t at = 20; at != theirs_length;) {
+        const uint8_t *p = theirs + at;
+        uint32_t flags_length = number(p + 4), part = part_at(p, flags_length);
+        bool first = at != 20 || part == SESSION_PART || !(o.there >> SESSION_PART & 1);
+        bool fits = part == PASSED || (o.there >> part & 1 ? meets(&o, part, p, flags_length) : !(flags_length & MANDATORY));
+        if (!first || !fits)
+            return told(32, 3, at);
+        at += padded_length(flags_length);
+    }
+    return o.left ? told(32, 4, 0) : told(0, 0, 0);
+}
+
+static struct wm_judged judge_answer(const uint8_t *ours, size_t ours_length, const uint8_t *theirs, size_t theirs_length) {
+    struct wm_judged fault = first_fault(theirs, theirs_length);
+    if (fault.number == 31)
+        return fault;
+    struct wm_judged header = judge_header(ours, ours_length, theirs, theirs_length);
+    if (header.number)
+        return header;
+    return fault.number || theirs_length == 0 ? fault : judge_avps(ours, ours_length, theirs, theirs_length);
+}
+
+struct wm_judged plain_judge(uint8_t *row, size_t row_length, const uint8_t *after, size_t after_length, uint32_t form, uint32_t op,
+                             const uint8_t *host, size_t host_length, const uint8_t *realm, size_t realm_length, const uint8_t *message,
+                             size_t message_length, bool wag, const uint8_t *theirs, size_t theirs_length, const uint8_t *their_notice,
+                             size_t their_notice_length, uint8_t *answer, size_t answer_length, uint8_t *notice, size_t notice_length) {
+    if (form - 1 > 1 || row_length != row_size(form) || after_length != row_length)
+        return told(1, 0, 0);
+    uint32_t refused = call_number(form, op, host_length, realm_length, answer_length, notice_length);
+    if (refused)
+        return told(refused, 0, 0);
+    struct wm_outcome o = plain_handle(row, row_length, form, op, host, host_length, realm, realm_length, message, message_length, wag, answer,
+                                       answer_length, notice, notice_length);
+    struct wm_judged found = judge_answer(answer, o.length, theirs, theirs_length);
+    if (found.number)
+        return found;
+    size_t cut = o.cut == 0 ? 0 : form == 1 ? WM_NOTICE_LEAST : WM_NOTICE_2_LEAST;
+    found = first_difference(5, their_notice, their_notice_length, notice, cut);
+    return found.number ? found : first_difference(6, after, after_length, row, row_length);
 }
 
 /* ---- the gateway ---- */

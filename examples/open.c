@@ -1,6 +1,6 @@
 /* A table of two rows, one for each of two operators, who have a subscriber of the same name: one of them opens a tunnel on its one W-APN, the other has
  * no W-APN. Prints the outcome, the answer's bytes, what the other operator is told, what comes of moving the table to form 2 and back, what is cut there and how its
- * gateway is asked to end it, what comes of three messages in one call, how a gateway is asked to have an access authorized again, the report of that hour, and what the screen board shows of the request, of its result and of a notice. */
+ * gateway is asked to end it, what comes of three messages in one call, what is told of another server that did the same and of one that did not, how a gateway is asked to have an access authorized again, the report of that hour, and what the screen board shows of the request, of its result and of a notice. */
 
 /* The kit's compiler comes without headers, so the types and the one function of the C library stand here. */
 #define WM_OWN_TYPES
@@ -168,6 +168,43 @@ static void take_all(const char *sessions, size_t answer_room) {
     } while (t.messages != 0);
 }
 
+static void copy(uint8_t *to, const uint8_t *from, size_t length) {
+    for (size_t i = 0; i < length; i++)
+        to[i] = from[i];
+}
+
+/* What another server did with the opening "k" on the first row: its answer, the notice of its cut, and the row as it left it. */
+static struct {
+    uint8_t answer[WM_ANSWER_LEAST], notice[WM_NOTICE_2_LEAST], after[WM_ROW_2];
+    size_t answer_length, notice_length;
+} old;
+
+static void judge(const char *what) {
+    static uint8_t row[WM_ROW_2];
+    copy(row, moved, sizeof row);
+    struct wm_judged j = wm_judge(row, sizeof row, old.after, sizeof old.after, 2, 0, TEXT("server.example"), TEXT("example"), message, opening("k"), true,
+                                  old.answer, old.answer_length, old.notice, old.notice_length, answer, sizeof answer, notice, sizeof notice);
+    printf("another server, %s: number %u, mismatch %u at byte %zu\n", what, j.number, j.mismatch, j.at);
+}
+
+/* The other server is this one, on a copy of the row; then one byte of its Result-Code is another, it tells nobody of its cut, and a byte of its row is another. */
+static void judge_another(void) {
+    copy(old.after, moved, sizeof old.after);
+    struct wm_outcome o = wm_handle(old.after, sizeof old.after, 2, 0, TEXT("server.example"), TEXT("example"), message, opening("k"), true, old.answer,
+                                    sizeof old.answer, old.notice, sizeof old.notice);
+    old.answer_length = o.length;
+    old.notice_length = o.cut ? sizeof old.notice : 0;
+    judge("our own answer");
+    old.answer[67] ^= 1;
+    judge("another Result-Code");
+    old.answer[67] ^= 1;
+    old.notice_length = 0;
+    judge("no notice");
+    old.notice_length = sizeof old.notice;
+    old.after[1000] ^= 1;
+    judge("another row");
+}
+
 /* The gateway has the access with the Session-Id "j", at home. */
 static void authorize_again(const char *session) {
     struct wm_reauthorized r =
@@ -196,6 +233,7 @@ int main(void) {
     cut_and_ask("d");
     take_all("efg", sizeof answers);
     take_all("hij", WM_ANSWER_LEAST);
+    judge_another();
     authorize_again("h");
     authorize_again("j");
     struct wm_told told = {21, 0, o.code, o.kind, o.place, o.cut};

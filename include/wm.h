@@ -1,6 +1,6 @@
 /* The Wm side of a tunnel access server: three set-up operations; requests, one at a time or in a burst; moving a table from one form to the other; asking a gateway
- * to end an access that was cut; the gateway's own side of re-authorization; a report of what came of requests, by hour; and a board that shows which screens are
- * connected.
+ * to end an access that was cut; judging what another server did with a request; the gateway's own side of re-authorization; a report of what came of requests, by
+ * hour; and a board that shows which screens are connected.
  * docs/RULES.md has the rules.
  *
  * A table may serve several operators, 0 to 15. A row is one operator's: two of them may have a subscriber of one name, and neither finds or changes
@@ -13,7 +13,7 @@
  *
  * Everything is lent by the caller: a pointer and a length. No function keeps a pointer, allocates, locks or waits, and none has
  * state of its own. Any length and any contents are allowed: what does not fit the rules is refused by its number, and a refusal
- * leaves everything lent as it was. A room's bytes behind what was written stay as they were.
+ * leaves everything lent as it was (but for what wm_judge tells of another server). A room's bytes behind what was written stay as they were.
  *
  * What the caller has to keep to; nothing is promised otherwise:
  *
@@ -23,16 +23,17 @@
  *   types ask.
  * - Buffers of one call do not overlap where one of them is not const: table, answer and notice, of a burst table, answers, notices and results, stand apart
  *   from each other and from all the rest, the target of a move from the table, the room of wm_abort from its notice and names, both rooms of wm_reauth
- *   from each other and from all the rest, a report that is changed
+ *   from each other and from all the rest, so too row, answer and notice of wm_judge, a report that is changed
  *   from the other one and from the list, and a list of screens from the Session-Id. Those that are const may overlap each other: host, realm, message,
- *   messages, wags, name, label, shares; of wm_abort host, realm and notice, of wm_abort_answered both, of wm_reauth names, access and message.
- * - While a call runs no other thread writes to anything that was lent to it, and none reads what is not const: table, answers, notices, results, target, room. A
+ *   messages, wags, name, label, shares; of wm_abort host, realm and notice, of wm_abort_answered both, of wm_reauth names, access and
+ *   message, of wm_judge names, message and what the other server left.
+ * - While a call runs no other thread writes to anything that was lent to it, and none reads what is not const: table, row, answers, notices, results, target, room. A
  *   move reads its table only, wm_abort its notice.
  *   So calls on one table come one after another, in any threads, with whatever lock the caller likes. Calls with tables and rooms of
  *   their own may run at once, and may share host, realm and messages.
  * - A bool is 0 or 1.
  *
- * The deepest call takes under 1,024 bytes of stack, a burst under 1,536 (docs/PERFORMANCE.md).
+ * The deepest call takes under 1,024 bytes of stack, a burst under 1,536, wm_judge under 2,048 (docs/PERFORMANCE.md).
  */
 #ifndef WM_H
 #define WM_H
@@ -64,11 +65,12 @@ enum wm_kind { WM_NO_ANSWER = 0, WM_RESULT_CODE = 1, WM_EXPERIMENTAL_RESULT = 2 
 
 /* The numbers of refusals that are no Diameter codes. A set-up operation gives 0, 1, 33, 26, 27 or 9 to 17. A request gives 1, 33 or 2 to 8, with the
  * kind WM_NO_ANSWER, or a code that goes into its answer. A burst gives 0, 1, 33, 2 or 18; a move 0, 1 or 19 to 21; wm_abort 0, 2, 4, 22
- * or 23; wm_reauth 2, 3, 22 or 5 to 8, tested in this order, with the kind WM_NO_ANSWER, or a code. A board gives 0, 25 or 24, tested in this order; a report 0, 29 or 30. Of the others the first that holds is given, in the order of these lines. */
+ * or 23; wm_reauth 2, 3, 22 or 5 to 8, tested in this order, with the kind WM_NO_ANSWER, or a code. wm_judge gives 0, 1, 33, 2, 3, 4, 31 or 32, tested in this order. A board gives 0, 25 or 24, tested in this order; a report 0, 29 or 30. Of the others the first that holds is given, in the order of these lines. */
 enum wm_number {
-    WM_DONE = 0,             /* set-up, a burst, a move, wm_abort, a board and a report: it is done */
-    WM_TABLE_LENGTH = 1,     /* the form is neither 1 nor 2, or the table is not 1 to 1,024 rows of its form: WM_ROW or WM_ROW_2 bytes each */
-    WM_NO_OPERATOR = 33,     /* entering, adding, a request and a burst: the operator is over 15 */
+    WM_DONE = 0,             /* set-up, a burst, a move, wm_abort, a board and a report: it is done; wm_judge: accepted */
+    WM_TABLE_LENGTH = 1,     /* the form is neither 1 nor 2, or the table is not 1 to 1,024 rows of its form: WM_ROW or WM_ROW_2 bytes each; wm_judge: one of
+                              * the two rows is not exactly one row of the form */
+    WM_NO_OPERATOR = 33,     /* entering, adding, a request, a burst and wm_judge: the operator is over 15 */
     WM_OWN_NAMES = 2,        /* the own host or realm has not 1 to 128 bytes */
     WM_ANSWER_ROOM = 3,      /* the answer room, and of wm_reauth either room, is under WM_ANSWER_LEAST */
     WM_NOTICE_ROOM = 4,      /* the notice room is under WM_NOTICE_LEAST, in form 2 and for wm_abort under WM_NOTICE_2_LEAST */
@@ -97,7 +99,9 @@ enum wm_number {
     WM_NO_SCREEN = 24,       /* the board: the Session-Id is on no entry */
     WM_SCREENS = 25,         /* the board: over 64 entries, or a Session-Id on it twice or not of 1 to 128 bytes */
     WM_HOUR_OVER_23 = 29,    /* counting: an hour of the list is over 23 */
-    WM_OVER_64_BITS = 30     /* a report: an hour's or the year's total of some column passes 64 bits */
+    WM_OVER_64_BITS = 30,    /* a report: an hour's or the year's total of some column passes 64 bits */
+    WM_TOO_DEEP = 31,        /* wm_judge: a group inside four others */
+    WM_MISMATCH = 32         /* wm_judge: answer, notice or row is another than ours */
 };
 
 /* code: the number, 1 to 8 or 33, of a call that gets no answer, or the Diameter code.
@@ -142,7 +146,7 @@ struct wm_taken {
  * either than there are whole messages before the first bad boundary is WM_BURST_PLACES, however many the rooms would let in.
  * answers, notices: the rooms. Answers stand one behind the other, each of its result's length. Notices stand one behind the other too, WM_NOTICE_LEAST bytes
  * each, WM_NOTICE_2_LEAST in form 2: the first belongs to the first result with a cut, the second to the second. What is behind them, and the results
- * behind those of the messages that were taken, stay as they were. It is in the archive libwm_burst.a, wm_reauth in libwm_gateway.a, all other functions in libwm.a. */
+ * behind those of the messages that were taken, stay as they were. It is in the archive libwm_burst.a, wm_judge in libwm_judge.a, wm_reauth in libwm_gateway.a, all other functions in libwm.a. */
 struct wm_taken wm_burst(uint8_t *table, size_t table_length, uint32_t form, uint32_t op, const uint8_t *host, size_t host_length,
                          const uint8_t *realm, size_t realm_length, const uint8_t *messages, size_t messages_length, const uint8_t *wags,
                          size_t wags_length, uint8_t *answers, size_t answers_length, uint8_t *notices, size_t notices_length,
@@ -169,6 +173,43 @@ struct wm_written wm_abort(const uint8_t *host, size_t host_length, const uint8_
 /* 1 if a message is the answer to the request with this Session-Id and these identifiers, else 0. It may be any bytes. */
 uint32_t wm_abort_answered(const uint8_t *answer, size_t answer_length, const uint8_t *session, size_t session_length, uint32_t hop,
                            uint32_t end);
+
+/* JUDGING ANOTHER SERVER'S ANSWER: while an old server and this one both run, what the old one did with a request is held against what this one does with it on a table of
+ * that one row. Behind Session-Id the AVPs of an answer may stand in another order, those of one name in their own, and among them any Failed-AVP, and any AVP
+ * without M of a name that ours does not have. Flags and values are compared as bytes, so that inside a group nothing may differ; padding does not matter. Groups are Failed-AVP,
+ * Experimental-Result and Subscription-Id, and may stand one inside another, four deep. docs/RULES.md has the whole of it.
+ *
+ * What is told with WM_MISMATCH; where several differ, the first in this order. WM_TOO_DEEP comes before all of them. */
+enum wm_mismatch {
+    WM_OTHER_HEADER = 1, /* one of the twenty bytes, of which those of the length have to be true; an answer where none is due, or none where one is */
+    WM_BROKEN_AVP = 2,   /* an AVP, at the top or inside a group, whose flags or length no AVP can have, or which goes past the end of what it stands in */
+    WM_OTHER_AVP = 3,    /* an AVP at the top that is not ours: other flags or another value, one more of its name than ours has, one that is to be
+                          * understood (M) of a name that ours does not have, or, where ours starts with Session-Id, any other one in its place */
+    WM_MISSING_AVP = 4,  /* ours has one more of some name */
+    WM_OTHER_NOTICE = 5, /* one of its bytes, its length, a notice where none is due, or none where one is */
+    WM_OTHER_ROW = 6     /* one of its bytes */
+};
+
+/* number: one of enum wm_number. mismatch: one of enum wm_mismatch with WM_MISMATCH, else 0.
+ * at: of header, notice and row the first byte that differs, counted from 0; where one of the two ends before, the byte behind its end, and so 0 where there is none
+ * at all. Of WM_BROKEN_AVP and WM_OTHER_AVP where the AVP starts in the old server's answer, an AVP inside a group too. Else 0. It is a size_t,
+ * as the lengths are in which it is a place. */
+struct wm_judged {
+    uint32_t number, mismatch;
+    size_t at;
+};
+
+/* row, after: the subscriber's row before the request and as the old server left it, each exactly one row of the form. row is the caller's copy: it becomes the row that is due.
+ * form, op, host, realm, message, wag: as for wm_handle; the names are those that the old server answers with. theirs, their_notice: what the old server answered, and the
+ * notice of its cut; length 0 for none. theirs may be any bytes and of any length, and a message that wm_handle gives a number from 5 to 8 has no answer, no notice and
+ * the row as it was.
+ * answer, notice: rooms as for wm_handle, WM_ANSWER_LEAST and WM_NOTICE_LEAST bytes or more, in form 2 WM_NOTICE_2_LEAST. With WM_DONE, WM_TOO_DEEP and WM_MISMATCH our answer and our
+ * notice stand in them as wm_handle leaves them, and row is the one due; with any other number row and rooms are as they were.
+ * It is in the archive libwm_judge.a, for which none of the others is needed. */
+struct wm_judged wm_judge(uint8_t *row, size_t row_length, const uint8_t *after, size_t after_length, uint32_t form, uint32_t op,
+                          const uint8_t *host, size_t host_length, const uint8_t *realm, size_t realm_length, const uint8_t *message,
+                          size_t message_length, bool wag, const uint8_t *theirs, size_t theirs_length, const uint8_t *their_notice,
+                          size_t their_notice_length, uint8_t *answer, size_t answer_length, uint8_t *notice, size_t notice_length);
 
 /* RE-AUTHORIZATION AT THE GATEWAY. A server asks a gateway by a Re-Auth-Request to have one of its accesses authorized again. The gateway answers it, and where the request is
  * good sends an AA-Request for that access back to the server. Here the caller is the gateway.

@@ -68,10 +68,10 @@ pub static WANTED_OF_FORMS: LazyLock<BTreeSet<String>> = LazyLock::new(wanted);
 
 fn wanted() -> BTreeSet<String> {
     let mut all: Vec<String> = OTHERS.map(str::to_string).to_vec();
-    for kind in ["clear", "enter", "add", "handle", "move"] {
+    for kind in ["clear", "enter", "add", "handle", "move", "judge"] {
         all.extend(NO_FORMS.map(|form| format!("form {form}, {kind}: number 1")));
     }
-    for kind in ["clear", "enter", "add", "handle"] {
+    for kind in ["clear", "enter", "add", "handle", "judge"] {
         all.extend([1, 2].map(|form| format!("form {form}, a row of the other, {kind}: number 1")));
     }
     all.extend(COUNTS.map(|(form, count, came)| count_key(form, count, came)));

@@ -1,11 +1,11 @@
 //! Scripts as bytes. The README gives the format byte by byte.
 
-use crate::program::{Aborting, Answering, Asked, Bursting, Operation, Room};
+use crate::program::{Aborting, Answering, Asked, Bursting, Judging, Operation, Room};
 use crate::reauth_calls::ReAuthCall;
 use crate::script::{Changes, Expected, K1, Record, digest};
 
 pub const MAGIC: &[u8; 8] = b"WMSCRIPT";
-pub const VERSION: u32 = 6;
+pub const VERSION: u32 = 7;
 
 /// No record is longer, its type and length included.
 pub const LONGEST_RECORD: usize = 65_536;
@@ -38,6 +38,7 @@ const ABORT: u8 = 10;
 const ANSWERED: u8 = 11;
 const BURST: u8 = 12;
 const RE_AUTH: u8 = 13;
+const JUDGE: u8 = 14;
 
 /// Appends a record: type, length of the rest, body, check.
 fn frame(script: &mut Vec<u8>, kind: u8, body: &[u8]) {
@@ -161,6 +162,13 @@ fn write_operation(body: &mut Vec<u8>, operation: &Operation) -> u8 {
         Operation::ReAuth(call) => {
             write_re_auth(body, call);
             RE_AUTH
+        }
+        Operation::Judge(judging) => {
+            write_asked(body, &judging.asked);
+            for text in [&judging.after, &judging.answer, &judging.notice] {
+                bytes(body, text);
+            }
+            JUDGE
         }
     }
 }
@@ -398,6 +406,12 @@ fn read_record(kind: u8, fields: &mut Fields) -> Result<Record, Defect> {
         }),
         BURST => Operation::Burst(read_bursting(fields)?),
         RE_AUTH => Operation::ReAuth(read_re_auth(fields)?),
+        JUDGE => Operation::Judge(Judging {
+            asked: read_asked(fields)?,
+            after: fields.bytes()?,
+            answer: fields.bytes()?,
+            notice: fields.bytes()?,
+        }),
         _ => return Err("a record of no known type"),
     };
     let results = match &operation {

@@ -9,6 +9,7 @@ use crate::drafts::{Draft, DraftAvp};
 use crate::either_case::{PAIRS, either_case, typed};
 use crate::faults::{Fault, checks, deciding_checks, header_checks, own_checks};
 use crate::forms::{FormDecks, in_forms};
+use crate::judge_rounds::{JudgeDecks, judgements};
 use crate::known_avps::{known_and_ignored, unknown};
 use crate::moves::move_to;
 use crate::operators::{Situation, all_rows, entering, namesake, operators, situations};
@@ -54,6 +55,7 @@ struct Decks {
     aborts: AbortDecks,
     bursts: BurstDecks,
     re_auths: ReAuthDecks,
+    judgements: JudgeDecks,
 }
 
 /// The calls of a script.
@@ -72,6 +74,7 @@ pub fn generate(seed: u64, calls: usize) -> Recorder {
         aborts: AbortDecks::new(),
         bursts: BurstDecks::new(),
         re_auths: ReAuthDecks::default(),
+        judgements: JudgeDecks::default(),
     };
     for turn in 0.. {
         if recorder.is_full() {
@@ -95,6 +98,7 @@ fn round(recorder: &mut Recorder, decks: &mut Decks, random: &mut Random) {
     disconnections(recorder, &mut decks.aborts, random);
     bursts(recorder, &mut decks.bursts, random);
     re_auths(recorder, &mut decks.re_auths, random);
+    judgements(recorder, &mut decks.judgements, random);
     for _ in 0..14 {
         let (sort, fault) = decks.singles.draw(random).clone();
         faulty(recorder, sort, &[fault], random);
@@ -395,7 +399,7 @@ fn edges(recorder: &mut Recorder, random: &mut Random) {
 }
 
 /// Brings a message to the size, unless it has been given another one, with one long AVP or many Proxy-Infos.
-fn fill(draft: &mut Draft, size: usize, random: &mut Random) {
+pub fn fill(draft: &mut Draft, size: usize, random: &mut Random) {
     let one = random.once_in(2);
     while draft.size.is_none() && draft.bytes().len() + 8 <= size {
         let room = size - draft.bytes().len() - 8;

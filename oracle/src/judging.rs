@@ -34,10 +34,23 @@ pub enum Kind {
     Row,
 }
 
+/// How long the rooms are that ours is written into.
+#[derive(Clone, Copy, Debug, PartialEq, Eq)]
+pub struct Rooms {
+    pub answer: usize,
+    pub notice: usize,
+}
+
+/// Rooms for whatever is due.
+pub const ENOUGH: Rooms = Rooms {
+    answer: ANSWER_ROOM,
+    notice: Form::Two.notice(),
+};
+
 #[derive(Clone, Copy, Debug, PartialEq, Eq, PartialOrd, Ord)]
 pub enum Verdict {
     Accepted,
-    /// Numbers 1, 33, 2 and 31.
+    /// Numbers 1, 33, 2, 3, 4 and 31.
     Refused(u16),
     /// Number 32: the first mismatch and its byte.
     Mismatch(Kind, usize),
@@ -60,6 +73,14 @@ pub struct Due {
     pub answer: Vec<u8>,
     pub notice: Vec<u8>,
     pub row: Vec<u8>,
+}
+
+/// A verdict, and what is due: it is written over the row before and into the rooms, whatever
+/// the verdict, unless it is a number of the call's own.
+#[derive(Clone, Debug, PartialEq, Eq)]
+pub struct Judgement {
+    pub verdict: Verdict,
+    pub written: Option<Due>,
 }
 
 /// An AVP of the answer and where it starts there.
@@ -92,7 +113,7 @@ pub type Stage = fn(&JudgeRules, &Sides) -> Option<usize>;
 #[derive(Clone, Copy)]
 pub struct JudgeRules {
     pub server: Rules,
-    pub number: fn(&Judged) -> u16,
+    pub number: fn(&Judged, Rooms) -> u16,
     pub due: fn(&JudgeRules, &Judged) -> Due,
     pub depth: usize,
     pub is_group: fn(&Avp) -> bool,
@@ -135,16 +156,22 @@ pub const EXPERIMENTAL_RESULT: Name = base(297);
 pub const SUBSCRIPTION_ID: Name = base(443);
 pub const FAILED_AVP: Name = base(279);
 
-/// Number 1 unless both rows are one row of the form said, then 33, then 2; 0 if none holds.
-pub fn number(judged: &Judged) -> u16 {
-    let one_row = |form: Form| [judged.before, judged.after].map(<[u8]>::len) == [form.row(); 2];
+/// Number 1 unless both rows are one row of the form said, then 33, then 2; a room that is too
+/// small for any answer or notice is 3 or 4, as for a call. 0 if none holds.
+pub fn number(judged: &Judged, rooms: Rooms) -> u16 {
+    let one_row = |form: &Form| [judged.before, judged.after].map(<[u8]>::len) == [form.row(); 2];
+    let Some(form) = Form::numbered(judged.form).filter(one_row) else {
+        return 1;
+    };
     let named = |name: &[u8]| (1..=128).contains(&name.len());
-    if !Form::numbered(judged.form).is_some_and(one_row) {
-        1
-    } else if !operator_fits(judged.operator) {
+    if !operator_fits(judged.operator) {
         33
     } else if !named(judged.host) || !named(judged.realm) {
         2
+    } else if rooms.answer < ANSWER_ROOM {
+        3
+    } else if rooms.notice < form.notice() {
+        4
     } else {
         0
     }
@@ -204,13 +231,29 @@ pub fn walk<'a>(rules: &JudgeRules, bytes: &'a [u8], start: usize, left: usize) 
     Ok(placed)
 }
 
-/// 1, 33, 2, then 31, then the first mismatch.
+/// The verdict where there is room enough.
 pub fn judge(rules: &JudgeRules, judged: &Judged) -> Verdict {
-    let number = (rules.number)(judged);
+    judge_in(rules, judged, ENOUGH).verdict
+}
+
+/// A number of the call's own, then 31, then the first mismatch.
+pub fn judge_in(rules: &JudgeRules, judged: &Judged, rooms: Rooms) -> Judgement {
+    let number = (rules.number)(judged, rooms);
     if number != 0 {
-        return Verdict::Refused(number);
+        return Judgement {
+            verdict: Verdict::Refused(number),
+            written: None,
+        };
     }
-    let due = &(rules.due)(rules, judged);
+    let due = (rules.due)(rules, judged);
+    Judgement {
+        verdict: held_against(rules, judged, &due),
+        written: Some(due),
+    }
+}
+
+/// What the old server did, held against what is due.
+fn held_against(rules: &JudgeRules, judged: &Judged, due: &Due) -> Verdict {
     let behind = judged.answer.get(HEADER..).unwrap_or_default();
     let walked = &(rules.walk)(rules, behind, HEADER, rules.depth);
     let sides = Sides {

@@ -3,14 +3,16 @@
 
 use crate::cases::{Case, SORTS, Sort};
 use crate::drafts::{Draft, DraftAvp};
+use crate::generator::fill;
 use crate::judging::{Due, Judged, REQUEST_W10, Verdict, due};
 use crate::old_answers::Old;
 use crate::planting::PLANTS;
+use crate::program::{Asked, Judging, Operation, Room};
 use crate::random::Random;
 use crate::reading_a_message::{
     Name, PROXY_INFO, REQUEST, SESSION_ID, VISITED_NETWORK, W_APN, base,
 };
-use crate::the_table::FORMS;
+use crate::the_table::{FORMS, Form, put};
 
 /// A request with its row, and what the old server made of it; the verdict that is wanted,
 /// and why.
@@ -45,11 +47,45 @@ impl JudgeCall {
             after: &self.after,
         }
     }
+
+    /// The same as a call of a script, with these rooms; the row before is the table.
+    pub fn operation(&self, [answer_room, notice_room]: [Room; 2]) -> Operation {
+        let asked = Asked {
+            form: self.form,
+            operator: self.operator,
+            host: self.host.clone(),
+            realm: self.realm.clone(),
+            message: self.message.clone(),
+            wag: self.wag,
+            answer_room,
+            notice_room,
+        };
+        Operation::Judge(Judging {
+            asked,
+            after: self.after.clone(),
+            answer: self.answer.clone(),
+            notice: self.notice.clone(),
+        })
+    }
+
+    /// The old server did what ours does.
+    pub fn answer_as_ours(&mut self) {
+        let Due {
+            answer,
+            notice,
+            row,
+        } = due(&REQUEST_W10, &self.judged());
+        (self.answer, self.notice, self.after) = (answer, notice, row);
+    }
 }
 
 /// A request about a row, with what our own server makes of it.
 pub fn own_call(random: &mut Random) -> JudgeCall {
     let form = *random.pick(&FORMS);
+    own_call_in(form, random)
+}
+
+pub fn own_call_in(form: Form, random: &mut Random) -> JudgeCall {
     let sort = *random.pick(&SORTS);
     let mut case = match random.below(5) {
         0 | 1 => Case::full(form, random),
@@ -71,12 +107,7 @@ pub fn own_call(random: &mut Random) -> JudgeCall {
         planted: Vec::new(),
         wanted: Verdict::Accepted,
     };
-    let Due {
-        answer,
-        notice,
-        row,
-    } = due(&REQUEST_W10, &call.judged());
-    (call.answer, call.notice, call.after) = (answer, notice, row);
+    call.answer_as_ours();
     call
 }
 
@@ -111,6 +142,7 @@ fn vary(case: &mut Case, random: &mut Random) {
         }
         14 => case.draft.size = Some(*random.pick(&[16, 20, 4_100])),
         15 => write(&mut case.draft, W_APN, b"not entered"),
+        16 => fill(&mut case.draft, 4_096, random),
         _ => (),
     }
 }
@@ -137,17 +169,56 @@ fn damage(row: &mut [u8], random: &mut Random) {
     row[at] ^= 1;
 }
 
-/// An answer of the old server, in which so many mismatches are planted.
-pub fn old_call(mismatches: usize, random: &mut Random) -> JudgeCall {
-    let mut old = Old::new(own_call(random));
+/// The same answer as ours, in another order and with more in it, as the old server has it.
+pub fn old_answer(call: JudgeCall, random: &mut Random) -> Old {
+    let mut old = Old::new(call);
     old.reorder(random);
     old.add_to(random);
+    old
+}
+
+/// An answer of the old server, in which so many mismatches are planted.
+pub fn old_call(mismatches: usize, random: &mut Random) -> JudgeCall {
+    let mut old = old_answer(own_call(random), random);
     while old.call.planted.len() < mismatches {
-        if let Some(planted) = random.pick(&PLANTS)(&mut old, random) {
-            old.call.planted.push(planted);
+        let (_, name, plant) = random.pick(&PLANTS);
+        if plant(&mut old, random).is_some() {
+            old.call.planted.push(name);
         }
     }
     old.finish()
+}
+
+/// Changes a byte of the old answer, or takes out, doubles or exchanges words; the length in the
+/// header is most often made true again.
+pub fn change(call: &mut JudgeCall, random: &mut Random) {
+    let answer = &mut call.answer;
+    if answer.len() < 32 {
+        return;
+    }
+    let word = 20 + 4 * random.below((answer.len() - 20) / 4);
+    let other = 20 + 4 * random.below((answer.len() - 20) / 4);
+    match random.below(8) {
+        0..4 => {
+            let at = random.from_to(20, answer.len() - 1);
+            answer[at] = *random.pick(&[0, 1, 0x20, 0x40, 0x80, answer[at] ^ 1, answer[at] ^ 0x40]);
+        }
+        4 => drop(answer.drain(word.min(other)..word.max(other))),
+        5 => {
+            let words = answer[word.min(other)..word.max(other)].to_vec();
+            let at = 20 + 4 * random.below((answer.len() - 20) / 4);
+            answer.splice(at..at, words);
+        }
+        6 => answer.swap(word, other),
+        _ => {
+            let at = random.below(20);
+            answer[at] ^= 1 << random.below(8);
+        }
+    }
+    if !random.once_in(8) {
+        let length = (answer.len() as u32).to_be_bytes();
+        put(answer, 1, &length[1..]);
+    }
 }
 
 /// So many, the same for one seed on every machine: a third as it should be, the others with

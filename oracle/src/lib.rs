@@ -38,6 +38,8 @@ pub mod forms;
 pub mod framing;
 pub mod generator;
 pub mod history_calls;
+pub mod judge_rounds;
+pub mod judge_signs;
 pub mod judging_calls;
 pub mod move_signs;
 pub mod moves;

@@ -16,7 +16,7 @@ use oracle::year_calls::{self, year_calls};
 const USAGE: &str = "usage: oracle script|year|board [--seed N] [--calls M] [--out FILE] [--spoil 0|1] | oracle check FILE | oracle rollover";
 
 /// From this size on, a script in which something never comes up is a failure.
-const FULL_SIZE: usize = 6_000;
+const FULL_SIZE: usize = 8_000;
 
 fn main() -> ExitCode {
     let arguments: Vec<String> = std::env::args().skip(1).collect();
@@ -56,7 +56,7 @@ impl Options {
     fn read(words: &[&str]) -> Result<Options, String> {
         let mut options = Options {
             seed: 1,
-            calls: 6_000,
+            calls: FULL_SIZE,
             out: None,
             spoil: 0,
         };

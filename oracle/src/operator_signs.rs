@@ -120,7 +120,8 @@ pub fn signs_of_operators(
         | Operation::Abort(_)
         | Operation::Answered(_)
         | Operation::Burst(_)
-        | Operation::ReAuth(_) => return Vec::new(),
+        | Operation::ReAuth(_)
+        | Operation::Judge(_) => return Vec::new(),
         Operation::Enter { shares, .. } => {
             let new = NewRow {
                 operator: subject.operator,

@@ -4,12 +4,14 @@ use crate::Outcome;
 use crate::burst::{Burst, Taken};
 use crate::disconnecting::{Abort, Sent, Written};
 use crate::handling::Call;
+use crate::judging::{JudgeRules, Judged, Judgement, REQUEST_W10, Rooms, judge_in};
 use crate::reauth_calls::{ReAuthCall, given_by};
 use crate::reauthorizing::{ReAuth, ReAuthorized};
 use crate::rules::Rules;
 use crate::set_up::{Account, NewEntry, NewRow};
+use crate::the_table::put;
 
-/// A program that offers the nine operations: the oracle, or one compared with it. `form`
+/// A program that offers the ten operations: the oracle, or one compared with it. `form`
 /// is the one in which the table is lent; for a move, the one to move to.
 pub trait Program {
     fn clear(&mut self, form: u32, table: &mut [u8]) -> u8;
@@ -21,6 +23,7 @@ pub trait Program {
     fn belongs(&mut self, sent: &Sent, answer: &[u8]) -> bool;
     fn burst(&mut self, burst: &mut Burst) -> Taken;
     fn re_authorize(&mut self, call: &mut ReAuth) -> ReAuthorized;
+    fn judge(&mut self, judged: &Judged, rooms: Rooms) -> Judgement;
 }
 
 impl Program for Rules {
@@ -58,6 +61,14 @@ impl Program for Rules {
 
     fn re_authorize(&mut self, call: &mut ReAuth) -> ReAuthorized {
         (self.re_authorize)(self, call)
+    }
+
+    fn judge(&mut self, judged: &Judged, rooms: Rooms) -> Judgement {
+        let rules = JudgeRules {
+            server: *self,
+            ..REQUEST_W10
+        };
+        judge_in(&rules, judged, rooms)
     }
 }
 
@@ -155,6 +166,40 @@ impl Answering {
     }
 }
 
+/// The inputs of judging what the old server made of a request (W10), apart from the row
+/// before, which is the table.
+#[derive(Clone, Debug, PartialEq, Eq)]
+pub struct Judging {
+    pub asked: Asked,
+    pub after: Vec<u8>,
+    pub answer: Vec<u8>,
+    pub notice: Vec<u8>,
+}
+
+impl Judging {
+    pub fn judged<'a>(&'a self, before: &'a [u8]) -> Judged<'a> {
+        Judged {
+            form: self.asked.form,
+            before,
+            operator: self.asked.operator,
+            host: &self.asked.host,
+            realm: &self.asked.realm,
+            message: &self.asked.message,
+            wag: self.asked.wag,
+            answer: &self.answer,
+            notice: &self.notice,
+            after: &self.after,
+        }
+    }
+
+    pub fn rooms(&self) -> Rooms {
+        Rooms {
+            answer: self.asked.answer_room.length as usize,
+            notice: self.asked.notice_room.length as usize,
+        }
+    }
+}
+
 #[derive(Clone, Debug, PartialEq, Eq)]
 pub enum Operation {
     Clear {
@@ -186,6 +231,7 @@ pub enum Operation {
     Burst(Bursting),
     /// The gateway's; it has no table either.
     ReAuth(ReAuthCall),
+    Judge(Judging),
 }
 
 impl Operation {
@@ -198,6 +244,7 @@ impl Operation {
             | Operation::Move { form, .. } => Some(*form),
             Operation::Handle(asked) => Some(asked.form),
             Operation::Burst(asked) => Some(asked.form),
+            Operation::Judge(judging) => Some(judging.asked.form),
             Operation::Abort(_) | Operation::Answered(_) | Operation::ReAuth(_) => None,
         }
     }
@@ -211,6 +258,7 @@ impl Operation {
             | Operation::Move { form, .. } => *form = number,
             Operation::Handle(asked) => asked.form = number,
             Operation::Burst(asked) => asked.form = number,
+            Operation::Judge(judging) => judging.asked.form = number,
             Operation::Abort(_) | Operation::Answered(_) | Operation::ReAuth(_) => (),
         }
         self
@@ -222,15 +270,18 @@ impl Operation {
 /// writing an Abort-Session-Request the length too, and of an answer the first is 1 if it
 /// belongs. A burst has its own number, how many messages and bytes were taken, and how many
 /// bytes of answers and notices were written; it alone has places for results. A call of the
-/// gateway has code, kind, the length of the answer and that of the AA-Request. Set-up has
+/// gateway has code, kind, the length of the answer and that of the AA-Request, judging its
+/// number, the kind of the mismatch and its byte. Set-up has
 /// no rooms; the target of a move, and the room for an Abort-Session-Request, stand where
-/// the answer room does, and that for an AA-Request where the notice room does.
+/// the answer room does, and that for an AA-Request where the notice room does. Of judging
+/// alone it says how long our answer and our notice are that it wrote.
 #[derive(Clone, Debug, PartialEq, Eq, Default)]
 pub struct Seen {
     pub numbers: [u32; 8],
     pub answer_room: Vec<u8>,
     pub notice_room: Vec<u8>,
     pub results: Vec<[u32; 8]>,
+    pub ours: [usize; 2],
 }
 
 pub fn perform(program: &mut dyn Program, operation: &Operation, table: &mut [u8]) -> Seen {
@@ -270,6 +321,7 @@ pub fn perform(program: &mut dyn Program, operation: &Operation, table: &mut [u8
         Operation::Handle(asked) => return perform_handle(program, asked, table),
         Operation::Burst(asked) => return perform_burst(program, asked, table),
         Operation::ReAuth(call) => return perform_re_auth(program, call),
+        Operation::Judge(judging) => return perform_judge(program, judging, table),
         Operation::Move { form, target } => {
             seen.answer_room = target.fresh();
             program.move_table(table, &mut seen.answer_room, *form)
@@ -310,10 +362,10 @@ fn perform_handle(program: &mut dyn Program, asked: &Asked, table: &mut [u8]) ->
 
 fn perform_burst(program: &mut dyn Program, asked: &Bursting, table: &mut [u8]) -> Seen {
     let mut seen = Seen {
-        numbers: [0; 8],
         answer_room: asked.answer_room.fresh(),
         notice_room: asked.notice_room.fresh(),
         results: asked.fresh_places(),
+        ..Seen::default()
     };
     let taken = program.burst(&mut Burst {
         form: asked.form,
@@ -339,5 +391,22 @@ fn perform_re_auth(program: &mut dyn Program, call: &ReAuthCall) -> Seen {
         ..Seen::default()
     };
     seen.numbers[..4].copy_from_slice(&given.result.numbers());
+    seen
+}
+
+fn perform_judge(program: &mut dyn Program, judging: &Judging, table: &mut [u8]) -> Seen {
+    let mut seen = Seen {
+        answer_room: judging.asked.answer_room.fresh(),
+        notice_room: judging.asked.notice_room.fresh(),
+        ..Seen::default()
+    };
+    let judgement = program.judge(&judging.judged(table), judging.rooms());
+    seen.numbers[..3].copy_from_slice(&judgement.verdict.numbers());
+    if let Some(due) = judgement.written {
+        put(table, 0, &due.row);
+        put(&mut seen.answer_room, 0, &due.answer);
+        put(&mut seen.notice_room, 0, &due.notice);
+        seen.ours = [due.answer.len(), due.notice.len()];
+    }
     seen
 }

@@ -7,6 +7,7 @@ use crate::abort_signs::{WANTED_OF_ABORTS, answered_key, signs_of_aborts};
 use crate::burst_signs::{WANTED_OF_BURSTS, signs_of_bursts};
 use crate::either_case::{PAIRS, PLACES_OF_LABELS, Texts, pair_key, signs};
 use crate::form_signs::{WANTED_OF_FORMS, signs_of_forms};
+use crate::judge_signs::{WANTED_OF_JUDGEMENTS, judge_key, signs_of_judgements};
 use crate::known_avps::{known_and_ignored, unknown};
 use crate::operator_signs::{Subject, WANTED_OF_OPERATORS, signs_of_operators};
 use crate::program::{Asked, Operation, Seen};
@@ -40,14 +41,16 @@ const WANTED: [(&str, &str); 4] = [
     ("other command", "3001 3008 5013"),
 ];
 
-/// The numbers of the six operations that look at a table, apart from the codes above.
-const NUMBERS: [(&str, &[u32]); 6] = [
+/// The numbers of the seven operations that look at a table, apart from the codes above and
+/// from 32.
+const NUMBERS: [(&str, &[u32]); 7] = [
     ("clear", &[0, 1]),
     ("enter", &[0, 1, 33, 26, 9, 10, 27, 11]),
     ("add", &[0, 1, 33, 12, 13, 14, 15, 16, 17]),
     ("handle", &[1, 33, 2, 3, 4, 5, 6, 7, 8]),
     ("move", &[0, 1, 19, 20, 21]),
     ("burst", &[0, 1, 33, 2, 18]),
+    ("judge", &[0, 1, 33, 2, 3, 4, 31]),
 ];
 
 /// Everything that has to come up at least once.
@@ -77,6 +80,7 @@ fn wanted() -> Vec<String> {
     all.extend(WANTED_OF_ABORTS.iter().cloned());
     all.extend(WANTED_OF_BURSTS.iter().cloned());
     all.extend(WANTED_OF_RE_AUTHS.iter().cloned());
+    all.extend(WANTED_OF_JUDGEMENTS.iter().cloned());
     all
 }
 
@@ -142,12 +146,12 @@ fn name_key(name: Name) -> String {
     }
 }
 
-fn number_key(operation: &str, number: u32) -> String {
+pub fn number_key(operation: &str, number: u32) -> String {
     format!("{operation}: number {number}")
 }
 
 impl Report {
-    fn add(&mut self, key: String) {
+    pub fn add(&mut self, key: String) {
         *self.counts.entry(key).or_default() += 1;
     }
 
@@ -163,6 +167,7 @@ impl Report {
             Operation::Answered(_) => answered_key(code).to_string(),
             Operation::Burst(_) => number_key("burst", code),
             Operation::ReAuth(_) => re_auth_key(seen.numbers[1], code),
+            Operation::Judge(_) => judge_key(code, seen.numbers[1]),
             Operation::Handle(_) if seen.numbers[1] == 0 => number_key("handle", code),
             Operation::Handle(asked) => {
                 self.count_place(asked, table, seen);
@@ -197,6 +202,9 @@ impl Report {
             self.add(sign);
         }
         for sign in signs_of_re_auths(operation, seen) {
+            self.add(sign);
+        }
+        for sign in signs_of_judgements(operation, table, seen) {
             self.add(sign);
         }
         self.add(key);
@@ -342,7 +350,8 @@ fn subject(operation: &Operation) -> Subject<'_> {
         | Operation::Abort(_)
         | Operation::Answered(_)
         | Operation::Burst(_)
-        | Operation::ReAuth(_) => (0, &[][..]),
+        | Operation::ReAuth(_)
+        | Operation::Judge(_) => (0, &[][..]),
         Operation::Enter { operator, name, .. } | Operation::Add { operator, name, .. } => {
             (*operator, name.as_slice())
         }

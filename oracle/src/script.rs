@@ -1,7 +1,7 @@
 //! Scripts: operations with all their inputs and, beside them, what has to come of
 //! them; how they are recorded and how a program is judged by them.
 
-use crate::program::{Operation, Program, Room, Seen, perform};
+use crate::program::{Judging, Operation, Program, Room, Seen, perform};
 use crate::the_table::Form;
 
 /// A patch brings at most so many bytes.
@@ -97,6 +97,7 @@ fn written(operation: &Operation, seen: &Seen) -> (usize, usize) {
         Operation::Burst(_) => (numbers[3], numbers[4] * slot),
         Operation::Move { target, .. } if numbers[0] == 0 => (target.length as usize, 0),
         Operation::ReAuth(_) => (numbers[2], numbers[3]),
+        Operation::Judge(_) => seen.ours.into(),
         _ => (numbers[2], numbers[4] * slot),
     }
 }
@@ -155,7 +156,7 @@ fn compare(operation: &Operation, seen: &Seen, expected: &Expected) -> Result<()
         return Err("the results");
     }
     match operation {
-        Operation::Handle(asked) => {
+        Operation::Handle(asked) | Operation::Judge(Judging { asked, .. }) => {
             compare_rooms(asked.answer_room, asked.notice_room, seen, expected)?;
         }
         Operation::Burst(asked) => {
@@ -218,7 +219,7 @@ fn compare_table(table: &[u8], expected: &Expected) -> Result<(), &'static str> 
 }
 
 /// So many calls are spoiled.
-pub const SPOILED: usize = 40;
+pub const SPOILED: usize = 47;
 
 /// Spoils what is expected of these calls, a different thing of each: of requests the eight
 /// numbers, the answer, the notice, the table, and both digests; of moves the number, the target, and
@@ -227,7 +228,9 @@ pub const SPOILED: usize = 40;
 /// refused; whether an answer belongs; of bursts the five numbers, the answers, the notices, the
 /// table, the result of the last message, a place behind it, and a room that is expected to be
 /// written though the burst is refused; of calls of the gateway the four numbers, the answer,
-/// the AA-Request, and either room that is expected to be written though it is not. Whoever plays the script must
+/// the AA-Request, and either room that is expected to be written though it is not; of judgements
+/// the number, the mismatch, its byte, the answer, the notice, the row, and a room that is expected
+/// to be written though it is not. Whoever plays the script must
 /// report just these calls; a player that reports none of them can not be trusted with a script that is
 /// right. It says how many were spoiled.
 pub fn spoil(records: &mut [Record]) -> usize {
@@ -278,6 +281,14 @@ fn spoil_record(record: &mut Record, kind: usize) -> bool {
             37 => spoil_last(&mut expected.notice),
             38 => spoil_refused(call.answer_room, expected),
             39 => spoil_unwritten(call.request_room, &mut expected.notice),
+            _ => false,
+        },
+        Record::Call(Operation::Judge(judging), expected) => match kind {
+            40..43 => spoil_number(expected, kind - 40),
+            43 => spoil_last(&mut expected.answer),
+            44 => spoil_last(&mut expected.notice),
+            45 => spoil_changes(expected),
+            46 => spoil_refused(judging.asked.answer_room, expected),
             _ => false,
         },
         _ => false,

@@ -68,7 +68,7 @@ fn a_script_of_the_board_is_written() {
 #[test]
 fn nothing_is_missing_from_full_scripts() {
     for seed in ["1", "2", "3", "4"] {
-        let output = oracle(&["script", "--seed", seed, "--calls", "6000"]);
+        let output = oracle(&["script", "--seed", seed, "--calls", "8000"]);
         let report = String::from_utf8_lossy(&output.stderr).into_owned();
         assert_eq!(output.status.code(), Some(0), "{report}");
     }

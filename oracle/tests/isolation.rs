@@ -489,6 +489,7 @@ fn called_by(operation: &Operation, by: u32, form: Form, table: &[u8]) -> Operat
         Operation::Add { operator, .. } => *operator = by,
         Operation::Handle(asked) => asked.operator = by,
         Operation::Burst(asked) => asked.operator = by,
+        Operation::Judge(judging) => judging.asked.operator = by,
     }
     operation
 }

@@ -17,11 +17,13 @@ fn run(operation: &Operation, table: &mut [u8]) -> Seen {
     perform(&mut DOCUMENT_01.clone(), operation, table)
 }
 
-/// Whether a call ended in success: number 0 of a set-up, or 2001.
+/// Whether a call ended in success: number 0 of a set-up, or 2001. Judging writes what is due
+/// whatever it says of the old server.
 fn succeeded(operation: &Operation, seen: &Seen) -> bool {
     match operation {
         Operation::Handle(_) | Operation::ReAuth(_) => seen.numbers[0] == 2001,
         Operation::Answered(_) => seen.numbers[0] == 1,
+        Operation::Judge(_) => [0, 31, 32].contains(&seen.numbers[0]),
         _ => seen.numbers[0] == 0,
     }
 }
@@ -64,6 +66,10 @@ fn refusals_change_nothing() {
             assert!(seen.answer_room == asked.answer_room.fresh());
             assert!(seen.notice_room == asked.notice_room.fresh());
             assert!(seen.results == asked.fresh_places());
+        }
+        if let Operation::Judge(judging) = operation {
+            assert!(seen.answer_room == judging.asked.answer_room.fresh());
+            assert!(seen.notice_room == judging.asked.notice_room.fresh());
         }
         if let Operation::Handle(asked) = operation {
             assert!(seen.notice_room == asked.notice_room.fresh());

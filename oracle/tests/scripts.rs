@@ -44,7 +44,7 @@ fn the_frame_in_bytes() {
     let script = write(&[]);
     let body = [
         b"\x01\x00\x00\x00\x14WMSCRIPT",
-        &[0, 0, 0, 6, 0, 0, 0, 2][..],
+        &[0, 0, 0, 7, 0, 0, 0, 2][..],
     ]
     .concat();
     assert_eq!(script[..21], body);

@@ -10,7 +10,7 @@ use lib.ListN.{length, take}
 use Rattle.octets.specs.Choice.{pick}
 use Rattle.octets.specs.Texts.{same}
 use Rattle.octets.proofs.Lists.{by-test, both, same-refl}
-use Rattle.likeness.specs.TheSameAnswer.{Finding, nothing, differs, orElse, unless, agreeing, compared, fault, headerDue, headerFinding, misplaced, placeFinding, complete, missingFinding, avpsOf, answerFinding, sameAnswer}
+use Rattle.likeness.specs.TheSameAnswer.{Finding, differs, orElse, unless, agreeing, compared, fault, headerDue, headerFinding, misplaced, placeFinding, complete, missingFinding, avpsOf, answerFinding, sameAnswer}
 use Rattle.judge.specs.TheJudge.{Case, caseNumber, due, rowDue, firstMismatch, judged, agrees, Judgement}
 use Rattle.likeness.specs.declared.Found.{Found}
 use Rattle.likeness.specs.Code.{said}
@@ -34,28 +34,23 @@ compared-none kind s t = unless-none (same s t) kind (agreeing s t)
 
 -- THE ANSWER
 
-module _ (ours theirs : List ℕ) where
-  deep : eqb ((fault theirs) .number) 31 ≡ true → eqb ((answerFinding ours theirs) .number) 0 ≡ sameAnswer ours theirs
-  unfolding answerFinding sameAnswer pick
-  deep e =
-      let z : eqb ((fault theirs) .number) 0 ≡ false = ne-eqb ((fault theirs) .number) 0 (λ y. let x : (fault theirs) .number ≡ 31 = eqb-true ((fault theirs) .number) 31 e in absurd (omega arith)) in
-      rw (e, z) (sym (and-false (same (take 20 theirs) (headerDue ours (length theirs)))))
-
-  flat : eqb ((fault theirs) .number) 31 ≡ false → eqb ((answerFinding ours theirs) .number) 0 ≡ sameAnswer ours theirs
-  unfolding answerFinding sameAnswer headerFinding placeFinding missingFinding pick
-  flat e =
-      rw e
-      (rw (
-        both-none (headerFinding ours theirs) (orElse (fault theirs) (orElse (placeFinding (avpsOf ours) (avpsOf theirs)) (missingFinding (avpsOf ours) (avpsOf theirs)))),
-        both-none (fault theirs) (orElse (placeFinding (avpsOf ours) (avpsOf theirs)) (missingFinding (avpsOf ours) (avpsOf theirs))),
-        both-none (placeFinding (avpsOf ours) (avpsOf theirs)) (missingFinding (avpsOf ours) (avpsOf theirs)),
-        compared-none 1 (take 20 theirs) (headerDue ours (length theirs)),
-        unless-none (eqb (misplaced (avpsOf ours) (avpsOf theirs)) 0) 3 (misplaced (avpsOf ours) (avpsOf theirs)),
-        unless-none (complete (avpsOf ours) (avpsOf theirs)) 4 0,
-      ))
-
 pub told-exactly : ToldExactly
-told-exactly ours theirs = by-test (eqb ((fault theirs) .number) 31) (λ e. deep ours theirs e) (λ e. flat ours theirs e)
+unfolding answerFinding sameAnswer headerFinding placeFinding missingFinding pick
+told-exactly ours theirs =
+    by-test (eqb ((fault theirs) .number) 31)
+    (λ e.
+    let z : eqb ((fault theirs) .number) 0 ≡ false = ne-eqb ((fault theirs) .number) 0 (λ y. let x : (fault theirs) .number ≡ 31 = eqb-true ((fault theirs) .number) 31 e in absurd (omega arith)) in
+    rw (e, z) (sym (and-false (same (take 20 theirs) (headerDue ours (length theirs))))))
+    (λ e.
+    rw e
+    (rw (
+      both-none (headerFinding ours theirs) (orElse (fault theirs) (orElse (placeFinding (avpsOf ours) (avpsOf theirs)) (missingFinding (avpsOf ours) (avpsOf theirs)))),
+      both-none (fault theirs) (orElse (placeFinding (avpsOf ours) (avpsOf theirs)) (missingFinding (avpsOf ours) (avpsOf theirs))),
+      both-none (placeFinding (avpsOf ours) (avpsOf theirs)) (missingFinding (avpsOf ours) (avpsOf theirs)),
+      compared-none 1 (take 20 theirs) (headerDue ours (length theirs)),
+      unless-none (eqb (misplaced (avpsOf ours) (avpsOf theirs)) 0) 3 (misplaced (avpsOf ours) (avpsOf theirs)),
+      unless-none (complete (avpsOf ours) (avpsOf theirs)) 4 0,
+    )))
 
 -- A CASE
 

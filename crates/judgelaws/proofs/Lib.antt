@@ -3,5 +3,9 @@ pub mod Itself
 pub mod Rooms
 pub mod Names
 pub mod Own
+pub mod Parts
+pub mod Handled
 pub mod Accepted
+pub mod DueByNames
+pub mod Results
 pub mod WorkedCases

@@ -6,17 +6,16 @@ use Prim.Native.Nat.{ℕ, zero, suc, _+_, _-_, _≤_, _<_}
 use native.Mathlib.Omega.{arith}
 use borrow.Author.Tests.{eqb-true, eq-eqb, leb-true, le-leb, not-true}
 use lib.Dec.{eqb, leb}
-use lib.ListN.{length, drop, length-append, take}
+use lib.ListN.{length, drop, length-append}
 use lib.Seq.{append-snoc}
 use Rattle.octets.specs.Choice.{pick}
 use Rattle.octets.specs.Lists.{every, keep}
-use Rattle.octets.specs.Texts.{same}
 use Rattle.octets.proofs.Lists.{by-test, both, and-left, and-right, every-both, every-imp, keep-none}
 use Rattle.message.specs.ReadingAMessage.{Name, sameName, Avp, having, present}
 use Rattle.message.proofs.Gathering.{same-name-eq}
-use Rattle.likeness.specs.TheSameAnswer.{failedAvp, fault, headerDue, sameAvp, firstIs, met, fits, misplacedFrom, startsLike, misplaced, complete, avpsOf, sameAnswer}
-use Rattle.judgelaws.specs.TheJudgesRules.{oneByOne, mayStand, byNames, SameByNames, SameAnswerByNames}
-use Rattle.judgelaws.proofs.Itself.{having-append, having-own, there}
+use Rattle.likeness.specs.TheSameAnswer.{failedAvp, sameAvp, firstIs, met, fits, misplacedFrom, startsLike, misplaced, complete, avpsOf, sameAnswer}
+use Rattle.likeness.proofs.Itself.{having-append, having-own, there}
+use Rattle.judgelaws.specs.TheJudgesRules.{oneByOne, mayStand, byNames, answerByNames, SameByNames, SameAnswerByNames}
 
 -- ONE BY ONE
 
@@ -29,7 +28,7 @@ meets (x ∷ xs) (y ∷ ys) = sameAvp x y && meets xs ys
 one-by-one : (xs ys : List Avp) → meets xs ys ≡ true → length xs ≤ length ys → oneByOne xs ys ≡ true
 unfolding meets oneByOne
 one-by-one [] [] m l = refl
-one-by-one [] (y ∷ ys) m l = m
+one-by-one [] (y ∷ ys) m l = let z : _≡_ {A = ℕ} 0 1 = cc in absurd (omega arith)
 one-by-one (x ∷ xs) [] m l = absurd (omega arith)
 one-by-one (x ∷ xs) (y ∷ ys) m l = both (and-left (sameAvp x y) (meets xs ys) m) (one-by-one xs ys (and-right (sameAvp x y) (meets xs ys) m) (omega arith))
 
@@ -180,7 +179,7 @@ own-there (a ∷ xs) before whole e =
 
 -- FROM NAMES TO PLACES
 
-by-name : (g : Name → Bool) (n : Name) (xs : List Avp) → every (λ (a : Avp). g (a .name)) xs ≡ true → (length (having n xs) ≡ 0 → ⊥) → g n ≡ true
+pub by-name : (g : Name → Bool) (n : Name) (xs : List Avp) → every (λ (a : Avp). g (a .name)) xs ≡ true → (length (having n xs) ≡ 0 → ⊥) → g n ≡ true
 unfolding every
 by-name g n [] e h = absurd (h (ap length (having-nil n)))
 by-name g n (a ∷ xs) e h =
@@ -188,7 +187,7 @@ by-name g n (a ∷ xs) e h =
     (λ t. ap g (same-name-eq n (a .name) t) ∙ and-left (g (a .name)) (every (λ (b : Avp). g (b .name)) xs) e)
     (λ t. by-name g n xs (and-right (g (a .name)) (every (λ (b : Avp). g (b .name)) xs) e) (λ z. h (ap length (having-other n a xs t) ∙ z)))
 
-there-some : (n : Name) (xs : List Avp) → present n xs ≡ true → length (having n xs) ≡ 0 → ⊥
+pub there-some : (n : Name) (xs : List Avp) → present n xs ≡ true → length (having n xs) ≡ 0 → ⊥
 unfolding present
 there-some n xs p z = let y : false ≡ true = rw (eq-eqb (length (having n xs)) 0 z) at p in let w : _≡_ {A = ℕ} 0 1 = cc in absurd (omega arith)
 
@@ -256,7 +255,7 @@ regrouped true b c = refl
 regrouped false b c = refl
 
 pub same-answer-by-names : SameAnswerByNames
-unfolding sameAnswer
+unfolding sameAnswer answerByNames
 same-answer-by-names ours theirs u =
     let o : List Avp = avpsOf ours in
     let t : List Avp = avpsOf theirs in
@@ -264,4 +263,4 @@ same-answer-by-names ours theirs u =
     ap (λ (b : Bool). b && complete o t) (misplaced-none o t)
     ∙ regrouped (startsLike o t) (eqb (misplacedFrom o t 20 t) 0) (complete o t)
     ∙ ap (λ (b : Bool). startsLike o t && b) (same-by-names o t u) in
-    ap (λ (b : Bool). same (take 20 theirs) (headerDue ours (length theirs)) && (eqb ((fault theirs) .number) 0 && b)) e
+    rw e

@@ -1,7 +1,8 @@
--- Everything that our own server writes is walked to its end: each part of an answer is passed over by the walk into groups, whatever stands behind it.
+-- Everything that our own server writes is walked to its end: each part of an answer is passed over by the walk into groups, and read as AVPs of certain names, whatever stands
+-- behind it.
 use mathlib.Core.Path.{_≡_, refl, sym, ap, _∙_}
-use mathlib.Core.Bool.{true, false}
-use mathlib.Core.List.{List, [], _++_, append-assoc, append-nil}
+use mathlib.Core.Bool.{Bool, true, false}
+use mathlib.Core.List.{List, [], _∷_, _++_, append-assoc, append-nil}
 use Prim.Native.Nat.{ℕ, zero, suc, _+_, _-_, _≤_, _<_}
 use native.Mathlib.Omega.{arith}
 use borrow.Author.Tests.{eq-eqb, ne-eqb, eqb-true, leb-true, leb-false}
@@ -9,17 +10,25 @@ use lib.Dec.{eqb, leb}
 use lib.ListN.{length, getD, take, drop, length-append}
 use lib.Seq.{take-at, drop-at, take-take, take-append-le, getD-take, length-take-le}
 use Rattle.octets.specs.Choice.{pick}
-use Rattle.octets.specs.Lists.{keep}
+use Rattle.octets.specs.Lists.{every, keep}
 use Rattle.octets.specs.Texts.{part, zeros}
 use Rattle.octets.specs.Numbers.{net24, net32, in24, in32, up4}
-use Rattle.octets.proofs.Lists.{by-test}
-use Rattle.message.specs.ReadingAMessage.{base, sameName, proxyInfo, headLength, avpLength, avpCode, avpOf, requestCode, behind, walkOne, walkUpTo, having}
+use Rattle.octets.proofs.Lists.{by-test, every-append, every-one, every-imp}
+use Rattle.message.specs.ReadingAMessage.{Name, base, sameName, proxyInfo, Avp, headLength, avpLength, avpCode, avpOf, requestCode, Walk, behind, walkOne, walkUpTo, walk, having}
 use Rattle.message.specs.WritingTheAnswer.{avpBytes, allBytes}
 use Rattle.message.proofs.Heads.{head-base, name-base, name-v, code-none}
-use Rattle.message.proofs.Walks.{Passed, passes, head-least, up4-least, request-four}
+use Rattle.message.proofs.Walks.{Passed, passes, head-least, up4-least, walk-end, walk-one, request-four}
 use Rattle.answers.proofs.Writing.{length-avp}
-use Rattle.likeness.specs.TheSameAnswer.{Finding, nothing, orElse, isGroup, insideOf, faultOne, faultBy}
+use Rattle.likeness.specs.TheSameAnswer.{Finding, nothing, orElse, isGroup, insideOf, faultOne, faultBy, flagByte}
+use Rattle.likeness.proofs.Places.{flags-are}
 use Rattle.likeness.proofs.Groups.{fault-is}
+
+-- ONE AVP
+
+-- an AVP that passes is read, and then those behind it
+first-read : (s : List ℕ) → avpCode s ≡ 0 → (walk s) .avps ≡ avpOf s ∷ (walk (drop (up4 (avpLength s)) s)) .avps
+unfolding behind
+first-read s k = ap (λ (w : Walk). w .avps) (walk-one avpCode (λ s e. e) s k)
 
 -- ONE AVP OF OURS
 
@@ -60,12 +69,18 @@ module _ (code : ℕ) (v rest : List ℕ) (small : code < 65536) (short : length
       let s : List ℕ = avpBytes code v ++ rest in
       code-none s (omega (arith, size)) (rw flags-read) (omega (arith, head-read, length-read)) (rw (length-read, up4-8 (length v)) (omega (arith, size)))
 
-  name-read : (avpOf (avpBytes code v ++ rest)) .name ≡ base code
+  pub name-read : (avpOf (avpBytes code v ++ rest)) .name ≡ base code
   name-read = name-base (avpBytes code v ++ rest) (rw flags-read (omega arith)) ∙ ap base code-read
 
   value-is : (avpOf (avpBytes code v ++ rest)) .value ≡ v
   unfolding avpOf
   value-is = let q : 8 + length v - 8 ≡ length v = omega arith in rw (head-read, length-read, q) value-read
+
+  pub own-flags : flagByte (avpOf (avpBytes code v ++ rest)) ≡ 64
+  own-flags = flags-are (avpBytes code v ++ rest) 0 tests-pass ∙ flags-read
+
+  pub own-read : (walk (avpBytes code v ++ rest)) .avps ≡ avpOf (avpBytes code v ++ rest) ∷ (walk rest) .avps
+  own-read = first-read (avpBytes code v ++ rest) tests-pass ∙ ap (λ (r : List ℕ). avpOf (avpBytes code v ++ rest) ∷ (walk r) .avps) rest-read
 
 -- PASSED OVER
 
@@ -81,30 +96,85 @@ module _ (inside : ℕ → List ℕ → Finding) where
       (λ g. fault-is inside at s ∙ rw (l, k, g, eq-eqb ((inside (at + 8) ((avpOf s) .value)) .number) 0 (h g)))
       (λ g. fault-is inside at s ∙ rw (l, k, g))
 
+module _ (inside : ℕ → List ℕ → Finding) (f : Name → Bool) where
+  -- What the two walks make of a part with other bytes behind it: nothing is found in it, and it is read as AVPs of which every name passes a test.
+  pub record Goes (at : ℕ) (p rest : List ℕ) : Type 0 where
+    pub found : faultBy inside at (p ++ rest) ≡ faultBy inside (at + length p) rest
+    pub these : List Avp
+    pub read : (walk (p ++ rest)) .avps ≡ these ++ (walk rest) .avps
+    pub named : every (λ (a : Avp). f (a .name)) these ≡ true
+
   abbrev pub Over : List ℕ → Type 0
-  Over p = (at : ℕ) (rest : List ℕ) → faultBy inside at (p ++ rest) ≡ faultBy inside (at + length p) rest
+  Over p = (at : ℕ) (rest : List ℕ) → Goes at p rest
 
   pub over-nil : Over []
-  over-nil at rest = let z : at + 0 ≡ at = omega arith in rw z
+  unfolding every
+  over-nil at rest = record { found = let z : at + 0 ≡ at = omega arith in rw z; these = []; read = refl; named = refl }
 
   pub over-append : (p q : List ℕ) → Over p → Over q → Over (p ++ q)
-  over-append p q f g at rest =
+  over-append p q F G at rest =
+      let a : Goes at p (q ++ rest) = F at (q ++ rest) in
+      let b : Goes (at + length p) q rest = G (at + length p) rest in
       let l : at + length (p ++ q) ≡ at + length p + length q = rw (length-append p q) (omega arith) in
-      ap (faultBy inside at) (append-assoc p q rest) ∙ f at (q ++ rest) ∙ g (at + length p) rest ∙ ap (λ (i : ℕ). faultBy inside i rest) (sym l)
+      record {
+        found = ap (faultBy inside at) (append-assoc p q rest) ∙ a .found ∙ b .found ∙ ap (λ (i : ℕ). faultBy inside i rest) (sym l);
+        these = a .these ++ b .these;
+        read =
+            ap (λ (s : List ℕ). (walk s) .avps) (append-assoc p q rest)
+            ∙ a .read
+            ∙ ap (λ (xs : List Avp). a .these ++ xs) (b .read)
+            ∙ sym (append-assoc (a .these) (b .these) ((walk rest) .avps));
+        named = every-append (λ (x : Avp). f (x .name)) (a .these) (b .these) (a .named) (b .named);
+      }
 
-  pub over-avp : (code : ℕ) (v : List ℕ) → code < 65536 → length v ≤ 65000 → (isGroup (base code) ≡ true → (p : ℕ) → (inside p v) .number ≡ 0) → Over (avpBytes code v)
-  over-avp code v small short h at rest =
-      let s : List ℕ = avpBytes code v ++ rest in
-      let e : at + up4 (avpLength s) ≡ at + length (avpBytes code v) = rw (length-read code v rest small short, up4-8 (length v), length-avp code v) in
-      on at s (tests-pass code v rest small short)
-      (λ g. ap (λ (w : List ℕ). (inside (at + 8) w) .number) (value-is code v rest small short) ∙ h (sym (ap isGroup (name-read code v rest small short)) ∙ g) (at + 8))
-      ∙ ap (λ (i : ℕ). faultBy inside i (drop (up4 (avpLength s)) s)) e
-      ∙ ap (faultBy inside (at + length (avpBytes code v))) (rest-read code v rest small short)
+  -- one AVP, of this name
+  over-one : (at : ℕ) (p rest : List ℕ) (n : Name) → avpCode (p ++ rest) ≡ 0 → up4 (avpLength (p ++ rest)) ≡ length p
+      → drop (up4 (avpLength (p ++ rest))) (p ++ rest) ≡ rest → (avpOf (p ++ rest)) .name ≡ n → f n ≡ true
+      → (isGroup n ≡ true → (inside (at + 8) ((avpOf (p ++ rest)) .value)) .number ≡ 0) → Goes at p rest
+  over-one at p rest n k l d e t h =
+      let s : List ℕ = p ++ rest in
+      record {
+        found =
+            on inside at s k (λ g. h (sym (ap isGroup e) ∙ g))
+            ∙ ap (λ (i : ℕ). faultBy inside (at + i) (drop (up4 (avpLength s)) s)) l
+            ∙ ap (faultBy inside (at + length p)) d;
+        these = avpOf s ∷ [];
+        read = first-read s k ∙ ap (λ (r : List ℕ). avpOf s ∷ (walk r) .avps) d;
+        named = every-one (λ (x : Avp). f (x .name)) (avpOf s) (ap f e ∙ t);
+      }
 
-  -- where all is passed over nothing is found
+  pub over-avp : (code : ℕ) (v : List ℕ) → code < 65536 → length v ≤ 65000 → f (base code) ≡ true → (isGroup (base code) ≡ true → (p : ℕ) → (inside p v) .number ≡ 0)
+      → Over (avpBytes code v)
+  over-avp code v small short t h at rest =
+      over-one at (avpBytes code v) rest (base code) (tests-pass code v rest small short)
+      (rw (length-read code v rest small short, up4-8 (length v), length-avp code v)) (rest-read code v rest small short) (name-read code v rest small short) t
+      (λ g. ap (λ (w : List ℕ). (inside (at + 8) w) .number) (value-is code v rest small short) ∙ h g (at + 8))
+
+  -- where all is passed over nothing is found, and every name passes
   pub over-all : (p : List ℕ) (at : ℕ) → Over p → faultBy inside at p ≡ nothing
   unfolding faultOne pick
-  over-all p at f = ap (faultBy inside at) (sym (append-nil p)) ∙ f at [] ∙ fault-is inside (at + length p) []
+  over-all p at F = ap (faultBy inside at) (sym (append-nil p)) ∙ (F at []) .found ∙ fault-is inside (at + length p) []
+
+  pub all-named : (p : List ℕ) → Over p → every (λ (a : Avp). f (a .name)) ((walk p) .avps) ≡ true
+  all-named p F =
+      let g : Goes 0 p [] = F 0 [] in
+      let e : (walk p) .avps ≡ g .these =
+      ap (λ (s : List ℕ). (walk s) .avps) (sym (append-nil p))
+      ∙ g .read
+      ∙ ap (λ (w : Walk). g .these ++ w .avps) (walk-end avpCode (λ s e. e) [] refl)
+      ∙ append-nil (g .these) in
+      ap (every (λ (a : Avp). f (a .name))) e ∙ g .named
+
+-- a test that lets more pass
+pub over-more : (inside : ℕ → List ℕ → Finding) (f g : Name → Bool) → ((n : Name) → f n ≡ true → g n ≡ true) → (p : List ℕ) → Over inside f p → Over inside g p
+over-more inside f g w p F at rest =
+    let a : Goes inside f at p rest = F at rest in
+    record {
+      found = a .found;
+      these = a .these;
+      read = a .read;
+      named = every-imp (λ (x : Avp). f (x .name)) (λ (x : Avp). g (x .name)) (λ x e. w (x .name) e) (a .these) (a .named);
+    }
 
 -- A PROXY-INFO, as it came
 
@@ -159,26 +229,28 @@ module _ (s rest : List ℕ) (k : avpCode s ≡ 0) where
         code-none t (omega (arith, copied-size, least)) (rw (byte 4 (omega arith)) ((passes s k) .clear)) (omega (arith, h, g, copied-length, (passes s k) .head))
         (rw copied-length (omega (arith, copied-size)))
 
-over-copied : (inside : ℕ → List ℕ → Finding) (s : List ℕ) → avpCode s ≡ 0 → sameName proxyInfo ((avpOf s) .name) ≡ true → Over inside (take (up4 (avpLength s)) s)
+over-copied : (inside : ℕ → List ℕ → Finding) (f : Name → Bool) → f proxyInfo ≡ true → (s : List ℕ) → avpCode s ≡ 0 → sameName proxyInfo ((avpOf s) .name) ≡ true
+    → Over inside f (take (up4 (avpLength s)) s)
 unfolding isGroup sameName
-over-copied inside s k u at rest =
-    let t : List ℕ = take (up4 (avpLength s)) s ++ rest in
-    let none : isGroup ((avpOf t) .name) ≡ false = ap isGroup (copied-name s rest k u) in
-    on inside at t (copied-passes s rest k u) (λ g. let z : false ≡ true = sym none ∙ g in let y : _≡_ {A = ℕ} 0 1 = cc in absurd (omega arith))
-    ∙ rw (copied-length s rest k, copied-rest s rest k, whole s rest k)
+over-copied inside f t s k u at rest =
+    let c : List ℕ = take (up4 (avpLength s)) s in
+    over-one inside f at c rest proxyInfo (copied-passes s rest k u) (ap up4 (copied-length s rest k) ∙ sym (whole s rest k))
+    (ap (λ (i : ℕ). drop (up4 i) (c ++ rest)) (copied-length s rest k) ∙ copied-rest s rest k) (copied-name s rest k u) t
+    (λ g. let z : false ≡ true = g in let y : _≡_ {A = ℕ} 0 1 = cc in absurd (omega arith))
 
-pub over-walk : (inside : ℕ → List ℕ → Finding) (k : ℕ) (s : List ℕ) → Over inside (allBytes (having proxyInfo ((walkUpTo requestCode k s) .avps)))
+pub over-walk : (inside : ℕ → List ℕ → Finding) (f : Name → Bool) → f proxyInfo ≡ true → (k : ℕ) (s : List ℕ)
+    → Over inside f (allBytes (having proxyInfo ((walkUpTo requestCode k s) .avps)))
 unfolding walkUpTo walkOne pick having keep allBytes behind avpOf
-over-walk inside zero s = over-nil inside
-over-walk inside (suc k) s =
+over-walk inside f h zero s = over-nil inside f
+over-walk inside f h (suc k) s =
     by-test (eqb (length s) 0)
-    (λ z. rw z (over-nil inside))
+    (λ z. rw z (over-nil inside f))
     (λ z.
     by-test (eqb (requestCode s) 0)
     (λ t.
     let c : avpCode s ≡ 0 = request-four s (eqb-true (requestCode s) 0 t) in
-    let r = over-walk inside k (drop (up4 (avpLength s)) s) in
+    let r = over-walk inside f h k (drop (up4 (avpLength s)) s) in
     by-test (sameName proxyInfo ((avpOf s) .name))
-    (λ u. rw (z, t, u) (over-append inside (take (up4 (avpLength s)) s) _ (over-copied inside s c u) r))
+    (λ u. rw (z, t, u) (over-append inside f (take (up4 (avpLength s)) s) _ (over-copied inside f h s c u) r))
     (λ u. rw (z, t, u) r))
-    (λ t. rw (z, t) (over-nil inside)))
+    (λ t. rw (z, t) (over-nil inside f)))

@@ -1,16 +1,16 @@
 -- What holds of judging (request W10 of document 02).
 use mathlib.Core.Path.{_≡_}
 use mathlib.Core.Bool.{Bool, true, false, _&&_, _||_, not}
-use mathlib.Core.List.{List, [], _∷_}
+use mathlib.Core.List.{List, [], _∷_, map}
 use Prim.Native.Nat.{ℕ, _≤_}
 use lib.Dec.{eqb}
 use lib.ListN.{length, take}
-use Rattle.octets.specs.Lists.{every}
+use Rattle.octets.specs.Lists.{every, keep}
 use Rattle.octets.specs.Texts.{part, same}
-use Rattle.message.specs.ReadingAMessage.{sameName, Avp, having, present}
+use Rattle.message.specs.ReadingAMessage.{Name, base, sameName, Avp, having, present}
 use Rattle.rules.specs.Calls.{Call}
 use Rattle.order.specs.Demand3.{brought}
-use Rattle.likeness.specs.TheSameAnswer.{nothing, failedAvp, fault, trueLength, headerDue, sameAvp, misplacedFrom, startsLike, complete, avpsOf, answerFinding, sameAnswer}
+use Rattle.likeness.specs.TheSameAnswer.{nothing, failedAvp, fault, trueLength, headerDue, flagByte, sameAvp, misplacedFrom, startsLike, complete, avpsOf, answerFinding, sameAnswer}
 use Rattle.likeness.specs.declared.Found.{Found}
 use Rattle.judge.specs.TheJudge.{Case, caseNumber, due, rowDue, judged, agrees, judge}
 use Rattle.judge.specs.Code.{leaves}
@@ -72,10 +72,61 @@ byNames ours theirs = every (λ (a : Avp). oneByOne (having (a .name) ours) (hav
 abbrev pub SameByNames : Type 0
 SameByNames = (ours theirs : List Avp) → having failedAvp ours ≡ [] → eqb (misplacedFrom ours theirs 20 theirs) 0 && complete ours theirs ≡ byNames ours theirs
 
--- The same answer, as a whole: the header due, no AVP that fails and no group too deep, Session-Id first where ours has it first, and the same by names.
-abbrev pub SameAnswerByNames : Type 0
-SameAnswerByNames =
-    (ours theirs : List ℕ) → having failedAvp (avpsOf ours) ≡ []
-    → sameAnswer ours theirs
-    ≡ same (take 20 theirs) (headerDue ours (length theirs))
+-- The same answer by names, as a whole: the header due, no AVP that fails and no group too deep, Session-Id first where ours has it first, and the same by names.
+unfoldable pub answerByNames : (ours theirs : List ℕ) → Bool
+answerByNames ours theirs =
+    same (take 20 theirs) (headerDue ours (length theirs))
     && (eqb ((fault theirs) .number) 0 && (startsLike (avpsOf ours) (avpsOf theirs) && byNames (avpsOf ours) (avpsOf theirs)))
+
+abbrev pub SameAnswerByNames : Type 0
+SameAnswerByNames = (ours theirs : List ℕ) → having failedAvp (avpsOf ours) ≡ [] → sameAnswer ours theirs ≡ answerByNames ours theirs
+
+-- No answer of ours has a Failed-AVP.
+abbrev pub OursHasNoFailedAvp : Type 0
+OursHasNoFailedAvp = (j : Case) → having failedAvp (avpsOf ((due j) .answer)) ≡ []
+
+-- So every case, without a word on Failed-AVP: it is accepted exactly where it fails no test of its own, the answer is the one due by names, and notice and row are those due.
+abbrev pub DueByNames : Type 0
+DueByNames =
+    (j : Case)
+    → eqb ((judged j) .number) 0
+    ≡ eqb (caseNumber j) 0
+    && (answerByNames ((due j) .answer) (j .answer) && (same (j .notice) ((due j) .notice) && same (j .after) (rowDue j)))
+
+-- ONE RESULT
+
+-- Result-Code and Experimental-Result, none with V.
+unfoldable pub isResult : Name → Bool
+isResult n = sameName (base 268) n || sameName (base 297) n
+
+-- An AVP tells a result if it is one of them, with M.
+unfoldable pub tellsResult : Avp → Bool
+tellsResult a = a .mandatory && isResult (a .name)
+
+unfoldable pub results : List Avp → List Avp
+results xs = keep tellsResult xs
+
+-- What is compared of an AVP: its name, its flags and its value.
+pub record Compared : Type 0 where
+  pub name : Name
+  pub flags : ℕ
+  pub value : List ℕ
+
+unfoldable pub comparedOf : Avp → Compared
+comparedOf a = record { name = a .name; flags = flagByte a; value = a .value }
+
+-- An answer that is accepted tells the result that ours tells, and no other.
+abbrev pub ResultDue : Type 0
+ResultDue = (j : Case) → (judged j) .number ≡ 0 → map comparedOf (results (avpsOf (j .answer))) ≡ map comparedOf (results (avpsOf ((due j) .answer)))
+
+-- Where an answer is due, it tells exactly one.
+abbrev pub OneResult : Type 0
+OneResult = (j : Case) → (judged j) .number ≡ 0 → (length ((due j) .answer) ≡ 0 → ⊥) → length (results (avpsOf (j .answer))) ≡ 1
+
+-- Two answers to one request, both accepted, tell the same result, whatever else stands in them. One request: the same form, row before it, operator, message, names and word of
+-- the WAG.
+abbrev pub SameResult : Type 0
+SameResult =
+    (j k : Case) → j .form ≡ k .form → j .before ≡ k .before → brought (j .form) (j .call) ≡ brought (k .form) (k .call)
+    → (judged j) .number ≡ 0 → (judged k) .number ≡ 0
+    → map comparedOf (results (avpsOf (j .answer))) ≡ map comparedOf (results (avpsOf (k .answer)))

@@ -1,11 +1,18 @@
--- The numbers of a case and the order of its comparisons, computed by the definitions alone. What a call of ours gives is worked in `rules`, and answers in `likeness`.
+-- The numbers of a case, the order of its comparisons and one case as a whole, computed by the definitions alone. What a call of ours gives is worked in `rules`, and answers in `likeness`.
 use mathlib.Core.Bool.{Bool, true, _&&_}
-use mathlib.Core.List.{[], _∷_}
-use Prim.Native.Nat.{ℕ}
+use mathlib.Core.List.{List, [], _∷_, _++_}
+use Prim.Native.Nat.{ℕ, suc, _+_}
 use lib.Dec.{eqb}
-use Rattle.octets.specs.Texts.{zeros}
+use lib.ListN.{length, getD, take, drop}
+use Rattle.octets.specs.Numbers.{in24}
+use Rattle.octets.specs.Texts.{part, zeros}
+use Rattle.message.specs.WorkedCases.{board, openAt, ownHost, ownRealm, session}
+use Rattle.rules.specs.Calls.{Call, Left, handle}
+use Rattle.rules.specs.WorkedCases.{ask, start}
+use Rattle.order.specs.Demand3.{Told, told}
+use Rattle.likeness.specs.TheSameAnswer.{Finding}
 use Rattle.likeness.specs.WorkedCases.{ours, tells}
-use Rattle.judge.specs.TheJudge.{caseNumber}
+use Rattle.judge.specs.TheJudge.{caseNumber, judged}
 use Rattle.judge.specs.Code.{between}
 
 -- A case by lengths alone: of the row before and after, and of the names and the rooms of the call.
@@ -44,3 +51,36 @@ theOrder =
     && (tells (between ours ours (1 ∷ 2 ∷ []) [] (3 ∷ 4 ∷ []) (4 ∷ 4 ∷ [])) 32 5 0
     && (tells (between ours ours [] (1 ∷ 2 ∷ []) (3 ∷ 4 ∷ []) (4 ∷ 4 ∷ [])) 32 5 0
     && tells (between ours ours [] [] (3 ∷ 4 ∷ []) (3 ∷ 5 ∷ [])) 32 6 1))))
+
+-- A WHOLE CASE: the third opening of the worked cases of `rules`, which cuts the first.
+
+unfoldable pub rowOfTwo : List ℕ
+rowOfTwo = let a : Left = ask start (openAt (session 97) board) in (ask (a .table) (openAt (session 98) board)) .table .bytes
+
+unfoldable pub third : Call
+third = record { operator = 0; message = openAt (session 99) board; host = ownHost; realm = ownRealm; answer = zeros 5120; notice = zeros 256; wag = true }
+
+unfoldable pub judgedAs : (before answer notice after : List ℕ) → Finding
+judgedAs before answer notice after = judged (record { form = 1; before = before; after = after; call = third; answer = answer; notice = notice })
+
+-- Session-Id ends at byte 32 of our answer, the two AVPs of authorization at 56, Result-Code at 68, and the answer at 136.
+unfoldable pub authBehind : List ℕ → List ℕ
+authBehind answer = take 32 answer ++ (drop 56 answer ++ part answer 32 24)
+
+unfoldable pub resultTwice : List ℕ → List ℕ
+resultTwice answer = 1 ∷ in24 (length answer + 12) ++ (drop 4 answer ++ part answer 56 12)
+
+unfoldable pub byteMore : ℕ → List ℕ → List ℕ
+byteMore i row = take i row ++ (suc (getD row i 0) ∷ drop (suc i) row)
+
+-- What our own server writes; the same in another order; Result-Code once more, behind the others; no notice; and a row with another byte.
+unfoldable pub theWhole : Bool
+theWhole =
+    let before : List ℕ = rowOfTwo in
+    let l : Left = handle (record { form = 1; bytes = before }) third in
+    let own : Told = told 1 (l .reply) in
+    let row : List ℕ = l .table .bytes in
+    tells (judgedAs before (own .answer) (own .notice) row) 0 0 0
+    && (tells (judgedAs before (authBehind (own .answer)) (own .notice) row) 0 0 0
+    && (tells (judgedAs before (resultTwice (own .answer)) (own .notice) row) 32 3 136
+    && (tells (judgedAs before (own .answer) [] row) 32 5 0 && tells (judgedAs before (own .answer) (own .notice) (byteMore 515 row)) 32 6 515)))

@@ -6,3 +6,5 @@ pub mod Headers
 pub mod Fitting
 pub mod Groups
 pub mod Whole
+pub mod Itself
+pub mod Alike

@@ -2,7 +2,7 @@
 use mathlib.Core.Path.{_≡_, sym, ap, _∙_}
 use mathlib.Core.Bool.{Bool, false, _&&_, and-false}
 use mathlib.Core.List.{List, [], _∷_}
-use Prim.Native.Nat.{ℕ, _+_, _-_, _≤_, _<_}
+use Prim.Native.Nat.{ℕ, _+_, _-_, _%_, _≤_, _<_}
 use native.Mathlib.Omega.{arith}
 use borrow.Author.Tests.{eqb-true, eqb-false, eq-eqb, ne-eqb, leb-true, leb-false, ltb-true, ltb-false}
 use lib.Dec.{eqb, leb, ltb}
@@ -14,7 +14,7 @@ use Rattle.octets.specs.Texts.{same}
 use Rattle.octets.proofs.Lists.{by-test}
 use Rattle.message.specs.ReadingAMessage.{base, vendor, sameName, headLength, avpLength, avpCode, avpOf, Walk, behind, walk}
 use Rattle.message.proofs.Walks.{Passed, passes, up4-least, walk-end, walk-bad, walk-one}
-use Rattle.message.proofs.Heads.{net24-drop, net32-drop, head-v, head-base, name-v, name-base, code-few}
+use Rattle.message.proofs.Heads.{net24-drop, net32-drop, head-v, head-base, name-v, name-base, code-few, code-bits, code-length, code-past, code-none}
 use Rattle.message.proofs.Gathering.{next-on}
 use Rattle.likeness.specs.TheSameAnswer.{flagByte, sameAvp}
 use Rattle.likeness.specs.Code.{avpAt, avpsFrom, nextAt, Stands}
@@ -64,6 +64,51 @@ module _ (m : List ℕ) (at : ℕ) where
   fails-here e z =
       let n : nextAt m at ≡ at + up4 (avpLength (drop at m)) = next-is z in
       omega (arith, e, n, (reaches m at z) .0)
+
+  -- by its bytes: too few of them, wrong flags, a length under its header's or past the end, and what is left
+  pub next-few : length m < at + 8 → nextAt m at ≡ 0
+  next-few h =
+      let c : avpCode (drop at m) ≡ 5014 = code-few (drop at m) (rw length-drop (omega arith)) in
+      next-none (λ z. omega (arith, c, z))
+
+  module _ (g : at + 8 ≤ length m) where
+    eight-left : 8 ≤ length (drop at m)
+    eight-left = rw length-drop (omega arith)
+
+    pub next-bits : (getD m (at + 4) 0 % 32 ≡ 0 → ⊥) → nextAt m at ≡ 0
+    next-bits f =
+        let c : avpCode (drop at m) ≡ 3009 = code-bits (drop at m) eight-left (λ z. f (rw getD-drop at z)) in
+        next-none (λ z. omega (arith, c, z))
+
+    module _ (b : getD m (at + 4) 0 % 32 ≡ 0) (head : ℕ) (is : head ≡ pick (leb 128 (getD m (at + 4) 0)) 12 8) where
+      bits : getD (drop at m) 4 0 % 32 ≡ 0
+      bits = rw getD-drop b
+
+      length-here : avpLength (drop at m) ≡ net24 m (at + 5)
+      length-here = net24-drop at 5 m
+
+      head-here : headLength (drop at m) ≡ head
+      unfolding headLength
+      head-here = rw getD-drop (sym is)
+
+      pub next-short : net24 m (at + 5) < head → nextAt m at ≡ 0
+      next-short h =
+          let c : avpCode (drop at m) ≡ 5014 = code-length (drop at m) eight-left bits (rw (length-here, head-here) h) in
+          next-none (λ z. omega (arith, c, z))
+
+      module _ (l : head ≤ net24 m (at + 5)) where
+        enough : headLength (drop at m) ≤ avpLength (drop at m)
+        enough = rw (length-here, head-here) l
+
+        pub next-past : length m < at + up4 (net24 m (at + 5)) → nextAt m at ≡ 0
+        next-past h =
+            let c : avpCode (drop at m) ≡ 5014 = code-past (drop at m) eight-left bits enough (rw (length-here, length-drop) (omega arith)) in
+            next-none (λ z. omega (arith, c, z))
+
+        pub next-whole : at + up4 (net24 m (at + 5)) ≤ length m → nextAt m at ≡ at + up4 (net24 m (at + 5))
+        next-whole h =
+            let c : avpCode (drop at m) ≡ 0 = code-none (drop at m) eight-left bits enough (rw (length-here, length-drop) (omega arith)) in
+            next-is c ∙ ap (λ (n : ℕ). at + up4 n) length-here
 
   -- the walk from there on
   pub from-none : nextAt m at ≡ 0 → avpsFrom m at ≡ []

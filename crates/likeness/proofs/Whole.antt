@@ -8,6 +8,7 @@ use lib.Dec.{eqb}
 use Rattle.octets.specs.Choice.{pick}
 use Rattle.message.specs.ReadingAMessage.{body}
 use Rattle.likeness.specs.TheSameAnswer.{Finding, nothing, differs, orElse, unless, faultIn, fault, headerFinding, misplaced, placeFinding, complete, missingFinding, avpsOf, answerFinding}
+use Rattle.likeness.proofs.Itself.{misplaced-own, complete-own}
 
 module _ (ours theirs : List ℕ) where
   module _ (f : Finding) (is : f ≡ faultIn 4 20 (body theirs)) where
@@ -48,3 +49,7 @@ module _ (ours theirs : List ℕ) where
             pub told-missing : complete (avpsOf ours) (avpsOf theirs) ≡ false → answerFinding ours theirs ≡ differs 4 0
             unfolding pick orElse placeFinding missingFinding unless
             told-missing c = rest ∙ rw (eq-eqb (misplaced (avpsOf ours) (avpsOf theirs)) 0 all, c)
+
+          -- the same bytes
+          pub told-itself : ours ≡ theirs → answerFinding ours theirs ≡ nothing
+          told-itself e = told-nothing (rw e (misplaced-own (avpsOf theirs))) (rw e (complete-own (avpsOf theirs)))

@@ -1,5 +1,5 @@
 -- What the code's numbers and parts say in the terms of the same answer.
-use mathlib.Core.List.{List}
+use mathlib.Core.List.{List, _++_}
 use mathlib.Core.Path.{_≡_}
 use Prim.Native.Nat.{ℕ, _+_, _≤_}
 use lib.Dec.{eqb}
@@ -7,7 +7,7 @@ use lib.ListN.{length, drop}
 use Rattle.octets.specs.Choice.{pick}
 use Rattle.octets.specs.Numbers.{net24, up4}
 use Rattle.message.specs.ReadingAMessage.{Name, Avp, headLength, avpLength, avpCode, avpOf, walk, having}
-use Rattle.likeness.specs.TheSameAnswer.{Finding}
+use Rattle.likeness.specs.TheSameAnswer.{Finding, misplacedFrom}
 use Rattle.likeness.specs.declared.Found.{Found}
 
 unfoldable pub said : Found → Finding
@@ -33,3 +33,10 @@ pub record Stands (m : List ℕ) (at : ℕ) : Type 0 where
   pub eight : at + 8 ≤ length m
   pub head : headLength (drop at m) ≤ net24 m (at + 5)
   pub end : at + net24 m (at + 5) ≤ length m
+
+-- Up to a place both answers have the same AVPs, and whatever does not fit is behind it.
+pub record Alike (ours theirs : List ℕ) (at : ℕ) : Type 0 where
+  pub before : List Avp
+  pub ofOurs : avpsFrom ours 20 ≡ before ++ avpsFrom ours at
+  pub ofTheirs : avpsFrom theirs 20 ≡ before ++ avpsFrom theirs at
+  pub placed : misplacedFrom (avpsFrom ours 20) (avpsFrom theirs 20) at (avpsFrom theirs at) ≡ misplacedFrom (avpsFrom ours 20) (avpsFrom theirs 20) 20 (avpsFrom theirs 20)

@@ -1,15 +1,15 @@
 // Another server's answer held against ours (W10): whether it is the same answer, and where it first differs. It knows no table.
-use message::Head;
 ghost use mathlib.Core.Path.{_≡_};
-ghost use mathlib.Core.Bool.{false, _&&_};
+ghost use mathlib.Core.Bool.{true, false, _&&_};
 ghost use mathlib.Core.List.{List};
 ghost use Prim.Native.Nat.{ℕ, _+_, _-_, _≤_, _<_};
-ghost use lib.Dec.{eqb};
+ghost use lib.Dec.{eqb, leb};
 ghost use lib.ListN.{length, getD, take, drop};
 ghost use Rattle.octets.specs.Choice.{pick};
+ghost use Rattle.octets.specs.Texts.{same};
 ghost use Rattle.message.specs.ReadingAMessage.{base, sameName, having};
 ghost use Rattle.likeness.specs.TheSameAnswer.{isGroup, faultIn, agreeing, compared, headerDue, headerFinding, sameAvp, firstIs, fits, startsLike, misplaced, complete, avpsOf, answerFinding};
-ghost use Rattle.likeness.specs.Code.{said, avpAt, avpsFrom, namedFrom, nextAt, Stands};
+ghost use Rattle.likeness.specs.Code.{said, avpAt, avpsFrom, namedFrom, nextAt, Stands, Alike};
 
 // A number, 0 where there is nothing to tell; with 32 the kind of the mismatch, and the byte at which it is.
 pub struct Found {
@@ -20,7 +20,18 @@ pub struct Found {
 
 // ONE AVP
 
-// Where the AVP behind the one at a place starts; 0 where there is none or it fails one of the four tests.
+// How many bytes an AVP's header has, by its flags.
+fn head_length(flags: u8) -> usize
+    ensures { λ r. ⌜ r ≡ pick (leb 128 flags) 12 8 ⌝ }
+{
+    if 128 <= flags {
+        return 12;
+    }
+    8
+}
+
+// Where the AVP behind the one at a place starts; 0 where there is none or it fails one of the four tests. It is a step of its own: that of a request's
+// walk would have two callers, and the compiler would put it in line at neither.
 fn next_at(m: &[u8], at: usize) -> usize
     ensures { λ r. ⌜ r ≡ nextAt (now (m .entry)) at ⌝ }
 {
@@ -28,11 +39,22 @@ fn next_at(m: &[u8], at: usize) -> usize
         return 0;
     }
     let left = m.len() - at;
-    let h = message::head_at(m, at, left);
-    match h {
-        Head::Bad(_) => 0,
-        Head::One(a) => a.next,
+    if left < 8 {
+        return 0;
     }
+    let flags = m[at + 4];
+    if flags % 32 != 0 {
+        return 0;
+    }
+    let n = octets::read24(m, at + 5);
+    if n < head_length(flags) {
+        return 0;
+    }
+    let whole = (n + 3) / 4 * 4;
+    if left < whole {
+        return 0;
+    }
+    at + whole
 }
 
 // Its value.
@@ -189,11 +211,29 @@ fn agreeing(a: &[u8], b: &[u8]) -> usize
     i
 }
 
+// Whether two texts are the same, with no way out of the loop, so that the compiler takes many bytes at once: a row is long, and mostly the one due.
+fn same_throughout(a: &[u8], b: &[u8]) -> bool
+    ensures { λ r. ⌜ r ≡ same (now (a .entry)) (now (b .entry)) ⌝ }
+{
+    if a.len() != b.len() {
+        return false;
+    }
+    let mut other: u8 = 0;
+    let mut i: usize = 0;
+    while i < a.len() {
+        if a[i] != b[i] {
+            other = 1;
+        }
+        i += 1;
+    }
+    other == 0
+}
+
 // Nothing where two texts are the same, else the mismatch at the first byte that differs.
 pub fn compared(mismatch: u32, a: &[u8], b: &[u8]) -> Found
     ensures { λ r. ⌜ said r ≡ compared mismatch (now (a .entry)) (now (b .entry)) ⌝ }
 {
-    if octets::same_bytes(a, b) {
+    if same_throughout(a, b) {
         return Found {
             number: 0,
             mismatch: 0,
@@ -311,14 +351,42 @@ fn starts_like(ours: &[u8], theirs: &[u8]) -> bool
     true
 }
 
-// Where the first AVP of theirs starts that does not fit; 0 where all do.
-fn misplaced(ours: &[u8], theirs: &[u8]) -> usize
+// Whether the AVP at a place of theirs, which ends before `next`, stands at the same place of ours, byte by byte.
+fn same_part(ours: &[u8], theirs: &[u8], at: usize, next: usize) -> bool
+    requires { ⌜ (next ≡ nextAt (now theirs) at) × (next ≡ 0 → ⊥) ⌝ }
+    ensures { λ r. ⌜ (r ≡ true → (nextAt (now (ours .entry)) at ≡ next) × (avpAt (now (ours .entry)) at ≡ avpAt (now (theirs .entry)) at)) ⌝ }
+{
+    if next_at(ours, at) != next {
+        return false;
+    }
+    octets::same_bytes(&ours[at..next], &theirs[at..next])
+}
+
+// How far both are the same, AVP by AVP.
+fn same_until(ours: &[u8], theirs: &[u8]) -> usize
+    ensures { λ r. ⌜ Alike (now (ours .entry)) (now (theirs .entry)) r ⌝ }
+{
+    let mut at: usize = 20;
+    let mut next: usize = next_at(theirs, at);
+    while next != 0 {
+        if !same_part(ours, theirs, at, next) {
+            return at;
+        }
+        at = next;
+        next = next_at(theirs, at);
+    }
+    at
+}
+
+// Where the first AVP of theirs starts that does not fit; 0 where all do. Up to `from` both are the same.
+fn misplaced(ours: &[u8], theirs: &[u8], from: usize) -> usize
+    requires { ⌜ Alike (now ours) (now theirs) from ⌝ }
     ensures { λ r. ⌜ r ≡ misplaced (avpsFrom (now (ours .entry)) 20) (avpsFrom (now (theirs .entry)) 20) ⌝ }
 {
     if !starts_like(ours, theirs) {
         return 20;
     }
-    let mut at: usize = 20;
+    let mut at: usize = from;
     let mut next: usize = next_at(theirs, at);
     while next != 0 {
         if !place_fits(ours, theirs, at) {
@@ -330,10 +398,14 @@ fn misplaced(ours: &[u8], theirs: &[u8]) -> usize
     0
 }
 
-// Whether of each name of ours theirs has no fewer.
-fn complete(ours: &[u8], theirs: &[u8]) -> bool
+// Whether of each name of ours theirs has no fewer. Up to `from` both are the same.
+fn complete(ours: &[u8], theirs: &[u8], from: usize) -> bool
+    requires { ⌜ Alike (now ours) (now theirs) from ⌝ }
     ensures { λ r. ⌜ r ≡ complete (avpsFrom (now (ours .entry)) 20) (avpsFrom (now (theirs .entry)) 20) ⌝ }
 {
+    if next_at(ours, from) == 0 {
+        return true;
+    }
     let mut at: usize = 20;
     let mut next: usize = next_at(ours, at);
     while next != 0 {
@@ -389,7 +461,8 @@ fn faults(m: &[u8], from: usize, depth: u32) -> Found
 
 // THE ANSWER AS A WHOLE
 
-// Nothing where theirs is the same answer as ours, else what is told of it: a group that is too deep before everything else, then the first mismatch.
+// Nothing where theirs is the same answer as ours, else what is told of it: a group that is too deep before everything else, then the first mismatch. Where both have the same
+// bytes, each AVP is met by itself.
 pub fn answer_found(ours: &[u8], theirs: &[u8]) -> Found
     ensures { λ r. ⌜ said r ≡ answerFinding (now (ours .entry)) (now (theirs .entry)) ⌝ }
 {
@@ -404,7 +477,15 @@ pub fn answer_found(ours: &[u8], theirs: &[u8]) -> Found
     if f.number != 0 {
         return f;
     }
-    let at = misplaced(ours, theirs);
+    if octets::same_bytes(ours, theirs) {
+        return Found {
+            number: 0,
+            mismatch: 0,
+            at: 0,
+        };
+    }
+    let from = same_until(ours, theirs);
+    let at = misplaced(ours, theirs, from);
     if at != 0 {
         return Found {
             number: 32,
@@ -412,7 +493,7 @@ pub fn answer_found(ours: &[u8], theirs: &[u8]) -> Found
             at,
         };
     }
-    if complete(ours, theirs) {
+    if complete(ours, theirs, from) {
         return Found {
             number: 0,
             mismatch: 0,

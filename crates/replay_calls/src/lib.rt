@@ -158,16 +158,16 @@ pub fn play_add(table: &mut [u8], r: &[u8]) -> Verdict
     judged(r, f + 2, got, table, &r[0..0], 0, &r[0..0], 0)
 }
 
-// What stands between the texts of a request, which the form and the operator come before, and what is expected: the word of the WAG, and the two rooms.
-struct Rooms {
-    wag: bool,
-    answer: usize,
-    answer_seed: u8,
-    notice: usize,
-    notice_seed: u8,
+// What stands behind the texts of a request, which the form and the operator come before: the word of the WAG, and the two rooms.
+pub struct Rooms {
+    pub wag: bool,
+    pub answer: usize,
+    pub answer_seed: u8,
+    pub notice: usize,
+    pub notice_seed: u8,
 }
 
-fn rooms_at(r: &[u8], at: usize) -> Rooms
+pub fn rooms_at(r: &[u8], at: usize) -> Rooms
     requires { ⌜ at + 11 ≤ length (now r) ⌝ }
 {
     Rooms {

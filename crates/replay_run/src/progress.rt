@@ -12,6 +12,7 @@ use replay_calls::play_enter;
 use replay_calls::play_handle;
 use replay_calls::play_move;
 use replay_gateway::play_reauth;
+use replay_judge::play_judge;
 use replay_verdict::Verdict;
 ghost use Prim.Native.Nat.{_≤_};
 ghost use lib.ListN.{length};
@@ -120,7 +121,7 @@ fn on_end(r: &[u8], p: Progress) -> Turn {
     Turn::End(p)
 }
 
-// The call of a record of type 4 to 7 or 9 to 13, on the table as long as it is now.
+// The call of a record of type 4 to 7 or 9 to 14, on the table as long as it is now.
 fn play(kind: u8, table: &mut [u8], r: &[u8], answer: &mut [u8], notice: &mut [u8]) -> Verdict
     requires { ⌜ (length (now r) ≤ 65536) × (length (now answer) ≤ 65536) × (length (now notice) ≤ 65536) ⌝ }
 {
@@ -147,6 +148,9 @@ fn play(kind: u8, table: &mut [u8], r: &[u8], answer: &mut [u8], notice: &mut [u
     }
     if kind == 13 {
         return play_reauth(table, r, answer, notice);
+    }
+    if kind == 14 {
+        return play_judge(table, r, answer, notice);
     }
     play_handle(table, r, answer, notice)
 }
@@ -229,7 +233,7 @@ pub fn on_record(
     if kind < 4 {
         return Turn::Broken(Damage::Kind);
     }
-    if 13 < kind {
+    if 14 < kind {
         return Turn::Broken(Damage::Kind);
     }
     let v = play(kind, &mut table[0..n], r, answer, notice);

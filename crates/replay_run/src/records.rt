@@ -18,7 +18,7 @@ pub fn announced(r: &[u8]) -> Told {
     if !octets::same_bytes(&r[0..8], b"WMSCRIPT") {
         return Told::Nothing;
     }
-    if number(r, 8) != 6 {
+    if number(r, 8) != 7 {
         return Told::Nothing;
     }
     Told::Number(number(r, 12))

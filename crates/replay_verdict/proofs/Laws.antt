@@ -16,7 +16,7 @@ use Rattle.octets.proofs.Lists.{by-test}
 use Rattle.octets.proofs.Texts.{length-part}
 use Rattle.replay_script.specs.TheScript.{asFilled, unlike}
 use Rattle.replay_verdict.specs.declared.Got.{Got}
-use Rattle.replay_verdict.specs.Judging.{answerEnd, answerNumbers, asExpected, changesFrom, cutNumbers, noticeEnd, numbersAt, resultsAt, roomAs, standsAt, tableAs, textAt, textEnd}
+use Rattle.replay_verdict.specs.Verdicts.{answerEnd, answerNumbers, asExpected, changesFrom, cutNumbers, noticeEnd, numbersAt, resultsAt, roomAs, standsAt, tableAs, textAt, textEnd}
 
 -- TESTS
 

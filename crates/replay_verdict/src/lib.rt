@@ -11,7 +11,7 @@ ghost use Prim.Native.Nat.{_+_, _*_, _≤_, _<_};
 ghost use lib.Dec.{eqb};
 ghost use lib.ListN.{length};
 ghost use Rattle.octets.specs.Numbers.{net32};
-ghost use Rattle.replay_verdict.specs.Judging.{agreed, answerNumbers, asExpected, changesFrom, clearedAs, cutNumbers, digestsAs, numbersAt, resultsAt, roomAs, standsAt, tableAs, textEnd};
+ghost use Rattle.replay_verdict.specs.Verdicts.{agreed, answerNumbers, asExpected, changesFrom, clearedAs, cutNumbers, digestsAs, numbersAt, resultsAt, roomAs, standsAt, tableAs, textEnd};
 
 // A call is as expected, or differs: in which field, where in it, what was expected and what was got; or its record does not
 // have the form of its type.

@@ -38,8 +38,8 @@ fn inner(m: &[u8], from: usize) {
     }
 }
 
-// The AVPs inside the one at a place, where that is a group.
-fn group(m: &[u8], at: usize) {
+// The AVPs inside the one at a place, said where that is a group.
+pub fn group(m: &[u8], at: usize) {
     let step = reader::avp_at(m, at);
     let Step::One(s) = step else {
         return;

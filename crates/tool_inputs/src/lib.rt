@@ -21,7 +21,7 @@ pub fn source(fd: i32) -> Source {
 }
 
 // A file that is not well, in the place of one that is: -1 is one that was not asked for.
-const BAD: i32 = -2;
+pub const BAD: i32 = -2;
 
 // A file that a word names, open at its start.
 fn open_file(path: &[u8]) -> i32 {
@@ -60,9 +60,8 @@ fn name(room: &[u8; 4096], n: usize) -> &[u8] {
     &all[0..n]
 }
 
-// What the gateway says to each message, where a file has it.
-fn open_wags(all: usize) -> i32 {
-    let i = tool_options::find(tool_options::WAG);
+// What the gateway says to each message, where word i names a file that has it.
+pub fn open_wags(i: usize, all: usize) -> i32 {
     if !tool_options::is_file_of_wags(i) {
         return -1;
     }
@@ -104,7 +103,7 @@ fn bad(requests: i32) -> Inputs {
 
 // What is read besides the requests, which are so many. Why one of the files is not well is said, and those behind it are not opened.
 pub fn open(requests: i32, all: usize) -> Inputs {
-    let wags = open_wags(all);
+    let wags = open_wags(tool_options::find(tool_options::WAG), all);
     if wags == BAD {
         return bad(requests);
     }

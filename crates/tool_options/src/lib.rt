@@ -1,4 +1,4 @@
-// The words behind the files of `handle`, each of a kind of its own and said at most once. What a word says is read from the command line
+// The words behind the files of `handle`, each of a kind of its own and said at most once; `judge` takes some of them. What a word says is read from the command line
 // where it is used, so that only its number is passed around; 0 is the number of a word that is not there.
 
 // THE KINDS
@@ -74,15 +74,16 @@ fn kind_of(word: &[u8]) -> usize {
     0
 }
 
-fn kind_at(i: usize) -> usize {
+// The kind of word i.
+pub fn kind_at(i: usize) -> usize {
     let mut word = io::buffer();
     let n = os::arg(i, &mut word);
     kind_of(&word[..n])
 }
 
-// The number of the first word of a kind.
-pub fn find(kind: usize) -> usize {
-    let mut i: usize = FIRST;
+// The number of the first word of a kind from `first` on.
+pub fn find_from(first: usize, kind: usize) -> usize {
+    let mut i: usize = first;
     while i < BEHIND {
         if kind_at(i) == kind {
             return i;
@@ -90,6 +91,11 @@ pub fn find(kind: usize) -> usize {
         i += 1;
     }
     0
+}
+
+// The same among all the words of `handle`.
+pub fn find(kind: usize) -> usize {
+    find_from(FIRST, kind)
 }
 
 // Whether word i, if it is there, has a meaning; why not is said.

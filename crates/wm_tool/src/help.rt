@@ -115,6 +115,26 @@ fn reauthorizing() {
     );
 }
 
+// The command that judges the old server.
+fn judging() {
+    line(b"play judge CASES BEFORE AFTER HOST REALM [operator=N] [wag=yes|wag=no|wags=FILE]\n");
+    line(
+        b"                                  whether the old server did what ours does. CASES has three lines a case, in\n",
+    );
+    line(
+        b"                                  hex: a request, the old server's answer to it and its notice, each of these\n",
+    );
+    line(
+        b"                                  two - for none; lines that begin with # are passed over. BEFORE and AFTER\n",
+    );
+    line(
+        b"                                  are tables with a row for each case, as it was before and after. The first\n",
+    );
+    line(
+        b"                                  mismatch of a case is said, and the status is 1 if one is refused\n",
+    );
+}
+
 // The commands on reports, and the board.
 fn reports() {
     line(b"play report new REPORT            a report by hour, nothing counted\n");
@@ -175,6 +195,7 @@ pub fn say() {
     expecting();
     disconnecting();
     reauthorizing();
+    judging();
     reports();
     rest();
 }
@@ -232,6 +253,13 @@ fn is_other(word: &[u8]) -> bool {
         word,
         b"decode",
         b"usage: play decode FILE [hex|notices [form=1|form=2]]",
+    ) {
+        return true;
+    }
+    if is_used(
+        word,
+        b"judge",
+        b"usage: play judge CASES BEFORE AFTER HOST REALM [operator=N] [wag=yes|wag=no|wags=FILE] [form=1|form=2]",
     ) {
         return true;
     }

@@ -77,13 +77,17 @@ fn run_above(word: &[u8], table: &mut [u8]) {
     help::refuse(word);
 }
 
-// A command, with a room for its table, and one to spare for a command that makes a second.
+// A command, with a room for its table, and one to spare for a command that makes or reads a second.
 fn run(word: &[u8], table: &mut [u8], spare: &mut [u8]) {
     if is_set_up(word, table) {
         return;
     }
     if is_called(word, b"move", 4, 5) {
         tool_move::run(table, spare);
+        return;
+    }
+    if is_called(word, b"judge", 7, 10) {
+        tool_judge::run(table, spare);
         return;
     }
     if is_called(word, b"show", 3, 6) {
@@ -114,6 +118,9 @@ fn more_rooms(word: &[u8]) -> usize {
     if octets::same_bytes(word, b"move") {
         return 1;
     }
+    if octets::same_bytes(word, b"judge") {
+        return 1;
+    }
     0
 }
 
@@ -140,7 +147,7 @@ fn run_large(word: &[u8], more: usize, spare: &mut [u8]) {
     run_in(word, &mut room, spare);
 }
 
-// What the usual stack of 8 MB holds: 1,024 rows of form 1 or 542 of form 2, and a move of 128 rows.
+// What the usual stack of 8 MB holds: 1,024 rows of form 1 or 542 of form 2, and a move of 128 rows or 128 cases to judge.
 fn run_narrow(word: &[u8], table: &mut [u8; 4718593], spare: &mut [u8; 1114113]) {
     run(word, table, spare);
 }

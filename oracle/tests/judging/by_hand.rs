@@ -1,9 +1,7 @@
 //! The order of the numbers, and single answers by hand.
 
 use oracle::drafts::{Draft, DraftAvp};
-use oracle::judging::{
-    Due, EXPERIMENTAL_RESULT, FAILED_AVP, Kind, REQUEST_W10, SUBSCRIPTION_ID, Verdict, due,
-};
+use oracle::judging::{EXPERIMENTAL_RESULT, FAILED_AVP, Kind, SUBSCRIPTION_ID, Verdict};
 use oracle::judging_calls::JudgeCall;
 use oracle::reading_a_message::{PROXY_INFO, base};
 use oracle::rules::WITH_W11;
@@ -53,12 +51,7 @@ fn cutting(form: Form) -> JudgeCall {
 }
 
 fn answered(mut call: JudgeCall) -> JudgeCall {
-    let Due {
-        answer,
-        notice,
-        row,
-    } = due(&REQUEST_W10, &call.judged());
-    (call.answer, call.notice, call.after) = (answer, notice, row);
+    call.answer_as_ours();
     call
 }
 

@@ -7,12 +7,15 @@ mod wrong_judges;
 
 use std::collections::BTreeMap;
 
+use oracle::judge_rounds::{JudgeDecks, round};
 use oracle::judging::{
     EXPERIMENTAL_RESULT, Kind, REQUEST_W10, RESULT_CODE, Verdict, avps_of, judge,
 };
-use oracle::judging_calls::{JudgeCall, old_call, old_calls, own_call};
+use oracle::judging_calls::{JudgeCall, change, old_call, old_calls, own_call};
+use oracle::program::{Operation, perform};
 use oracle::random::Random;
 use oracle::reading_a_message::is;
+use oracle::rules::WITH_W11;
 use same_answer::is_the_same;
 
 fn verdict(call: &JudgeCall) -> Verdict {
@@ -71,6 +74,36 @@ fn what_is_planted_is_found() {
     assert!(verdicts.values().all(|times| *times > 100), "{verdicts:?}");
 }
 
+/// The calls of a script say what has to be told of them, and that is told; whatever the verdict,
+/// row and rooms are left as by the request itself, and with a number of its own as they were.
+#[test]
+fn a_script_says_what_is_told() {
+    let (mut decks, mut random) = (JudgeDecks::default(), Random::new(107));
+    let mut known = 0;
+    for made in (0..150).flat_map(|_| round(&mut decks, &mut random)) {
+        let Operation::Judge(judging) = made.call.operation(made.rooms) else {
+            unreachable!("a judgement is one");
+        };
+        let [mut judged, mut handled] = [made.call.before.clone(), made.call.before.clone()];
+        let asked = Operation::Handle(judging.asked.clone());
+        let seen = perform(
+            &mut WITH_W11.clone(),
+            &Operation::Judge(judging),
+            &mut judged,
+        );
+        if let Some(wanted) = made.wanted {
+            assert_eq!(seen.numbers[..3], wanted.numbers(), "{:?}", made.call);
+            known += 1;
+        }
+        if [0, 31, 32].contains(&seen.numbers[0]) {
+            let left = perform(&mut WITH_W11.clone(), &asked, &mut handled);
+            assert!(left.answer_room == seen.answer_room && left.notice_room == seen.notice_room);
+        }
+        assert!(judged == handled, "{:?}", made.call);
+    }
+    assert!(known > 2_500, "{known}");
+}
+
 /// Accepted exactly if it is the same answer, notice and row, by a definition of its own.
 #[test]
 fn accepted_exactly_if_the_same() {
@@ -95,38 +128,6 @@ fn accepted_exactly_if_the_same_after_any_change() {
         assert_eq!(now, is_the_same(&call), "{call:?}");
     }
     assert!((500..8_000).contains(&accepted), "{accepted}");
-}
-
-/// Changes a byte, or takes out, doubles or exchanges words; the length in the header is
-/// most often made true again.
-fn change(call: &mut JudgeCall, random: &mut Random) {
-    let answer = &mut call.answer;
-    if answer.len() < 32 {
-        return;
-    }
-    let word = 20 + 4 * random.below((answer.len() - 20) / 4);
-    let other = 20 + 4 * random.below((answer.len() - 20) / 4);
-    match random.below(8) {
-        0..4 => {
-            let at = random.from_to(20, answer.len() - 1);
-            answer[at] = *random.pick(&[0, 1, 0x20, 0x40, 0x80, answer[at] ^ 1, answer[at] ^ 0x40]);
-        }
-        4 => drop(answer.drain(word.min(other)..word.max(other))),
-        5 => {
-            let words = answer[word.min(other)..word.max(other)].to_vec();
-            let at = 20 + 4 * random.below((answer.len() - 20) / 4);
-            answer.splice(at..at, words);
-        }
-        6 => answer.swap(word, other),
-        _ => {
-            let at = random.below(20);
-            answer[at] ^= 1 << random.below(8);
-        }
-    }
-    if !random.once_in(8) {
-        let length = (answer.len() as u32).to_be_bytes();
-        answer[1..4].copy_from_slice(&length[1..]);
-    }
 }
 
 /// What is accepted has one Result-Code or Experimental-Result with M, that of ours.

@@ -1,11 +1,18 @@
 //! Judges that take one thing otherwise: the old server's answers tell each of them apart.
 
 use oracle::deciding::held_is_refused;
+use oracle::framing::{read, write};
 use oracle::handling::message_number;
+use oracle::judge_rounds::{JudgeDecks, judgements};
 use oracle::judging::*;
 use oracle::judging_calls::old_calls;
+use oracle::program::{Judging, Operation};
+use oracle::random::Random;
 use oracle::reading_a_message::{Avp, HEADER, MANDATORY, PROXY_INFO, SESSION_ID, is};
-use oracle::rules::{Rules, WITH_W11};
+use oracle::recorder::Recorder;
+use oracle::rules::{DOCUMENT_01, Rules, WITH_W11};
+use oracle::script::{self, Record};
+use oracle::the_table::Form;
 
 type Wrong = (&'static str, JudgeRules);
 
@@ -262,19 +269,165 @@ fn in_the_rest() -> Vec<Wrong> {
     }
 }
 
+/// Whether this number holds, whatever comes before it.
+fn holds(judged: &Judged, rooms: Rooms, of: u16) -> bool {
+    let named = |name: &[u8]| (1..=128).contains(&name.len());
+    match of {
+        1 => number(judged, rooms) == 1,
+        33 => judged.operator > 15,
+        2 => !named(judged.host) || !named(judged.realm),
+        3 => rooms.answer < 5_120,
+        _ => Form::numbered(judged.form).is_none_or(|form| rooms.notice < form.notice()),
+    }
+}
+
+fn in_order(judged: &Judged, rooms: Rooms, order: [u16; 5]) -> u16 {
+    let mut order = order.into_iter();
+    order.find(|of| holds(judged, rooms, *of)).unwrap_or(0)
+}
+
+/// With rows that are as long as these.
+fn with_rows(judged: &Judged, rooms: Rooms, before: &[u8], after: &[u8]) -> u16 {
+    let other = Judged {
+        before,
+        after,
+        ..*judged
+    };
+    number(&other, rooms)
+}
+
+fn in_the_numbers() -> Vec<Wrong> {
+    wrong! {
+        "tests 33 before 1": number = |j, rooms| in_order(j, rooms, [33, 1, 2, 3, 4]);
+        "tests 2 before 1": number = |j, rooms| in_order(j, rooms, [2, 1, 33, 3, 4]);
+        "tests 3 before 1": number = |j, rooms| in_order(j, rooms, [3, 1, 33, 2, 4]);
+        "tests 4 before 1": number = |j, rooms| in_order(j, rooms, [4, 1, 33, 2, 3]);
+        "tests 2 before 33": number = |j, rooms| in_order(j, rooms, [1, 2, 33, 3, 4]);
+        "tests 3 before 33": number = |j, rooms| in_order(j, rooms, [1, 3, 33, 2, 4]);
+        "tests 4 before 33": number = |j, rooms| in_order(j, rooms, [1, 4, 33, 2, 3]);
+        "tests 3 before 2": number = |j, rooms| in_order(j, rooms, [1, 33, 3, 2, 4]);
+        "tests 4 before 2": number = |j, rooms| in_order(j, rooms, [1, 33, 4, 2, 3]);
+        "tests 4 before 3": number = |j, rooms| in_order(j, rooms, [1, 33, 2, 4, 3]);
+        "does not test the row before": number = |j, rooms| {
+            with_rows(j, rooms, j.after, j.after)
+        };
+        "does not test the row after": number = |j, rooms| {
+            with_rows(j, rooms, j.before, j.before)
+        };
+        "takes more than a row before": number = |j, rooms| {
+            let row = Form::numbered(j.form).map_or(0, Form::row);
+            with_rows(j, rooms, j.before.get(..row).unwrap_or(j.before), j.after)
+        };
+        "takes more than a row after": number = |j, rooms| {
+            let row = Form::numbered(j.form).map_or(0, Form::row);
+            with_rows(j, rooms, j.before, j.after.get(..row).unwrap_or(j.after))
+        };
+        "takes rows of either form": number = |j, rooms| {
+            let other = Form::numbered(j.form).map_or(0, |form| form.other().number());
+            match number(j, rooms) {
+                1 => number(&Judged { form: other, ..*j }, rooms),
+                given => given,
+            }
+        };
+        "takes operator 16": number = |j, rooms| {
+            let operator = if j.operator == 16 { 0 } else { j.operator };
+            number(&Judged { operator, ..*j }, rooms)
+        };
+        "takes operators modulo 256": number = |j, rooms| {
+            number(&Judged { operator: j.operator % 256, ..*j }, rooms)
+        };
+        "takes an own host of no bytes": number = |j, rooms| {
+            let host = if j.host.is_empty() { &b"h"[..] } else { j.host };
+            number(&Judged { host, ..*j }, rooms)
+        };
+        "takes an own host of 129 bytes": number = |j, rooms| {
+            number(&Judged { host: j.host.get(..128).unwrap_or(j.host), ..*j }, rooms)
+        };
+        "does not test the own realm": number = |j, rooms| {
+            number(&Judged { realm: b"r", ..*j }, rooms)
+        };
+        "asks an own realm of 127 bytes at most": number = |j, rooms| {
+            let realm = if j.realm.len() > 127 { &b""[..] } else { j.realm };
+            number(&Judged { realm, ..*j }, rooms)
+        };
+        "takes a byte less for the answer": number = |j, rooms| {
+            number(j, Rooms { answer: rooms.answer + 1, ..rooms })
+        };
+        "asks a byte more for the answer": number = |j, rooms| {
+            number(j, Rooms { answer: rooms.answer.saturating_sub(1), ..rooms })
+        };
+        "takes a byte less for the notice": number = |j, rooms| {
+            number(j, Rooms { notice: rooms.notice + 1, ..rooms })
+        };
+        "asks a byte more for the notice": number = |j, rooms| {
+            number(j, Rooms { notice: rooms.notice.saturating_sub(1), ..rooms })
+        };
+        "asks 384 bytes for the notice of either form": number = |j, rooms| {
+            number(j, Rooms { notice: if rooms.notice < 384 { 0 } else { 384 }, ..rooms })
+        };
+        "asks 256 bytes for the notice of either form": number = |j, rooms| {
+            number(j, Rooms { notice: if rooms.notice < 256 { 0 } else { 384 }, ..rooms })
+        };
+    }
+}
+
+/// Judges that take something of the case otherwise than its numbers.
+fn judges() -> Vec<Wrong> {
+    [in_the_header(), in_the_walk(), in_the_avps(), in_the_rest()].concat()
+}
+
 #[test]
 fn every_wrong_judge_is_told_apart() {
     let calls = old_calls(105, 9_000);
-    let wanted = |rules: &JudgeRules| {
+    let judges = judges();
+    assert!(judges.len() > 60);
+    each_is_told_apart(&judges, |rules| {
         let mut judged = calls
             .iter()
             .map(|call| (judge(rules, &call.judged()), call.wanted));
         judged.all(|(verdict, wanted)| verdict == wanted)
-    };
-    assert!(wanted(&RIGHT));
-    let judges = [in_the_header(), in_the_walk(), in_the_avps(), in_the_rest()].concat();
-    assert!(judges.len() > 60);
-    let unnoticed = judges.iter().filter(|(_, rules)| wanted(rules));
+    });
+}
+
+/// The same by the judgements that stand in scripts, where numbers are given too.
+#[test]
+fn every_wrong_judge_is_told_apart_by_a_script() {
+    let mut recorder = Recorder::new(6_000);
+    let (mut decks, mut random) = (JudgeDecks::default(), Random::new(106));
+    while !recorder.is_full() {
+        judgements(&mut recorder, &mut decks, &mut random);
+    }
+    let records = read(&write(&recorder.records)).unwrap();
+    let calls = with_their_rows(&records);
+    let judges = [judges(), in_the_numbers()].concat();
+    assert!(judges.len() > 90);
+    each_is_told_apart(&judges, |rules| {
+        calls.iter().all(|(before, judging, wanted)| {
+            let judgement = judge_in(rules, &judging.judged(before), judging.rooms());
+            judgement.verdict.numbers() == *wanted
+        })
+    });
+}
+
+/// The judgements of a script, each with its row before and the numbers expected.
+fn with_their_rows(records: &[Record]) -> Vec<(Vec<u8>, &Judging, [u32; 3])> {
+    let mut table = Vec::new();
+    let mut calls = Vec::new();
+    for record in records {
+        if let Record::Call(Operation::Judge(judging), expected) = record {
+            let [number, mismatch, byte, ..] = expected.numbers;
+            calls.push((table.clone(), judging, [number, mismatch, byte]));
+        }
+        let played = script::judge(&mut DOCUMENT_01.clone(), record, &mut table);
+        assert_eq!(played, Ok(()));
+    }
+    calls
+}
+
+/// Only the right judge gives all that is wanted.
+fn each_is_told_apart(judges: &[Wrong], as_wanted: impl Fn(&JudgeRules) -> bool) {
+    assert!(as_wanted(&RIGHT));
+    let unnoticed = judges.iter().filter(|(_, rules)| as_wanted(rules));
     let unnoticed: Vec<&str> = unnoticed.map(|(name, _)| *name).collect();
     assert!(unnoticed.is_empty(), "not told apart: {unnoticed:#?}");
 }

@@ -30,6 +30,7 @@ use oracle::disconnecting::{ANSWER_TESTS, Abort, Sent, Written};
 use oracle::framing::{read, write};
 use oracle::generator::generate;
 use oracle::handling::{Call, no_answer};
+use oracle::judging::{Judged, Judgement, Rooms};
 use oracle::program::{Operation, Program};
 use oracle::random::Random;
 use oracle::reading_a_message::{Name, is, walk};
@@ -253,6 +254,10 @@ impl Program for Echo {
 
     fn re_authorize(&mut self, call: &mut ReAuth) -> ReAuthorized {
         RIGHT.clone().re_authorize(call)
+    }
+
+    fn judge(&mut self, judged: &Judged, rooms: Rooms) -> Judgement {
+        RIGHT.clone().judge(judged, rooms)
     }
 
     fn handle(&mut self, call: Call) -> Outcome {

@@ -1,9 +1,10 @@
 -- Each test that tells something tells it before the next is asked: the laws of Whole.
 use mathlib.Core.Path.{sym, _∙_}
 use borrow.Author.Needs.{needs}
+use Rattle.octets.proofs.Lists.{same-eq}
 use Rattle.likeness.specs.Code.{said}
 use Rattle.likeness.specs.TheSameAnswer.{avpsOf}
-use Rattle.likeness.proofs.Whole.{told-deep, told-header, told-walk, told-place, told-nothing, told-missing}
+use Rattle.likeness.proofs.Whole.{told-deep, told-header, told-walk, told-itself, told-place, told-nothing, told-missing}
 use Rattle.likeness.proofs.answer_found.Statement.{statement}
 use Rattle.likeness.proofs.answer_found.Tie as tie
 
@@ -42,8 +43,8 @@ returns-3 c =
     let test3 = c .if3 in
     sym (told-walk (given .ours .now) (given .theirs .now) (said (faults-was .result)) (faults-was .ensures) (test1 .left) (said (header-found-was .result)) (header-found-was .ensures) (test2 .left) (test3 .taken))
 
-misplaced-requires : tie.Need-misplaced-requires
-misplaced-requires c κs = search needs
+same-bytes-requires : tie.Need-same-bytes-requires
+same-bytes-requires c κs = search needs
 
 returns-4 : tie.Need-returns-4
 unfolding said avpsOf
@@ -54,42 +55,65 @@ returns-4 c =
     let header-found-was = c .before .before .before .before .before .before .header-found in
     let test2 = c .before .before .before .before .if2 in
     let test3 = c .before .before .if3 in
-    let misplaced-was = c .before .misplaced in
+    let same-bytes-was = c .before .same-bytes in
     let test4 = c .if4 in
-    sym (told-place (given .ours .now) (given .theirs .now) (said (faults-was .result)) (faults-was .ensures) (test1 .left) (said (header-found-was .result)) (header-found-was .ensures) (test2 .left) (test3 .left) (misplaced-was .result) (misplaced-was .ensures) (test4 .taken))
+    sym (told-itself (given .ours .now) (given .theirs .now) (said (faults-was .result)) (faults-was .ensures) (test1 .left) (said (header-found-was .result)) (header-found-was .ensures) (test2 .left) (test3 .left) (same-eq (given .ours .now) (given .theirs .now) (sym (same-bytes-was .ensures) ∙ test4 .taken)))
 
-complete-requires : tie.Need-complete-requires
-complete-requires c κs = search needs
+same-until-requires : tie.Need-same-until-requires
+same-until-requires c κs = search needs
+
+misplaced-requires : tie.Need-misplaced-requires
+misplaced-requires c κs =
+    let same-until-was = c .same-until in
+    same-until-was .ensures
 
 returns-5 : tie.Need-returns-5
 unfolding said avpsOf
 returns-5 c =
-    let given = c .before .before .before .before .before .before .before .before .before .before .before .before .before .before .args in
-    let faults-was = c .before .before .before .before .before .before .before .before .before .before .before .faults in
-    let test1 = c .before .before .before .before .before .before .before .before .before .if1 in
-    let header-found-was = c .before .before .before .before .before .before .before .before .header-found in
-    let test2 = c .before .before .before .before .before .before .if2 in
-    let test3 = c .before .before .before .before .if3 in
-    let misplaced-was = c .before .before .before .misplaced in
-    let test4 = c .before .before .if4 in
-    let complete-was = c .before .complete in
+    let given = c .before .before .before .before .before .before .before .before .before .before .before .before .before .before .before .args in
+    let faults-was = c .before .before .before .before .before .before .before .before .before .before .before .before .faults in
+    let test1 = c .before .before .before .before .before .before .before .before .before .before .if1 in
+    let header-found-was = c .before .before .before .before .before .before .before .before .before .header-found in
+    let test2 = c .before .before .before .before .before .before .before .if2 in
+    let test3 = c .before .before .before .before .before .if3 in
+    let misplaced-was = c .before .misplaced in
     let test5 = c .if5 in
-    sym (told-nothing (given .ours .now) (given .theirs .now) (said (faults-was .result)) (faults-was .ensures) (test1 .left) (said (header-found-was .result)) (header-found-was .ensures) (test2 .left) (test3 .left) (sym (misplaced-was .ensures) ∙ test4 .left) (sym (complete-was .ensures) ∙ test5 .taken))
+    sym (told-place (given .ours .now) (given .theirs .now) (said (faults-was .result)) (faults-was .ensures) (test1 .left) (said (header-found-was .result)) (header-found-was .ensures) (test2 .left) (test3 .left) (misplaced-was .result) (misplaced-was .ensures) (test5 .taken))
+
+complete-requires : tie.Need-complete-requires
+complete-requires c κs =
+    let same-until-was = c .before .before .same-until in
+    same-until-was .ensures
 
 returns-6 : tie.Need-returns-6
 unfolding said avpsOf
 returns-6 c =
-    let given = c .before .before .before .before .before .before .before .before .before .before .before .before .before .before .args in
-    let faults-was = c .before .before .before .before .before .before .before .before .before .before .before .faults in
-    let test1 = c .before .before .before .before .before .before .before .before .before .if1 in
-    let header-found-was = c .before .before .before .before .before .before .before .before .header-found in
-    let test2 = c .before .before .before .before .before .before .if2 in
-    let test3 = c .before .before .before .before .if3 in
+    let given = c .before .before .before .before .before .before .before .before .before .before .before .before .before .before .before .before .before .args in
+    let faults-was = c .before .before .before .before .before .before .before .before .before .before .before .before .before .before .faults in
+    let test1 = c .before .before .before .before .before .before .before .before .before .before .before .before .if1 in
+    let header-found-was = c .before .before .before .before .before .before .before .before .before .before .before .header-found in
+    let test2 = c .before .before .before .before .before .before .before .before .before .if2 in
+    let test3 = c .before .before .before .before .before .before .before .if3 in
     let misplaced-was = c .before .before .before .misplaced in
-    let test4 = c .before .before .if4 in
+    let test5 = c .before .before .if5 in
     let complete-was = c .before .complete in
-    let test5 = c .if5 in
-    sym (told-missing (given .ours .now) (given .theirs .now) (said (faults-was .result)) (faults-was .ensures) (test1 .left) (said (header-found-was .result)) (header-found-was .ensures) (test2 .left) (test3 .left) (sym (misplaced-was .ensures) ∙ test4 .left) (sym (complete-was .ensures) ∙ test5 .left))
+    let test6 = c .if6 in
+    sym (told-nothing (given .ours .now) (given .theirs .now) (said (faults-was .result)) (faults-was .ensures) (test1 .left) (said (header-found-was .result)) (header-found-was .ensures) (test2 .left) (test3 .left) (sym (misplaced-was .ensures) ∙ test5 .left) (sym (complete-was .ensures) ∙ test6 .taken))
+
+returns-7 : tie.Need-returns-7
+unfolding said avpsOf
+returns-7 c =
+    let given = c .before .before .before .before .before .before .before .before .before .before .before .before .before .before .before .before .before .args in
+    let faults-was = c .before .before .before .before .before .before .before .before .before .before .before .before .before .before .faults in
+    let test1 = c .before .before .before .before .before .before .before .before .before .before .before .before .if1 in
+    let header-found-was = c .before .before .before .before .before .before .before .before .before .before .before .header-found in
+    let test2 = c .before .before .before .before .before .before .before .before .before .if2 in
+    let test3 = c .before .before .before .before .before .before .before .if3 in
+    let misplaced-was = c .before .before .before .misplaced in
+    let test5 = c .before .before .if5 in
+    let complete-was = c .before .complete in
+    let test6 = c .if6 in
+    sym (told-missing (given .ours .now) (given .theirs .now) (said (faults-was .result)) (faults-was .ensures) (test1 .left) (said (header-found-was .result)) (header-found-was .ensures) (test2 .left) (test3 .left) (sym (misplaced-was .ensures) ∙ test5 .left) (sym (complete-was .ensures) ∙ test6 .left))
 
 pub answer-found-spec : {M : Type 1} → statement M
 answer-found-spec =
@@ -100,8 +124,11 @@ answer-found-spec =
     header-found-requires
     returns-2
     returns-3
-    misplaced-requires
+    same-bytes-requires
     returns-4
-    complete-requires
+    same-until-requires
+    misplaced-requires
     returns-5
-    returns-6)
+    complete-requires
+    returns-6
+    returns-7)

@@ -15,10 +15,10 @@ use Rattle.likeness.proofs.misplaced.Statement.{statement}
 use Rattle.likeness.proofs.misplaced.Tie as tie
 
 abbrev Inv-loop : tie.InvT-loop
-Inv-loop ours theirs at₀ next₀ at next = (next ≡ nextAt theirs at) × (misplacedFrom (avpsFrom ours 20) (avpsFrom theirs 20) at (avpsFrom theirs at) ≡ misplaced (avpsFrom ours 20) (avpsFrom theirs 20))
+Inv-loop ours theirs from at₀ next₀ at next = (next ≡ nextAt theirs at) × (misplacedFrom (avpsFrom ours 20) (avpsFrom theirs 20) at (avpsFrom theirs at) ≡ misplaced (avpsFrom ours 20) (avpsFrom theirs 20))
 
 abbrev μ-loop : tie.MeasureT-loop
-μ-loop ours theirs at₀ next₀ at next = length theirs - at
+μ-loop ours theirs from at₀ next₀ at next = length theirs - at
 
 starts-like-requires : tie.Need-starts-like-requires Inv-loop μ-loop
 starts-like-requires c κs = search needs
@@ -39,7 +39,8 @@ loop-holds c =
     let given = c .before .before .before .before .before .args in
     let starts-like-was = c .before .before .starts-like in
     let test1 = c .before .if1 in
-    (next-at-was .ensures, same-start (avpsFrom (given .ours .now) 20) (avpsFrom (given .theirs .now) 20) (sym (starts-like-was .ensures) ∙ not-false _ (test1 .left)))
+    let pre-was = c .before .before .before .before .before .pre in
+    (next-at-was .ensures, pre-was .placed ∙ same-start (avpsFrom (given .ours .now) 20) (avpsFrom (given .theirs .now) 20) (sym (starts-like-was .ensures) ∙ not-false _ (test1 .left)))
 
 place-fits-requires : tie.Need-place-fits-requires Inv-loop μ-loop
 place-fits-requires c κs =

@@ -1,5 +1,5 @@
 -- Each verdict by itself.
-use Rattle.replay_verdict.specs.Judging.{agreed}
+use Rattle.replay_verdict.specs.Verdicts.{agreed}
 use borrow.Author.Needs.{needs}
 use Rattle.replay_verdict.proofs.agrees.Statement.{statement}
 use Rattle.replay_verdict.proofs.agrees.Tie as tie

@@ -1,6 +1,6 @@
 -- Four numbers in their order.
 use mathlib.Core.Path.{refl}
-use Rattle.replay_verdict.specs.Judging.{answerNumbers}
+use Rattle.replay_verdict.specs.Verdicts.{answerNumbers}
 use Rattle.replay_verdict.proofs.Laws.{two, numbers}
 use borrow.Author.Needs.{needs}
 use Rattle.replay_verdict.proofs.answered.Statement.{statement}

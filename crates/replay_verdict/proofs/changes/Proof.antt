@@ -4,7 +4,7 @@ use Prim.Native.Nat.{_+_, _-_, _≤_}
 use native.Mathlib.Omega.{arith}
 use lib.ListN.{length}
 use borrow.Author.Tests.{eq-eqb, ne-eqb, not-true, not-false}
-use Rattle.replay_verdict.specs.Judging.{agreed, changesFrom}
+use Rattle.replay_verdict.specs.Verdicts.{agreed, changesFrom}
 use Rattle.replay_verdict.proofs.Laws.{after, change-lent, changes-short, changes-other, changes-turn, changes-end}
 use borrow.Author.Needs.{needs}
 use Rattle.replay_verdict.proofs.changes.Statement.{statement}

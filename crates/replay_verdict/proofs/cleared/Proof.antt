@@ -2,7 +2,7 @@
 use mathlib.Core.Path.{_∙_, sym}
 use borrow.Author.Tests.{eq-eqb, ne-eqb}
 use Rattle.octets.specs.Choice.{pick}
-use Rattle.replay_verdict.specs.Judging.{agreed, clearedAs}
+use Rattle.replay_verdict.specs.Verdicts.{agreed, clearedAs}
 use borrow.Author.Needs.{needs}
 use Rattle.replay_verdict.proofs.cleared.Statement.{statement}
 use Rattle.replay_verdict.proofs.cleared.Tie as tie

@@ -1,6 +1,6 @@
 -- Four numbers in their order.
 use mathlib.Core.Path.{refl}
-use Rattle.replay_verdict.specs.Judging.{cutNumbers}
+use Rattle.replay_verdict.specs.Verdicts.{cutNumbers}
 use Rattle.replay_verdict.proofs.Laws.{two, numbers}
 use borrow.Author.Needs.{needs}
 use Rattle.replay_verdict.proofs.cut.Statement.{statement}

@@ -2,7 +2,7 @@
 use lib.ListN.{getD}
 use borrow.Author.Tests.{eq-eqb, ne-eqb}
 use Rattle.octets.specs.Choice.{pick}
-use Rattle.replay_verdict.specs.Judging.{agreed, digestsAs}
+use Rattle.replay_verdict.specs.Verdicts.{agreed, digestsAs}
 use Rattle.replay_verdict.proofs.Laws.{two, numbers}
 use borrow.Author.Needs.{needs}
 use Rattle.replay_verdict.proofs.digests.Statement.{statement}

@@ -2,7 +2,7 @@
 use mathlib.Core.Path.{sym, ap, _∙_}
 use Prim.Native.Nat.{ℕ, _+_, _-_}
 use native.Mathlib.Omega.{arith}
-use Rattle.replay_verdict.specs.Judging.{agreed, answerEnd, noticeEnd, roomAs, tableAs, textAt}
+use Rattle.replay_verdict.specs.Verdicts.{agreed, answerEnd, noticeEnd, roomAs, tableAs, textAt}
 use Rattle.replay_verdict.proofs.Laws.{two, text-lent, rest-lent, notice-ends, behind, no-form, in-form}
 use borrow.Author.Needs.{needs}
 use Rattle.replay_verdict.proofs.judged.Statement.{statement}

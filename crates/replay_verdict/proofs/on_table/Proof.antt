@@ -3,7 +3,7 @@ use mathlib.Core.Path.{_≡_, ap, _∙_}
 use Prim.Native.Nat.{ℕ, _-_}
 use native.Mathlib.Omega.{arith}
 use lib.ListN.{length, take, drop}
-use Rattle.replay_verdict.specs.Judging.{digestsAs, tableAs}
+use Rattle.replay_verdict.specs.Verdicts.{digestsAs, tableAs}
 use Rattle.replay_verdict.proofs.Laws.{two, changes-lent}
 use borrow.Author.Needs.{needs}
 use Rattle.replay_verdict.proofs.on_table.Statement.{statement}

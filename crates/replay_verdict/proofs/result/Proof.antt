@@ -4,7 +4,7 @@ use Prim.Native.Nat.{_+_, _-_, _*_, _≤_}
 use native.Mathlib.Omega.{arith}
 use lib.ListN.{length, drop}
 use borrow.Author.Needs.{needs}
-use Rattle.replay_verdict.specs.Judging.{agreed, numbersAt}
+use Rattle.replay_verdict.specs.Verdicts.{agreed, numbersAt}
 use Rattle.replay_verdict.proofs.Laws.{number-same, number-other, numbers-end, numbers-start, numbers-next}
 use Rattle.replay_verdict.proofs.result.Statement.{statement}
 use Rattle.replay_verdict.proofs.result.Tie as tie

@@ -6,7 +6,7 @@ use native.Mathlib.Omega.{arith}
 use lib.ListN.{length, drop}
 use borrow.Author.Needs.{needs}
 use borrow.Author.Tests.{not-true, not-false}
-use Rattle.replay_verdict.specs.Judging.{agreed, resultsAt}
+use Rattle.replay_verdict.specs.Verdicts.{agreed, resultsAt}
 use Rattle.replay_verdict.proofs.Laws.{result-same, result-other, results-end}
 use Rattle.replay_verdict.proofs.results.Statement.{statement}
 use Rattle.replay_verdict.proofs.results.Tie as tie

@@ -4,7 +4,7 @@ use Prim.Native.Nat.{_+_}
 use lib.ListN.{length}
 use borrow.Author.Tests.{lt-ltb, le-ltb}
 use Rattle.octets.specs.Choice.{pick}
-use Rattle.replay_verdict.specs.Judging.{textEnd}
+use Rattle.replay_verdict.specs.Verdicts.{textEnd}
 use borrow.Author.Needs.{needs}
 use Rattle.replay_verdict.proofs.text_end.Statement.{statement}
 use Rattle.replay_verdict.proofs.text_end.Tie as tie

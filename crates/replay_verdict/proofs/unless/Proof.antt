@@ -1,7 +1,7 @@
 -- The two numbers are the same, or not.
 use mathlib.Core.Path.{sym}
 use borrow.Author.Tests.{eq-eqb, ne-eqb}
-use Rattle.replay_verdict.specs.Judging.{agreed}
+use Rattle.replay_verdict.specs.Verdicts.{agreed}
 use Rattle.replay_verdict.proofs.unless.Statement.{statement}
 use Rattle.replay_verdict.proofs.unless.Tie as tie
 

@@ -1,14 +1,14 @@
--- The number of the word stays within its bound.
+-- The words that are left fall.
 use Prim.Native.Nat.{_-_, _≤_}
 use borrow.Author.Needs.{needs}
-use Rattle.tool_options.proofs.find.Statement.{statement}
-use Rattle.tool_options.proofs.find.Tie as tie
+use Rattle.tool_options.proofs.find_from.Statement.{statement}
+use Rattle.tool_options.proofs.find_from.Tie as tie
 
 abbrev Inv-loop : tie.InvT-loop
-Inv-loop kind i₀ i = i ≤ 16
+Inv-loop first kind i₀ i = 0 ≤ i
 
 abbrev μ-loop : tie.MeasureT-loop
-μ-loop kind i₀ i = 16 - i
+μ-loop first kind i₀ i = 16 - i
 
 loop-holds : tie.Need-loop-holds Inv-loop μ-loop
 loop-holds c = search needs
@@ -31,8 +31,8 @@ loop-again c = search needs
 returns-2 : tie.Need-returns-2 Inv-loop μ-loop
 returns-2 c = search needs
 
-pub find-spec : {M : Type 1} → statement M
-find-spec =
+pub find-from-spec : {M : Type 1} → statement M
+find-from-spec =
     tie.close
     (tie.spec
     Inv-loop

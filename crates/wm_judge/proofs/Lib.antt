@@ -1,0 +1,2 @@
+pub mod NoSecondAnswer
+pub mod Ensured
