@@ -603,15 +603,32 @@ static void holding_last(void) {
     old.answer.bytes[old.answer.length - 2] ^= 1;
 }
 
-/* The realm and Subscription-Id, the two last, stand behind Session-Id, which ends at byte 100. */
-static void holding_turned(void) {
-    static uint8_t last[88];
-    holding();
+/* So many bytes at the end of the old server's answer stand behind Session-Id, which ends at byte 100. */
+static void turn(size_t bytes) {
+    static uint8_t last[WM_ANSWER_LEAST];
     uint8_t *turned = old.answer.bytes + 100, *end = old.answer.bytes + old.answer.length;
-    memcpy(last, end - sizeof last, sizeof last);
-    for (uint8_t *p = end; p-- > turned + sizeof last;)
-        *p = p[-(int)sizeof last];
-    memcpy(turned, last, sizeof last);
+    memcpy(last, end - bytes, bytes);
+    for (uint8_t *p = end; p-- > turned + bytes;)
+        *p = *(p - bytes);
+    memcpy(turned, last, bytes);
+}
+
+/* The realm and Subscription-Id, the two last. */
+static void holding_turned(void) {
+    holding();
+    turn(88);
+}
+
+/* AVPs of our own codes' neighbours, without M. */
+static void holding_more(void) {
+    struct request *r = &old.answer;
+    holding();
+    for (uint32_t code = 25; code < 45; code++) {
+        put_number(r, 4, code);
+        put_number(r, 4, 12);
+        put_number(r, 4, code);
+    }
+    finish(r);
 }
 
 /* A Failed-AVP behind all, in it three more, one inside the other, and an AVP in the innermost. */
@@ -638,6 +655,14 @@ static void holding_some_proxies(void) {
 
 static void holding_many_proxies(void) {
     holding_proxies(64);
+}
+
+static void holding_proxies_first(void) {
+    size_t before;
+    holding_proxies(0);
+    before = old.answer.length;
+    holding_proxies(64);
+    turn(old.answer.length - before);
 }
 
 static const struct line lines[] = {
@@ -692,10 +717,13 @@ static const struct line lines[] = {
     {"judged: our own answer accepted", holding, 1, 1, true, {0, 0, 0, 0, 0, 0, 0, 0}, 1, HOLD},
     {"form 2: judged: our own answer accepted", holding, 1, 1, true, {0, 0, 0, 0, 0, 0, 0, 0}, 2, HOLD},
     {"judged: accepted, in another order", holding_turned, 1, 1, true, {0, 0, 0, 0, 0, 0, 0, 0}, 1, HOLD},
+    {"form 2: judged: accepted, in another order", holding_turned, 1, 1, true, {0, 0, 0, 0, 0, 0, 0, 0}, 2, HOLD},
     {"judged: refused at the last AVP", holding_last, 1, 1, true, {32, 0, 0, 3, 0, 228, 0, 0}, 1, HOLD},
     {"judged: accepted, four groups nested", holding_groups, 1, 1, true, {0, 0, 0, 0, 0, 0, 0, 0}, 1, HOLD},
+    {"judged: accepted, 20 more AVPs without M", holding_more, 1, 1, true, {0, 0, 0, 0, 0, 0, 0, 0}, 1, HOLD},
     {"judged: accepted, 4 Proxy-Infos", holding_some_proxies, 1, 1, true, {0, 0, 0, 0, 0, 0, 0, 0}, 1, HOLD},
     {"judged: accepted, 64 Proxy-Infos", holding_many_proxies, 1, 1, true, {0, 0, 0, 0, 0, 0, 0, 0}, 1, HOLD},
+    {"judged: accepted, 64 Proxy-Infos before the rest", holding_proxies_first, 1, 1, true, {0, 0, 0, 0, 0, 0, 0, 0}, 1, HOLD},
 };
 enum { LINES = sizeof lines / sizeof *lines };
 

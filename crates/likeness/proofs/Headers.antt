@@ -1,5 +1,6 @@
 -- The header that is due, byte by byte, and what is found of a header.
 use mathlib.Core.Path.{_≡_, refl, sym, ap, _∙_}
+use mathlib.Core.Bool.{true}
 use mathlib.Core.List.{List, [], _∷_}
 use Prim.Native.Nat.{ℕ, zero, suc, _+_, _/_, _%_, _≤_, _<_}
 use native.Mathlib.Omega.{arith}
@@ -8,8 +9,9 @@ use lib.Dec.{leb}
 use lib.ListN.{length, getD, take, drop}
 use lib.Seq.{getD-drop, getD-take, length-take-le, take-all}
 use Rattle.octets.specs.Choice.{pick}
+use Rattle.octets.specs.Numbers.{net24}
 use Rattle.octets.specs.Texts.{part, same}
-use Rattle.octets.proofs.Lists.{by-test}
+use Rattle.octets.proofs.Lists.{by-test, same-refl, same-eq}
 use Rattle.octets.proofs.Texts.{length-part}
 use Rattle.likeness.specs.TheSameAnswer.{nothing, differs, unless, agreeing, compared, trueLength, headerDue, headerFinding}
 use Rattle.likeness.proofs.Prefixes.{same-all, same-not}
@@ -102,3 +104,23 @@ module _ (ours theirs : List ℕ) where
     header-differs at e k =
         let l : length (headerDue ours (length theirs)) ≡ 20 = due-length ours (length theirs) h in
         rw (e, same-not (take 20 theirs) (headerDue ours (length theirs)) (omega (arith, l, e, k)))
+
+-- what is asked without a look at each byte: the first byte, the length, and the sixteen behind it
+twenty : (t : List ℕ) → 20 ≤ length t → take 20 t ≡ getD t 0 0 ∷ getD t 1 0 ∷ getD t 2 0 ∷ getD t 3 0 ∷ part t 4 16
+twenty [] h = absurd (omega arith)
+twenty (a ∷ []) h = absurd (omega arith)
+twenty (a ∷ (b ∷ [])) h = absurd (omega arith)
+twenty (a ∷ (b ∷ (c ∷ []))) h = absurd (omega arith)
+twenty (a ∷ (b ∷ (c ∷ (d ∷ t)))) h = refl
+
+pub header-right : (ours theirs : List ℕ) → 20 ≤ length ours → 20 ≤ length theirs → getD theirs 0 0 ≡ getD ours 0 0
+    → getD theirs 2 0 < 256 → getD theirs 3 0 < 256 → net24 theirs 1 ≡ length theirs → same (part theirs 4 16) (part ours 4 16) ≡ true → headerFinding ours theirs ≡ nothing
+unfolding headerFinding compared unless pick net24
+header-right ours theirs h g z b c l s =
+    let n : ℕ = length theirs in
+    let one : getD theirs 1 0 ≡ length theirs / 65536 = omega (arith, l, b, c) in
+    let two : getD theirs 2 0 ≡ length theirs / 256 % 256 = omega (arith, l, b, c) in
+    let three : getD theirs 3 0 ≡ length theirs % 256 = omega (arith, l, b, c) in
+    let p : part theirs 4 16 ≡ part ours 4 16 = same-eq (part theirs 4 16) (part ours 4 16) s in
+    let e : take 20 theirs ≡ headerDue ours (length theirs) = twenty theirs g ∙ rw (z, one, two, three, p) (sym (due-is ours (length theirs) h)) in
+    rw (e, same-refl (headerDue ours (length theirs)))

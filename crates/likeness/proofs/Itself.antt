@@ -86,13 +86,3 @@ unfolding complete
 complete-own xs =
     every-of (λ (a : Avp). leb (length (having (a .name) xs)) (length (having (a .name) xs)))
     (λ a. le-leb (length (having (a .name) xs)) (length (having (a .name) xs)) (omega arith)) xs
-
--- where theirs begins with all of ours none is missing
-pub complete-begun : (xs ys : List Avp) → complete xs (xs ++ ys) ≡ true
-unfolding complete
-complete-begun xs ys =
-    every-of (λ (a : Avp). leb (length (having (a .name) xs)) (length (having (a .name) (xs ++ ys))))
-    (λ a.
-    let l : length (having (a .name) (xs ++ ys)) ≡ length (having (a .name) xs) + length (having (a .name) ys) =
-    ap length (having-append (a .name) xs ys) ∙ length-append (having (a .name) xs) (having (a .name) ys) in
-    le-leb (length (having (a .name) xs)) (length (having (a .name) (xs ++ ys))) (omega (arith, l))) xs

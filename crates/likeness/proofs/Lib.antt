@@ -7,4 +7,5 @@ pub mod Fitting
 pub mod Groups
 pub mod Whole
 pub mod Itself
-pub mod Alike
+pub mod Bytes
+pub mod Marks

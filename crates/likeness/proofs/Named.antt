@@ -21,7 +21,7 @@ having-cons : (n : Name) (b : Avp) (xs : List Avp) → having n (b ∷ xs) ≡ p
 unfolding having keep
 having-cons n b xs = refl
 
-having-none : (n : Name) → having n [] ≡ []
+pub having-none : (n : Name) → having n [] ≡ []
 unfolding having keep
 having-none n = refl
 
@@ -61,6 +61,15 @@ module _ (n : Name) (m : List ℕ) (p : ℕ) where
   here : (next : ℕ) → nextAt m p ≡ next → (next ≡ 0 → ⊥)
       → having n (avpsFrom m p) ≡ pick (sameName n ((avpAt m p) .name)) (avpAt m p ∷ having n (avpsFrom m next)) (having n (avpsFrom m next))
   here next e f = ap (having n) (from-here m p next e f) ∙ having-cons n (avpAt m p) (avpsFrom m next)
+
+  module _ (next : ℕ) (e : nextAt m p ≡ next) (f : next ≡ 0 → ⊥) where
+    pub having-other : sameName n ((avpAt m p) .name) ≡ false → having n (avpsFrom m p) ≡ having n (avpsFrom m next)
+    unfolding pick
+    having-other h = here next e f ∙ rw h
+
+    pub having-one : sameName n ((avpAt m p) .name) ≡ true → having n (avpsFrom m p) ≡ avpAt m p ∷ having n (avpsFrom m next)
+    unfolding pick
+    having-one h = here next e f ∙ rw h
 
   pub count-here : (next : ℕ) → nextAt m p ≡ next → (next ≡ 0 → ⊥) → namedFrom n m p ≡ pick (sameName n ((avpAt m p) .name)) 1 0 + namedFrom n m next
   count-here next e f = ap length (here next e f) ∙ count-pick (sameName n ((avpAt m p) .name)) (avpAt m p) (having n (avpsFrom m next))

@@ -1,10 +1,10 @@
 -- An AVP at a place of an answer: what is known of one that passes the four tests, its name, its flags and its value by its bytes, and the walk from there on.
-use mathlib.Core.Path.{_≡_, sym, ap, _∙_}
+use mathlib.Core.Path.{_≡_, refl, sym, ap, _∙_}
 use mathlib.Core.Bool.{Bool, false, _&&_, and-false}
 use mathlib.Core.List.{List, [], _∷_}
 use Prim.Native.Nat.{ℕ, _+_, _-_, _%_, _≤_, _<_}
 use native.Mathlib.Omega.{arith}
-use borrow.Author.Tests.{eqb-true, eqb-false, eq-eqb, ne-eqb, leb-true, leb-false, ltb-true, ltb-false}
+use borrow.Author.Tests.{eqb-true, eqb-false, eq-eqb, ne-eqb, leb-true, leb-false, le-leb, lt-leb, ltb-true, ltb-false}
 use lib.Dec.{eqb, leb, ltb}
 use lib.ListN.{length, getD, take, drop, length-drop}
 use lib.Seq.{getD-drop, getD-take, drop-drop, length-take-le}
@@ -13,6 +13,7 @@ use Rattle.octets.specs.Numbers.{net24, net32, up4}
 use Rattle.octets.specs.Texts.{same}
 use Rattle.octets.proofs.Lists.{by-test}
 use Rattle.message.specs.ReadingAMessage.{base, vendor, sameName, headLength, avpLength, avpCode, avpOf, Walk, behind, walk}
+use Rattle.message.specs.Positions.{FlagsAndLength}
 use Rattle.message.proofs.Walks.{Passed, passes, up4-least, walk-end, walk-bad, walk-one}
 use Rattle.message.proofs.Heads.{net24-drop, net32-drop, head-v, head-base, name-v, name-base, code-few, code-bits, code-length, code-past, code-none}
 use Rattle.message.proofs.Gathering.{next-on}
@@ -110,6 +111,60 @@ module _ (m : List ℕ) (at : ℕ) where
             let c : avpCode (drop at m) ≡ 0 = code-none (drop at m) eight-left bits enough (rw (length-here, length-drop) (omega arith)) in
             next-is c ∙ ap (λ (n : ℕ). at + up4 n) length-here
 
+  -- by flags and length as one word, and the header's length by that
+  module _ (g : at + 8 ≤ length m) (w : ℕ) (o : FlagsAndLength m at w) where
+    pub word-bits : 16777216 ≤ w % 536870912 → nextAt m at ≡ 0
+    word-bits r = next-bits g (λ z. omega (arith, o .both, o .byte, o .three))
+
+    module _ (r : w % 536870912 < 16777216) (h : ℕ) (is : h ≡ pick (leb 2147483656 w) 12 8) where
+      clear : getD m (at + 4) 0 % 32 ≡ 0
+      clear = omega (arith, o .both, o .byte, o .three)
+
+      word-length : w % 536870912 ≡ net24 m (at + 5)
+      word-length = omega (arith, o .both, o .byte, o .three, clear)
+
+      with-v : 2147483656 ≤ w → h ≡ 12
+      unfolding pick
+      with-v v = is ∙ rw (le-leb 2147483656 w v)
+
+      without-v : w < 2147483656 → h ≡ 8
+      unfolding pick
+      without-v v = is ∙ rw (lt-leb 2147483656 w v)
+
+      between : (8 ≤ h) × (h ≤ 12)
+      between =
+          by-test (leb 2147483656 w)
+          (λ t. let e : h ≡ 12 = with-v (leb-true 2147483656 w t) in (omega (arith, e), omega (arith, e)))
+          (λ t. let e : h ≡ 8 = without-v (leb-false 2147483656 w t) in (omega (arith, e), omega (arith, e)))
+
+      pub word-short : w % 536870912 < h → nextAt m at ≡ 0
+      unfolding pick
+      word-short s =
+          by-test (leb 128 (getD m (at + 4) 0))
+          (λ t. next-short g clear 12 (rw t) (omega (arith, s, word-length, between .1)))
+          (λ t.
+          let v : getD m (at + 4) 0 < 128 = leb-false 128 (getD m (at + 4) 0) t in
+          let e : h ≡ 8 = without-v (omega (arith, o .both, o .three, v)) in
+          next-short g clear 8 (rw t) (omega (arith, s, word-length, e)))
+
+      module _ (l : h ≤ w % 536870912) where
+        enough-here : pick (leb 128 (getD m (at + 4) 0)) 12 8 ≤ net24 m (at + 5)
+        unfolding pick
+        enough-here =
+            by-test (leb 128 (getD m (at + 4) 0))
+            (λ t.
+            let v : 128 ≤ getD m (at + 4) 0 = leb-true 128 (getD m (at + 4) 0) t in
+            let e : h ≡ 12 = with-v (omega (arith, o .both, v, l, word-length, between .0)) in
+            rw t (omega (arith, l, word-length, e)))
+            (λ t. rw t (omega (arith, l, word-length, between .0)))
+
+        pub word-past : length m < at + up4 (w % 536870912) → nextAt m at ≡ 0
+        word-past p = next-past g clear (pick (leb 128 (getD m (at + 4) 0)) 12 8) refl enough-here (rw word-length at p)
+
+        pub word-whole : at + up4 (w % 536870912) ≤ length m → nextAt m at ≡ at + up4 (w % 536870912)
+        word-whole p =
+            next-whole g clear (pick (leb 128 (getD m (at + 4) 0)) 12 8) refl enough-here (rw word-length at p) ∙ ap (λ (n : ℕ). at + up4 n) (sym word-length)
+
   -- the walk from there on
   pub from-none : nextAt m at ≡ 0 → avpsFrom m at ≡ []
   from-none e =
@@ -134,6 +189,27 @@ module _ (m : List ℕ) (at : ℕ) where
       let k : avpCode (drop at m) ≡ 0 = passes-here (λ z. f (sym e ∙ z)) in
       let p : Passed (drop at m) = passes (drop at m) k in
       rw (length-take-le (up4 (avpLength (drop at m))) (drop at m) (p .whole)) (sym (next-is k) ∙ e)
+
+-- its bytes lie inside
+pub inside : (m : List ℕ) (at next : ℕ) → nextAt m at ≡ next → (next ≡ 0 → ⊥) → (at + 8 ≤ next) × (next ≤ length m)
+inside m at next e f =
+    let k : avpCode (drop at m) ≡ 0 = passes-here m at (λ z. f (sym e ∙ z)) in
+    let r = reaches m at k in
+    let n : next ≡ at + up4 (avpLength (drop at m)) = sym e ∙ next-is m at k in
+    (omega (arith, r .0, n), omega (arith, r .1, n))
+
+-- whether its V is set, by the word: its length is 8 at least
+pub word-v : (m : List ℕ) (at w : ℕ) → FlagsAndLength m at w → Stands m at → leb 2147483656 w ≡ leb 128 (getD m (at + 4) 0)
+unfolding headLength pick
+word-v m at w o s =
+    by-test (leb 128 (getD m (at + 4) 0))
+    (λ t.
+    let v : 128 ≤ getD m (at + 4) 0 = leb-true 128 (getD m (at + 4) 0) t in
+    let e : headLength (drop at m) ≡ 12 = head-v (drop at m) (rw getD-drop v) in
+    le-leb 2147483656 w (omega (arith, o .both, v, s .head, e)) ∙ sym t)
+    (λ t.
+    let v : getD m (at + 4) 0 < 128 = leb-false 128 (getD m (at + 4) 0) t in
+    lt-leb 2147483656 w (omega (arith, o .both, o .three, v)) ∙ sym t)
 
 -- ITS VALUE
 

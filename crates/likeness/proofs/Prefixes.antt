@@ -1,17 +1,18 @@
 -- How far two texts agree: a byte more, the first that differs, the end of either.
 use mathlib.Core.Path.{_≡_, refl, ap, _∙_}
-use mathlib.Core.Bool.{true, false}
+use mathlib.Core.Bool.{Bool, true, false, _&&_, and-false}
 use mathlib.Core.List.{List, [], _∷_}
 use Prim.Native.Nat.{ℕ, suc, _+_, _≤_, _<_}
 use native.Mathlib.Omega.{arith}
 use native.Mathlib.Numerals.{add-one}
-use borrow.Author.Tests.{eq-eqb, ne-eqb}
-use lib.Dec.{eqb}
+use borrow.Author.Tests.{eqb-true, eqb-false, eq-eqb, ne-eqb, ltb-false, le-ltb}
+use lib.Dec.{eqb, ltb}
 use lib.ListN.{length, getD, drop, drop-of-length-le}
 use lib.Seq.{drop-cons}
 use Rattle.octets.specs.Choice.{pick}
 use Rattle.octets.specs.Texts.{same}
 use Rattle.octets.proofs.Lists.{by-test}
+use Rattle.octets.proofs.Texts.{same-step, same-differ}
 use Rattle.likeness.specs.TheSameAnswer.{agreeing}
 
 none-left : (t : List ℕ) → agreeing [] t ≡ 0
@@ -59,3 +60,22 @@ same-not (x ∷ s) (y ∷ t) h =
     by-test (eqb x y)
     (λ q. let f : suc (agreeing s t) < suc (length t) = rw q at h in rw q (same-not s t (omega arith)))
     (λ q. rw q)
+
+-- the least of what is noted of each byte, 255 where both are the same and else 0
+pub least-step : (a b : List ℕ) (i least x new : ℕ) → i < length a → i < length b → least ≤ 255 → x ≡ pick (eqb (getD a i 0) (getD b i 0)) 255 0 → new ≡ pick (ltb x least) x least
+    → (new ≤ 255) × (eqb new 255 && same (drop (i + 1) a) (drop (i + 1) b) ≡ eqb least 255 && same (drop i a) (drop i b))
+unfolding pick
+least-step a b i least x new h k l e f =
+    by-test (eqb (getD a i 0) (getD b i 0))
+    (λ t.
+    let v : x ≡ 255 = e ∙ rw t in
+    let n : new ≡ least = f ∙ rw (le-ltb x least (omega (arith, v, l))) in
+    (omega (arith, n, l), rw n (ap (λ (r : Bool). eqb least 255 && r) (same-step a b i h k (eqb-true (getD a i 0) (getD b i 0) t)))))
+    (λ t.
+    let v : x ≡ 0 = e ∙ rw t in
+    let n : new ≡ 0 =
+    by-test (ltb x least)
+    (λ o. f ∙ rw o v)
+    (λ o. let z : least ≡ 0 = omega (arith, ltb-false x least o, v) in f ∙ rw o z) in
+    let d : same (drop i a) (drop i b) ≡ false = same-differ a b i h k (eqb-false (getD a i 0) (getD b i 0) t) in
+    (omega (arith, n), rw (n, d, and-false (eqb least 255))))

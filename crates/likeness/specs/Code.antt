@@ -1,13 +1,15 @@
 -- What the code's numbers and parts say in the terms of the same answer.
-use mathlib.Core.List.{List, _++_}
+use mathlib.Core.Bool.{Bool, true, _&&_, not}
+use mathlib.Core.List.{List, []}
+use mathlib.Core.Logic.{_⊎_}
 use mathlib.Core.Path.{_≡_}
-use Prim.Native.Nat.{ℕ, _+_, _≤_}
+use Prim.Native.Nat.{ℕ, zero, suc, _+_, _-_, _%_, _≤_}
 use lib.Dec.{eqb}
-use lib.ListN.{length, drop}
+use lib.ListN.{length, getD, drop}
 use Rattle.octets.specs.Choice.{pick}
 use Rattle.octets.specs.Numbers.{net24, up4}
-use Rattle.message.specs.ReadingAMessage.{Name, Avp, headLength, avpLength, avpCode, avpOf, walk, having}
-use Rattle.likeness.specs.TheSameAnswer.{Finding, misplacedFrom}
+use Rattle.message.specs.ReadingAMessage.{Name, base, vendor, sameName, Avp, headLength, avpLength, avpCode, avpOf, walk, having}
+use Rattle.likeness.specs.TheSameAnswer.{Finding}
 use Rattle.likeness.specs.declared.Found.{Found}
 
 unfoldable pub said : Found → Finding
@@ -34,9 +36,45 @@ pub record Stands (m : List ℕ) (at : ℕ) : Type 0 where
   pub head : headLength (drop at m) ≤ net24 m (at + 5)
   pub end : at + net24 m (at + 5) ≤ length m
 
--- Up to a place both answers have the same AVPs, and whatever does not fit is behind it.
-pub record Alike (ours theirs : List ℕ) (at : ℕ) : Type 0 where
-  pub before : List Avp
-  pub ofOurs : avpsFrom ours 20 ≡ before ++ avpsFrom ours at
-  pub ofTheirs : avpsFrom theirs 20 ≡ before ++ avpsFrom theirs at
-  pub placed : misplacedFrom (avpsFrom ours 20) (avpsFrom theirs 20) at (avpsFrom theirs at) ≡ misplacedFrom (avpsFrom ours 20) (avpsFrom theirs 20) 20 (avpsFrom theirs 20)
+-- THE MARKS
+
+-- How many marks there are, and which of them an AVP has: by its code, so that each AVP of an answer of ours has one of its own.
+abbrev pub markCount : ℕ
+markCount = 64
+
+unfoldable pub markOf : Name → ℕ
+markOf (base c) = c % 64
+markOf (vendor v c) = c % 64
+
+-- The walk over the AVPs leads from one place to another, in so many steps.
+unfoldable pub leadsIn : (steps : ℕ) → List ℕ → (p q : ℕ) → Bool
+leadsIn zero m p q = eqb p q
+leadsIn (suc n) m p q = not (eqb (nextAt m p) 0) && leadsIn n m (nextAt m p) q
+
+pub record Leads (m : List ℕ) (p q : ℕ) : Type 0 where
+  pub steps : ℕ
+  pub there : leadsIn steps m p q ≡ true
+
+-- What a mark says of the AVPs of a name, theirs being walked up to a place: 0 that ours has none; from 2 on it is a place of ours, before which
+-- as many of them stand as theirs has before its own; and 1 says nothing.
+pub record Kept (ours theirs : List ℕ) (at : ℕ) (n : Name) (mark : ℕ) : Type 0 where
+  pub inside : mark ≤ length ours
+  pub none : mark ≡ 0 → having n (avpsFrom ours 20) ≡ []
+  pub place : 2 ≤ mark → Leads ours 20 mark
+  pub left : 2 ≤ mark → having n (avpsFrom ours mark) ≡ drop (namedFrom n theirs 20 - namedFrom n theirs at) (having n (avpsFrom ours 20))
+
+pub record Marked (ours theirs : List ℕ) (at : ℕ) (marks : List ℕ) : Type 0 where
+  pub size : length marks ≡ markCount
+  pub kept : (n : Name) → Kept ours theirs at n (getD marks (markOf n) 0)
+
+-- Ours has at a mark an AVP of that name, and the next starts at `behind`.
+pub record Behind (ours : List ℕ) (mark : ℕ) (n : Name) (behind : ℕ) : Type 0 where
+  pub marked : 2 ≤ mark
+  pub next : nextAt ours mark ≡ behind
+  pub named : sameName n ((avpAt ours mark) .name) ≡ true
+
+-- What is noted behind an AVP of theirs: the mark as it was, where ours has none of the name; 1; or what is behind the AVP at the mark, which has the name.
+abbrev pub Noted : (ours : List ℕ) (mark : ℕ) (n : Name) (noted : ℕ) → Type 0
+Noted ours mark n noted =
+    ((noted ≡ mark) × ((mark ≡ 0) ⊎ (namedFrom n ours 20 ≡ 0)))
+    ⊎ (((noted ≡ 1) × (1 ≤ mark)) ⊎ ((noted ≡ 0 → ⊥) × Behind ours mark n noted))

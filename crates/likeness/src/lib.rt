@@ -1,15 +1,15 @@
 // Another server's answer held against ours (W10): whether it is the same answer, and where it first differs. It knows no table.
 ghost use mathlib.Core.Path.{_≡_};
-ghost use mathlib.Core.Bool.{true, false, _&&_};
+ghost use mathlib.Core.Bool.{true, false, _&&_, _||_, not};
 ghost use mathlib.Core.List.{List};
 ghost use Prim.Native.Nat.{ℕ, _+_, _-_, _≤_, _<_};
-ghost use lib.Dec.{eqb, leb};
+ghost use lib.Dec.{eqb, leb, ltb};
 ghost use lib.ListN.{length, getD, take, drop};
 ghost use Rattle.octets.specs.Choice.{pick};
-ghost use Rattle.octets.specs.Texts.{same};
+ghost use Rattle.octets.specs.Texts.{same, zeros};
 ghost use Rattle.message.specs.ReadingAMessage.{base, sameName, having};
-ghost use Rattle.likeness.specs.TheSameAnswer.{isGroup, faultIn, agreeing, compared, headerDue, headerFinding, sameAvp, firstIs, fits, startsLike, misplaced, complete, avpsOf, answerFinding};
-ghost use Rattle.likeness.specs.Code.{said, avpAt, avpsFrom, namedFrom, nextAt, Stands, Alike};
+ghost use Rattle.likeness.specs.TheSameAnswer.{nothing, failedAvp, isGroup, faultIn, agreeing, compared, headerDue, headerFinding, sameAvp, firstIs, fits, startsLike, misplaced, complete, answerFinding};
+ghost use Rattle.likeness.specs.Code.{said, avpAt, avpsFrom, namedFrom, nextAt, Stands, markCount, markOf, Kept, Marked, Behind, Noted};
 
 // A number, 0 where there is nothing to tell; with 32 the kind of the mismatch, and the byte at which it is.
 pub struct Found {
@@ -20,11 +20,12 @@ pub struct Found {
 
 // ONE AVP
 
-// How many bytes an AVP's header has, by its flags.
-fn head_length(flags: u8) -> usize
-    ensures { λ r. ⌜ r ≡ pick (leb 128 flags) 12 8 ⌝ }
+// How many bytes an AVP's header has, by its flags and length as one word; of a length under 8 it does not matter. The word is compared as a whole: asked
+// for V alone, the compiler would load it byte by byte.
+fn head_length(word: u32) -> usize
+    ensures { λ r. ⌜ r ≡ pick (leb 2147483656 word) 12 8 ⌝ }
 {
-    if 128 <= flags {
+    if 2147483656 <= word {
         return 12;
     }
     8
@@ -42,12 +43,12 @@ fn next_at(m: &[u8], at: usize) -> usize
     if left < 8 {
         return 0;
     }
-    let flags = m[at + 4];
-    if flags % 32 != 0 {
+    let word = message::flags_and_length(m, at);
+    let n = (word % 536870912) as usize;
+    if 16777216 <= n {
         return 0;
     }
-    let n = octets::read24(m, at + 5);
-    if n < head_length(flags) {
+    if n < head_length(word) {
         return 0;
     }
     let whole = (n + 3) / 4 * 4;
@@ -71,12 +72,20 @@ fn value_of(m: &[u8], at: usize) -> &[u8]
     &m[from..end]
 }
 
+// Whether its V is set. Since its length is 8 at least, the word tells it as a whole.
+fn has_v(m: &[u8], at: usize) -> bool
+    requires { ⌜ Stands (now m) at ⌝ }
+    ensures { λ r. ⌜ r ≡ leb 128 (getD (now (m .entry)) (at + 4) 0) ⌝ }
+{
+    2147483656 <= message::flags_and_length(m, at)
+}
+
 // Whether it has this code, without V.
 fn is_base(m: &[u8], at: usize, code: u32) -> bool
     requires { ⌜ Stands (now m) at ⌝ }
     ensures { λ r. ⌜ r ≡ sameName (base code) ((avpAt (now (m .entry)) at) .name) ⌝ }
 {
-    if 128 <= m[at + 4] {
+    if has_v(m, at) {
         return false;
     }
     code == octets::read32(m, at)
@@ -211,6 +220,26 @@ fn agreeing(a: &[u8], b: &[u8]) -> usize
     i
 }
 
+// 255 where two bytes are the same, else 0: of sixteen at once one instruction of the machine.
+fn agreed(x: u8, y: u8) -> u8
+    ensures { λ r. ⌜ r ≡ pick (eqb x y) 255 0 ⌝ }
+{
+    if x == y {
+        return 255;
+    }
+    0
+}
+
+// The smaller of two bytes.
+fn smaller(x: u8, y: u8) -> u8
+    ensures { λ r. ⌜ r ≡ pick (ltb x y) x y ⌝ }
+{
+    if x < y {
+        return x;
+    }
+    y
+}
+
 // Whether two texts are the same, with no way out of the loop, so that the compiler takes many bytes at once: a row is long, and mostly the one due.
 fn same_throughout(a: &[u8], b: &[u8]) -> bool
     ensures { λ r. ⌜ r ≡ same (now (a .entry)) (now (b .entry)) ⌝ }
@@ -218,15 +247,13 @@ fn same_throughout(a: &[u8], b: &[u8]) -> bool
     if a.len() != b.len() {
         return false;
     }
-    let mut other: u8 = 0;
+    let mut least: u8 = 255;
     let mut i: usize = 0;
     while i < a.len() {
-        if a[i] != b[i] {
-            other = 1;
-        }
+        least = smaller(agreed(a[i], b[i]), least);
         i += 1;
     }
-    other == 0
+    least == 255
 }
 
 // Nothing where two texts are the same, else the mismatch at the first byte that differs.
@@ -284,6 +311,23 @@ fn header_agrees(ours: &[u8], theirs: &[u8]) -> usize
     i
 }
 
+// Whether it is the header due, without a look at each byte; what this says no to is looked at byte by byte.
+fn header_right(ours: &[u8], theirs: &[u8]) -> bool
+    requires { ⌜ 20 ≤ length (now ours) ⌝ }
+    ensures { λ r. ⌜ (r ≡ true → headerFinding (now (ours .entry)) (now (theirs .entry)) ≡ nothing) ⌝ }
+{
+    if theirs.len() < 20 {
+        return false;
+    }
+    if theirs[0] != ours[0] {
+        return false;
+    }
+    if octets::read24(theirs, 1) != theirs.len() {
+        return false;
+    }
+    octets::same_bytes(&theirs[4..20], &ours[4..20])
+}
+
 // Nothing where the header is the one due, else where it first differs.
 fn header_found(ours: &[u8], theirs: &[u8]) -> Found
     ensures { λ r. ⌜ said r ≡ headerFinding (now (ours .entry)) (now (theirs .entry)) ⌝ }
@@ -302,6 +346,13 @@ fn header_found(ours: &[u8], theirs: &[u8]) -> Found
             at: 0,
         };
     }
+    if header_right(ours, theirs) {
+        return Found {
+            number: 0,
+            mismatch: 0,
+            at: 0,
+        };
+    }
     let at = header_agrees(ours, theirs);
     if at < 20 {
         return Found {
@@ -317,22 +368,149 @@ fn header_found(ours: &[u8], theirs: &[u8]) -> Found
     }
 }
 
+// THE MARKS
+
+// How many there are: by the last bits of their codes no two names of an answer of ours have the same mark.
+const MARKS: usize = 64;
+
+// Which mark an AVP has, by its code.
+fn mark_of(m: &[u8], at: usize) -> usize
+    requires { ⌜ Stands (now m) at ⌝ }
+    ensures { λ r. ⌜ (r ≡ markOf ((avpAt (now (m .entry)) at) .name)) × (r < markCount) ⌝ }
+{
+    octets::long(m[at + 3]) % MARKS
+}
+
+// What is noted first: a place, unless there is one already.
+fn first_of(mark: usize, at: usize) -> usize
+    ensures { λ r. ⌜ r ≡ pick (eqb mark 0) at mark ⌝ }
+{
+    if mark == 0 {
+        return at;
+    }
+    mark
+}
+
+// Notes for each mark where the first AVP of ours stands that has it.
+fn mark_first(ours: &[u8], marks: &mut [usize])
+    requires { ⌜ now marks ≡ zeros markCount ⌝ }
+    ensures { λ r. ⌜ ((theirs : List ℕ) → Marked (now (ours .entry)) theirs 20 (now (marks .exit))) ⌝ }
+{
+    let mut at: usize = 20;
+    let mut next: usize = next_at(ours, at);
+    while next != 0 {
+        let k = mark_of(ours, at);
+        marks[k] = first_of(marks[k], at);
+        at = next;
+        next = next_at(ours, at);
+    }
+}
+
+// Where ours goes on behind the AVP at a mark, if that has the name of the one at `at` of theirs, else 0.
+fn behind_mark(ours: &[u8], mark: usize, theirs: &[u8], at: usize) -> usize
+    requires { ⌜ Stands (now theirs) at ⌝ }
+    ensures { λ r. ⌜ ((r ≡ 0 → ⊥) → Behind (now (ours .entry)) mark ((avpAt (now (theirs .entry)) at) .name) r) ⌝ }
+{
+    if mark < 2 {
+        return 0;
+    }
+    let next = next_at(ours, mark);
+    if next == 0 {
+        return 0;
+    }
+    if same_name(theirs, at, ours, mark) {
+        return next;
+    }
+    0
+}
+
+// Where ours goes on behind the AVP at a mark, if that has the same bytes as the one of theirs from `at` to `next`, else 0. An AVP is what its bytes say, so
+// that none of the four tests is made once more.
+fn behind_same(ours: &[u8], mark: usize, theirs: &[u8], at: usize, next: usize) -> usize
+    requires { ⌜ (mark ≤ length (now ours)) × (next ≡ nextAt (now theirs) at) × (next ≡ 0 → ⊥) ⌝ }
+    ensures { λ r. ⌜ ((r ≡ 0 → ⊥) → (2 ≤ mark) × (nextAt (now (ours .entry)) mark ≡ r) × (avpAt (now (ours .entry)) mark ≡ avpAt (now (theirs .entry)) at)) ⌝ }
+{
+    if mark < 2 {
+        return 0;
+    }
+    let whole = next - at;
+    if ours.len() - mark < whole {
+        return 0;
+    }
+    let behind = mark + whole;
+    if octets::same_bytes(&ours[mark..behind], &theirs[at..next]) {
+        return behind;
+    }
+    0
+}
+
+// What is noted behind an AVP of theirs, where `met` is what ours has behind the same bytes. Of a name that ours lacks nothing changes; 1, which says
+// nothing, is noted where the AVP at the mark has another name.
+fn mark_behind(ours: &[u8], mark: usize, theirs: &[u8], at: usize, met: usize) -> usize
+    requires { ⌜ Stands (now theirs) at × ((met ≡ 0 → ⊥) → Behind (now ours) mark ((avpAt (now theirs) at) .name) met) ⌝ }
+    ensures { λ r. ⌜ Noted (now (ours .entry)) mark ((avpAt (now (theirs .entry)) at) .name) r ⌝ }
+{
+    if met != 0 {
+        return met;
+    }
+    if mark == 0 {
+        return mark;
+    }
+    let behind = behind_mark(ours, mark, theirs, at);
+    if behind != 0 {
+        return behind;
+    }
+    if named_from(ours, 20, theirs, at) != 0 {
+        return 1;
+    }
+    mark
+}
+
 // THE AVPS BY PLACE
 
-// Whether the AVP that stands at a place of theirs may stand there.
-fn place_fits(ours: &[u8], theirs: &[u8], at: usize) -> bool
-    requires { ⌜ Stands (now theirs) at ⌝ }
+// Whether the AVP that stands at a place of theirs may stand there, whatever is marked. It is no Failed-AVP.
+fn fits_anywhere(ours: &[u8], theirs: &[u8], at: usize) -> bool
+    requires { ⌜ Stands (now theirs) at × (sameName failedAvp ((avpAt (now theirs) at) .name) ≡ false) ⌝ }
     ensures { λ r. ⌜ r ≡ fits (avpsFrom (now (ours .entry)) 20) (avpsFrom (now (theirs .entry)) 20) (avpsFrom (now (theirs .entry)) at) (avpAt (now (theirs .entry)) at) ⌝ }
 {
-    if is_base(theirs, at, 279) {
-        return true;
-    }
     if named_from(ours, 20, theirs, at) == 0 {
-        return theirs[at + 4] / 64 % 2 != 1;
+        return passes(theirs, at);
     }
     let all = named_from(theirs, 20, theirs, at);
     let rest = named_from(theirs, at, theirs, at);
     met_by(ours, minus(all, rest), theirs, at)
+}
+
+// Whether an AVP of a name that ours lacks may stand at a place of theirs.
+fn passes(theirs: &[u8], at: usize) -> bool
+    requires { ⌜ Stands (now theirs) at ⌝ }
+    ensures { λ r. ⌜ r ≡ (sameName failedAvp ((avpAt (now (theirs .entry)) at) .name) || not ((avpAt (now (theirs .entry)) at) .mandatory)) ⌝ }
+{
+    if theirs[at + 4] / 64 % 2 != 1 {
+        return true;
+    }
+    is_base(theirs, at, 279)
+}
+
+// Whether the AVP that stands at a place of theirs may stand there, by its mark. Where it is met it has the same bytes as the one of ours there.
+fn place_fits(ours: &[u8], theirs: &[u8], at: usize, mark: usize, met: usize) -> bool
+    requires { ⌜ Stands (now theirs) at × Kept (now ours) (now theirs) at ((avpAt (now theirs) at) .name) mark
+        × ((met ≡ 0 → ⊥) → (2 ≤ mark) × (nextAt (now ours) mark ≡ met) × (avpAt (now ours) mark ≡ avpAt (now theirs) at)) ⌝ }
+    ensures { λ r. ⌜ r ≡ fits (avpsFrom (now (ours .entry)) 20) (avpsFrom (now (theirs .entry)) 20) (avpsFrom (now (theirs .entry)) at) (avpAt (now (theirs .entry)) at) ⌝ }
+{
+    if met != 0 {
+        return true;
+    }
+    if mark == 0 {
+        return passes(theirs, at);
+    }
+    if is_base(theirs, at, 279) {
+        return true;
+    }
+    if behind_mark(ours, mark, theirs, at) != 0 {
+        return same_avp(ours, mark, theirs, at);
+    }
+    fits_anywhere(ours, theirs, at)
 }
 
 // Whether theirs starts as ours does: with Session-Id, where ours has it first.
@@ -351,67 +529,58 @@ fn starts_like(ours: &[u8], theirs: &[u8]) -> bool
     true
 }
 
-// Whether the AVP at a place of theirs, which ends before `next`, stands at the same place of ours, byte by byte.
-fn same_part(ours: &[u8], theirs: &[u8], at: usize, next: usize) -> bool
-    requires { ⌜ (next ≡ nextAt (now theirs) at) × (next ≡ 0 → ⊥) ⌝ }
-    ensures { λ r. ⌜ (r ≡ true → (nextAt (now (ours .entry)) at ≡ next) × (avpAt (now (ours .entry)) at ≡ avpAt (now (theirs .entry)) at)) ⌝ }
-{
-    if next_at(ours, at) != next {
-        return false;
-    }
-    octets::same_bytes(&ours[at..next], &theirs[at..next])
-}
-
-// How far both are the same, AVP by AVP.
-fn same_until(ours: &[u8], theirs: &[u8]) -> usize
-    ensures { λ r. ⌜ Alike (now (ours .entry)) (now (theirs .entry)) r ⌝ }
-{
-    let mut at: usize = 20;
-    let mut next: usize = next_at(theirs, at);
-    while next != 0 {
-        if !same_part(ours, theirs, at, next) {
-            return at;
-        }
-        at = next;
-        next = next_at(theirs, at);
-    }
-    at
-}
-
-// Where the first AVP of theirs starts that does not fit; 0 where all do. Up to `from` both are the same.
-fn misplaced(ours: &[u8], theirs: &[u8], from: usize) -> usize
-    requires { ⌜ Alike (now ours) (now theirs) from ⌝ }
-    ensures { λ r. ⌜ r ≡ misplaced (avpsFrom (now (ours .entry)) 20) (avpsFrom (now (theirs .entry)) 20) ⌝ }
+// Where the first AVP of theirs starts that does not fit; 0 where all do.
+fn misplaced(ours: &[u8], theirs: &[u8], marks: &mut [usize]) -> usize
+    requires { ⌜ Marked (now ours) (now theirs) 20 (now marks) ⌝ }
+    ensures { λ r. ⌜ (r ≡ misplaced (avpsFrom (now (ours .entry)) 20) (avpsFrom (now (theirs .entry)) 20))
+        × (r ≡ 0 → Marked (now (ours .entry)) (now (theirs .entry)) (length (now (theirs .entry))) (now (marks .exit))) ⌝ }
 {
     if !starts_like(ours, theirs) {
         return 20;
     }
-    let mut at: usize = from;
+    let mut at: usize = 20;
     let mut next: usize = next_at(theirs, at);
     while next != 0 {
-        if !place_fits(ours, theirs, at) {
+        let k = mark_of(theirs, at);
+        let mark = marks[k];
+        let met = behind_same(ours, mark, theirs, at, next);
+        if !place_fits(ours, theirs, at, mark, met) {
             return at;
         }
+        marks[k] = mark_behind(ours, mark, theirs, at, met);
         at = next;
         next = next_at(theirs, at);
     }
     0
 }
 
-// Whether of each name of ours theirs has no fewer. Up to `from` both are the same.
-fn complete(ours: &[u8], theirs: &[u8], from: usize) -> bool
-    requires { ⌜ Alike (now ours) (now theirs) from ⌝ }
+// Whether of each name of ours theirs has no fewer.
+fn none_fewer(ours: &[u8], theirs: &[u8]) -> bool
     ensures { λ r. ⌜ r ≡ complete (avpsFrom (now (ours .entry)) 20) (avpsFrom (now (theirs .entry)) 20) ⌝ }
 {
-    if next_at(ours, from) == 0 {
-        return true;
-    }
     let mut at: usize = 20;
     let mut next: usize = next_at(ours, at);
     while next != 0 {
         let n = named_from(ours, 20, ours, at);
         if named_from(theirs, 20, ours, at) < n {
             return false;
+        }
+        at = next;
+        next = next_at(ours, at);
+    }
+    true
+}
+
+// The same, where all of theirs fit: each of ours has been met if it stands before its mark.
+fn complete(ours: &[u8], theirs: &[u8], marks: &[usize]) -> bool
+    requires { ⌜ Marked (now ours) (now theirs) (length (now theirs)) (now marks) ⌝ }
+    ensures { λ r. ⌜ r ≡ complete (avpsFrom (now (ours .entry)) 20) (avpsFrom (now (theirs .entry)) 20) ⌝ }
+{
+    let mut at: usize = 20;
+    let mut next: usize = next_at(ours, at);
+    while next != 0 {
+        if marks[mark_of(ours, at)] <= at {
+            return none_fewer(ours, theirs);
         }
         at = next;
         next = next_at(ours, at);
@@ -484,8 +653,9 @@ pub fn answer_found(ours: &[u8], theirs: &[u8]) -> Found
             at: 0,
         };
     }
-    let from = same_until(ours, theirs);
-    let at = misplaced(ours, theirs, from);
+    let mut marks = [0usize; MARKS];
+    mark_first(ours, &mut marks);
+    let at = misplaced(ours, theirs, &mut marks);
     if at != 0 {
         return Found {
             number: 32,
@@ -493,7 +663,7 @@ pub fn answer_found(ours: &[u8], theirs: &[u8]) -> Found
             at,
         };
     }
-    if complete(ours, theirs, from) {
+    if complete(ours, theirs, &marks) {
         return Found {
             number: 0,
             mismatch: 0,

@@ -201,7 +201,7 @@ fn vendor_slot(id: u32, code: u32) -> usize
 }
 
 // Flags and length of the AVP at a place in one word, the flags in its highest byte.
-fn flags_and_length(m: &[u8], at: usize) -> u32
+pub fn flags_and_length(m: &[u8], at: usize) -> u32
     requires { ⌜ at + 8 ≤ length (now m) ⌝ }
     ensures { λ r. ⌜ FlagsAndLength (now (m .entry)) at r ⌝ }
 {

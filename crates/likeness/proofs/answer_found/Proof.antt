@@ -1,6 +1,7 @@
 -- Each test that tells something tells it before the next is asked: the laws of Whole.
-use mathlib.Core.Path.{sym, _∙_}
+use mathlib.Core.Path.{refl, sym, _∙_}
 use borrow.Author.Needs.{needs}
+use Rattle.octets.specs.Texts.{zeros}
 use Rattle.octets.proofs.Lists.{same-eq}
 use Rattle.likeness.specs.Code.{said}
 use Rattle.likeness.specs.TheSameAnswer.{avpsOf}
@@ -59,61 +60,73 @@ returns-4 c =
     let test4 = c .if4 in
     sym (told-itself (given .ours .now) (given .theirs .now) (said (faults-was .result)) (faults-was .ensures) (test1 .left) (said (header-found-was .result)) (header-found-was .ensures) (test2 .left) (test3 .left) (same-eq (given .ours .now) (given .theirs .now) (sym (same-bytes-was .ensures) ∙ test4 .taken)))
 
-same-until-requires : tie.Need-same-until-requires
-same-until-requires c κs = search needs
+slice-aggregate-mark-first : tie.Need-slice-aggregate-mark-first
+slice-aggregate-mark-first c = search needs
+
+mark-first-requires : tie.Need-mark-first-requires
+unfolding zeros
+mark-first-requires c κs = refl
+
+slice-aggregate-misplaced : tie.Need-slice-aggregate-misplaced
+slice-aggregate-misplaced c = search needs
 
 misplaced-requires : tie.Need-misplaced-requires
 misplaced-requires c κs =
-    let same-until-was = c .same-until in
-    same-until-was .ensures
+    let mark-first-was = c .before .before .mark-first in
+    let given = c .before .before .before .before .before .before .before .before .before .before .before .before .before .before .before .before .args in
+    mark-first-was .ensures (given .theirs .now)
 
 returns-5 : tie.Need-returns-5
 unfolding said avpsOf
 returns-5 c =
-    let given = c .before .before .before .before .before .before .before .before .before .before .before .before .before .before .before .args in
-    let faults-was = c .before .before .before .before .before .before .before .before .before .before .before .before .faults in
-    let test1 = c .before .before .before .before .before .before .before .before .before .before .if1 in
-    let header-found-was = c .before .before .before .before .before .before .before .before .before .header-found in
-    let test2 = c .before .before .before .before .before .before .before .if2 in
-    let test3 = c .before .before .before .before .before .if3 in
-    let misplaced-was = c .before .misplaced in
+    let given = c .before .before .before .before .before .before .before .before .before .before .before .before .before .before .before .before .before .before .before .args in
+    let faults-was = c .before .before .before .before .before .before .before .before .before .before .before .before .before .before .before .before .faults in
+    let test1 = c .before .before .before .before .before .before .before .before .before .before .before .before .before .before .if1 in
+    let header-found-was = c .before .before .before .before .before .before .before .before .before .before .before .before .before .header-found in
+    let test2 = c .before .before .before .before .before .before .before .before .before .before .before .if2 in
+    let test3 = c .before .before .before .before .before .before .before .before .before .if3 in
+    let misplaced-was = c .before .before .misplaced in
     let test5 = c .if5 in
-    sym (told-place (given .ours .now) (given .theirs .now) (said (faults-was .result)) (faults-was .ensures) (test1 .left) (said (header-found-was .result)) (header-found-was .ensures) (test2 .left) (test3 .left) (misplaced-was .result) (misplaced-was .ensures) (test5 .taken))
+    sym (told-place (given .ours .now) (given .theirs .now) (said (faults-was .result)) (faults-was .ensures) (test1 .left) (said (header-found-was .result)) (header-found-was .ensures) (test2 .left) (test3 .left) (misplaced-was .result) (misplaced-was .ensures .0) (test5 .taken))
+
+slice-aggregate-complete : tie.Need-slice-aggregate-complete
+slice-aggregate-complete c = search needs
 
 complete-requires : tie.Need-complete-requires
 complete-requires c κs =
-    let same-until-was = c .before .before .same-until in
-    same-until-was .ensures
+    let misplaced-was = c .before .before .before .misplaced in
+    let test5 = c .before .if5 in
+    misplaced-was .ensures .1 (test5 .left)
 
 returns-6 : tie.Need-returns-6
 unfolding said avpsOf
 returns-6 c =
-    let given = c .before .before .before .before .before .before .before .before .before .before .before .before .before .before .before .before .before .args in
-    let faults-was = c .before .before .before .before .before .before .before .before .before .before .before .before .before .before .faults in
-    let test1 = c .before .before .before .before .before .before .before .before .before .before .before .before .if1 in
-    let header-found-was = c .before .before .before .before .before .before .before .before .before .before .before .header-found in
-    let test2 = c .before .before .before .before .before .before .before .before .before .if2 in
-    let test3 = c .before .before .before .before .before .before .before .if3 in
-    let misplaced-was = c .before .before .before .misplaced in
-    let test5 = c .before .before .if5 in
+    let given = c .before .before .before .before .before .before .before .before .before .before .before .before .before .before .before .before .before .before .before .before .before .before .args in
+    let faults-was = c .before .before .before .before .before .before .before .before .before .before .before .before .before .before .before .before .before .before .before .faults in
+    let test1 = c .before .before .before .before .before .before .before .before .before .before .before .before .before .before .before .before .before .if1 in
+    let header-found-was = c .before .before .before .before .before .before .before .before .before .before .before .before .before .before .before .before .header-found in
+    let test2 = c .before .before .before .before .before .before .before .before .before .before .before .before .before .before .if2 in
+    let test3 = c .before .before .before .before .before .before .before .before .before .before .before .before .if3 in
+    let misplaced-was = c .before .before .before .before .before .misplaced in
+    let test5 = c .before .before .before .if5 in
     let complete-was = c .before .complete in
     let test6 = c .if6 in
-    sym (told-nothing (given .ours .now) (given .theirs .now) (said (faults-was .result)) (faults-was .ensures) (test1 .left) (said (header-found-was .result)) (header-found-was .ensures) (test2 .left) (test3 .left) (sym (misplaced-was .ensures) ∙ test5 .left) (sym (complete-was .ensures) ∙ test6 .taken))
+    sym (told-nothing (given .ours .now) (given .theirs .now) (said (faults-was .result)) (faults-was .ensures) (test1 .left) (said (header-found-was .result)) (header-found-was .ensures) (test2 .left) (test3 .left) (sym (misplaced-was .ensures .0) ∙ test5 .left) (sym (complete-was .ensures) ∙ test6 .taken))
 
 returns-7 : tie.Need-returns-7
 unfolding said avpsOf
 returns-7 c =
-    let given = c .before .before .before .before .before .before .before .before .before .before .before .before .before .before .before .before .before .args in
-    let faults-was = c .before .before .before .before .before .before .before .before .before .before .before .before .before .before .faults in
-    let test1 = c .before .before .before .before .before .before .before .before .before .before .before .before .if1 in
-    let header-found-was = c .before .before .before .before .before .before .before .before .before .before .before .header-found in
-    let test2 = c .before .before .before .before .before .before .before .before .before .if2 in
-    let test3 = c .before .before .before .before .before .before .before .if3 in
-    let misplaced-was = c .before .before .before .misplaced in
-    let test5 = c .before .before .if5 in
+    let given = c .before .before .before .before .before .before .before .before .before .before .before .before .before .before .before .before .before .before .before .before .before .before .args in
+    let faults-was = c .before .before .before .before .before .before .before .before .before .before .before .before .before .before .before .before .before .before .before .faults in
+    let test1 = c .before .before .before .before .before .before .before .before .before .before .before .before .before .before .before .before .before .if1 in
+    let header-found-was = c .before .before .before .before .before .before .before .before .before .before .before .before .before .before .before .before .header-found in
+    let test2 = c .before .before .before .before .before .before .before .before .before .before .before .before .before .before .if2 in
+    let test3 = c .before .before .before .before .before .before .before .before .before .before .before .before .if3 in
+    let misplaced-was = c .before .before .before .before .before .misplaced in
+    let test5 = c .before .before .before .if5 in
     let complete-was = c .before .complete in
     let test6 = c .if6 in
-    sym (told-missing (given .ours .now) (given .theirs .now) (said (faults-was .result)) (faults-was .ensures) (test1 .left) (said (header-found-was .result)) (header-found-was .ensures) (test2 .left) (test3 .left) (sym (misplaced-was .ensures) ∙ test5 .left) (sym (complete-was .ensures) ∙ test6 .left))
+    sym (told-missing (given .ours .now) (given .theirs .now) (said (faults-was .result)) (faults-was .ensures) (test1 .left) (said (header-found-was .result)) (header-found-was .ensures) (test2 .left) (test3 .left) (sym (misplaced-was .ensures .0) ∙ test5 .left) (sym (complete-was .ensures) ∙ test6 .left))
 
 pub answer-found-spec : {M : Type 1} → statement M
 answer-found-spec =
@@ -126,9 +139,12 @@ answer-found-spec =
     returns-3
     same-bytes-requires
     returns-4
-    same-until-requires
+    slice-aggregate-mark-first
+    mark-first-requires
+    slice-aggregate-misplaced
     misplaced-requires
     returns-5
+    slice-aggregate-complete
     complete-requires
     returns-6
     returns-7)

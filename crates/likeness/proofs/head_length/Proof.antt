@@ -9,14 +9,14 @@ unfolding pick
 returns c =
     let given = c .before .args in
     let test1 = c .if1 in
-    rw (le-leb 128 (given .flags) (test1 .taken))
+    rw (le-leb 2147483656 (given .word) (test1 .taken))
 
 returns-2 : tie.Need-returns-2
 unfolding pick
 returns-2 c =
     let given = c .before .args in
     let test1 = c .if1 in
-    rw (lt-leb 128 (given .flags) (test1 .left))
+    rw (lt-leb 2147483656 (given .word) (test1 .left))
 
 pub head-length-spec : {M : Type 1} → statement M
 head-length-spec = tie.close (tie.spec returns returns-2)

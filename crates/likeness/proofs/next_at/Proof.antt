@@ -1,10 +1,9 @@
--- The four tests in their order: each way out is a law of Places.
-use mathlib.Core.Path.{sym, ap, _∙_}
-use Prim.Native.Nat.{ℕ, _+_}
+-- The four tests by flags and length as one word: each way out is a law of Places.
+use mathlib.Core.Path.{sym}
 use native.Mathlib.Omega.{arith}
 use borrow.Author.Needs.{needs}
 use Rattle.octets.specs.Numbers.{up4}
-use Rattle.likeness.proofs.Places.{next-end, next-few, next-bits, next-short, next-past, next-whole}
+use Rattle.likeness.proofs.Places.{next-end, next-few, word-bits, word-short, word-past, word-whole}
 use Rattle.likeness.proofs.next_at.Statement.{statement}
 use Rattle.likeness.proofs.next_at.Tie as tie
 
@@ -24,39 +23,34 @@ returns-2 c =
     let test2 = c .if2 in
     sym (next-few (given .m .now) (given .at) (omega (arith, test1 .left, test2 .taken)))
 
-add-flags : tie.Need-add-flags
-add-flags c = search needs
+flags-and-length-requires : tie.Need-flags-and-length-requires
+flags-and-length-requires c κs = search needs
 
-shared-slice-read-flags : tie.Need-shared-slice-read-flags
-shared-slice-read-flags c = search needs
+cast-n : tie.Need-cast-n
+cast-n c = search needs
 
 returns-3 : tie.Need-returns-3
 returns-3 c =
     let given = c .before .before .before .before .before .args in
     let test1 = c .before .before .before .if1 in
     let test2 = c .before .before .if2 in
+    let flags-and-length-was = c .before .flags-and-length in
     let test3 = c .if3 in
-    sym (next-bits (given .m .now) (given .at) (omega (arith, test1 .left, test2 .left)) (test3 .taken))
-
-add-read24 : tie.Need-add-read24
-add-read24 c = search needs
-
-read24-requires : tie.Need-read24-requires
-read24-requires c κs = search needs
+    sym (word-bits (given .m .now) (given .at) (omega (arith, test1 .left, test2 .left)) (flags-and-length-was .result) (flags-and-length-was .ensures) (test3 .taken))
 
 head-length-requires : tie.Need-head-length-requires
 head-length-requires c κs = search needs
 
 returns-4 : tie.Need-returns-4
 returns-4 c =
-    let given = c .before .before .before .before .before .before .before .before .args in
-    let test1 = c .before .before .before .before .before .before .if1 in
-    let test2 = c .before .before .before .before .before .if2 in
-    let test3 = c .before .before .before .if3 in
+    let given = c .before .before .before .before .before .before .before .args in
+    let test1 = c .before .before .before .before .before .if1 in
+    let test2 = c .before .before .before .before .if2 in
+    let flags-and-length-was = c .before .before .before .flags-and-length in
+    let test3 = c .before .before .if3 in
     let head-length-was = c .before .head-length in
-    let read24-was = c .before .before .read24 in
     let test4 = c .if4 in
-    sym (next-short (given .m .now) (given .at) (omega (arith, test1 .left, test2 .left)) (test3 .left) (head-length-was .result) (head-length-was .ensures) (omega (arith, read24-was .ensures .0, test4 .taken)))
+    sym (word-short (given .m .now) (given .at) (omega (arith, test1 .left, test2 .left)) (flags-and-length-was .result) (flags-and-length-was .ensures) (test3 .left) (head-length-was .result) (head-length-was .ensures) (test4 .taken))
 
 add-whole : tie.Need-add-whole
 add-whole c = search needs
@@ -67,15 +61,15 @@ mul-whole c = search needs
 returns-5 : tie.Need-returns-5
 unfolding up4
 returns-5 c =
-    let given = c .before .before .before .before .before .before .before .before .before .args in
-    let test1 = c .before .before .before .before .before .before .before .if1 in
-    let test2 = c .before .before .before .before .before .before .if2 in
-    let test3 = c .before .before .before .before .if3 in
+    let given = c .before .before .before .before .before .before .before .before .args in
+    let test1 = c .before .before .before .before .before .before .if1 in
+    let test2 = c .before .before .before .before .before .if2 in
+    let flags-and-length-was = c .before .before .before .before .flags-and-length in
+    let test3 = c .before .before .before .if3 in
     let head-length-was = c .before .before .head-length in
-    let read24-was = c .before .before .before .read24 in
     let test4 = c .before .if4 in
     let test5 = c .if5 in
-    sym (next-past (given .m .now) (given .at) (omega (arith, test1 .left, test2 .left)) (test3 .left) (head-length-was .result) (head-length-was .ensures) (omega (arith, read24-was .ensures .0, test4 .left)) (omega (arith, read24-was .ensures .0, test1 .left, test5 .taken)))
+    sym (word-past (given .m .now) (given .at) (omega (arith, test1 .left, test2 .left)) (flags-and-length-was .result) (flags-and-length-was .ensures) (test3 .left) (head-length-was .result) (head-length-was .ensures) (test4 .left) (omega (arith, test1 .left, test5 .taken)))
 
 add-result : tie.Need-add-result
 add-result c = search needs
@@ -83,15 +77,15 @@ add-result c = search needs
 returns-6 : tie.Need-returns-6
 unfolding up4
 returns-6 c =
-    let given = c .before .before .before .before .before .before .before .before .before .args in
-    let read24-was = c .before .before .before .read24 in
-    let test1 = c .before .before .before .before .before .before .before .if1 in
-    let test2 = c .before .before .before .before .before .before .if2 in
-    let test3 = c .before .before .before .before .if3 in
+    let given = c .before .before .before .before .before .before .before .before .args in
+    let test1 = c .before .before .before .before .before .before .if1 in
+    let test2 = c .before .before .before .before .before .if2 in
+    let flags-and-length-was = c .before .before .before .before .flags-and-length in
+    let test3 = c .before .before .before .if3 in
     let head-length-was = c .before .before .head-length in
     let test4 = c .before .if4 in
     let test5 = c .if5 in
-    ap (λ (n : ℕ). given .at + up4 n) (read24-was .ensures .0) ∙ sym (next-whole (given .m .now) (given .at) (omega (arith, test1 .left, test2 .left)) (test3 .left) (head-length-was .result) (head-length-was .ensures) (omega (arith, read24-was .ensures .0, test4 .left)) (omega (arith, read24-was .ensures .0, test1 .left, test5 .left)))
+    sym (word-whole (given .m .now) (given .at) (omega (arith, test1 .left, test2 .left)) (flags-and-length-was .result) (flags-and-length-was .ensures) (test3 .left) (head-length-was .result) (head-length-was .ensures) (test4 .left) (omega (arith, test1 .left, test5 .left)))
 
 pub next-at-spec : {M : Type 1} → statement M
 next-at-spec =
@@ -100,11 +94,9 @@ next-at-spec =
     returns
     sub-left
     returns-2
-    add-flags
-    shared-slice-read-flags
+    flags-and-length-requires
+    cast-n
     returns-3
-    add-read24
-    read24-requires
     head-length-requires
     returns-4
     add-whole
