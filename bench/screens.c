@@ -84,18 +84,22 @@ static bool agree(struct wm_connected *said) {
 
 /* ---- lines ---- */
 
-/* The last screen of the list is the one that is fed: from the state `before` to `after`. */
+/* The last screen of the list is the one that is fed: from the state `before` to `after`. What is said is `number`, and how many are connected. */
 static const struct line {
     const char *name;
     enum what what;
     size_t screens;
-    uint32_t connected, before, after;
+    uint32_t number, connected, before, after;
 } lines[] = {
-    {"board: a request", REQUEST, 64, 0, WM_CUT, WM_ASKED},
-    {"board: its result", RESULT, 64, 0, WM_ASKED, WM_CONNECTED},
-    {"board: a notice", NOTICE, 64, 0, WM_CONNECTED, WM_CUT},
-    {"board: how many are connected", CONNECTED, 64, 64, WM_CONNECTED, WM_CONNECTED},
-    {"board: a request, 8 screens", REQUEST, 8, 0, WM_CUT, WM_ASKED},
+    {"board: a request", REQUEST, 64, 0, 0, WM_CUT, WM_ASKED},
+    {"board: its result", RESULT, 64, 0, 0, WM_ASKED, WM_CONNECTED},
+    {"board: a notice", NOTICE, 64, 0, 0, WM_CONNECTED, WM_CUT},
+    {"board: how many are connected", CONNECTED, 64, 0, 64, WM_CONNECTED, WM_CONNECTED},
+    {"board: a request, 8 screens", REQUEST, 8, 0, 0, WM_CUT, WM_ASKED},
+    {"board: a request, refused: 65 screens", REQUEST, 65, WM_SCREENS, 0, WM_CUT, WM_CUT},
+    {"board: its result, refused: 65 screens", RESULT, 65, WM_SCREENS, 0, WM_ASKED, WM_ASKED},
+    {"board: a notice, refused: 65 screens", NOTICE, 65, WM_SCREENS, 0, WM_CONNECTED, WM_CONNECTED},
+    {"board: how many, refused: 65 screens", CONNECTED, 65, WM_SCREENS, 0, WM_CONNECTED, WM_CONNECTED},
 };
 enum { LINES = sizeof lines / sizeof *lines };
 
@@ -134,7 +138,7 @@ static uint32_t run(const struct line *line, const struct library *library, stru
     for (uint32_t n = 0; n < calls; n++) {
         fed->state = line->before;
         struct wm_connected said = made(library, list);
-        bad |= said.number | (said.screens ^ line->connected) | (fed->state ^ line->after);
+        bad |= (said.number ^ line->number) | (said.screens ^ line->connected) | (fed->state ^ line->after);
     }
     return bad;
 }
@@ -231,14 +235,15 @@ int screens_count(size_t line, const char *library, uint32_t calls) {
 /* The shortest of many short runs for each, as in driver.c. */
 static int time_line(const struct line *line) {
     double best[3] = {1e9, 1e9, 1e9};
+    uint32_t calls = line->number == 0 ? CALLS : 50 * CALLS; /* a refusal is over at once */
     set_up(line);
     for (uint32_t turn = 0; turn < 60; turn++) {
         uint32_t bad[3];
         for (size_t i = 0; i < 3; i++) {
             size_t k = (i + 2) % 3; /* the empty one first: it leaves a screen as it was */
             double from = seconds();
-            bad[k] = run(line, &libraries[k], lists[k % 2], CALLS);
-            double took = (seconds() - from) / CALLS;
+            bad[k] = run(line, &libraries[k], lists[k % 2], calls);
+            double took = (seconds() - from) / calls;
             best[k] = took < best[k] ? took : best[k];
         }
         if (bad[0] || bad[1] || !same_lists()) {

@@ -5,13 +5,14 @@ use mathlib.Core.List.{List, [], _∷_}
 use Prim.Native.Nat.{ℕ, zero, suc, _+_, _≤_, _<_}
 use native.Mathlib.Numerals.{add-one}
 use native.Mathlib.Omega.{arith}
-use lib.Dec.{eqb}
+use lib.Dec.{eqb, ltb}
+use borrow.Author.Tests.{ltb-true, ltb-false}
 use lib.ListN.{length, getD, drop, set, length-map, drop-of-length-le, List·getD-map}
 use lib.Seq.{drop-cons}
 use Rattle.octets.specs.Choice.{pick}
 use Rattle.octets.specs.Lists.{every, keep, distinct}
 use Rattle.octets.specs.Numbers.{low32}
-use Rattle.octets.proofs.Lists.{and-left, and-right, within-high}
+use Rattle.octets.proofs.Lists.{by-test, and-left, and-right, within-high}
 use Rattle.screen.specs.TheBoard.{Screen, sameScreen, sized, isConnected}
 use Rattle.screen.specs.Code.{screenOf, boardOf, differs}
 
@@ -49,10 +50,6 @@ module _ (s : List (List ℕ)) (i : ℕ) where
   unfolding distinct differs
   distinct-stop h e = rw (next h, e)
 
-  pub distinct-end : length s ≤ i → distinct sameScreen (boardOf (drop i s)) ≡ true
-  unfolding distinct
-  distinct-end h = rw (none-left h)
-
   -- how many from here on are connected
   abbrev pub connectedFrom : ℕ
   connectedFrom = length (keep isConnected (boardOf (drop i s)))
@@ -68,6 +65,22 @@ module _ (s : List (List ℕ)) (i : ℕ) where
   pub counts-none : length s ≤ i → connectedFrom ≡ 0
   unfolding keep
   counts-none h = rw (none-left h)
+
+-- where at most one entry is left, none is there twice
+module _ (s : List (List ℕ)) (i : ℕ) where
+  one-left : i < length s → length s ≤ i + 1 → distinct sameScreen (boardOf (drop i s)) ≡ true
+  unfolding distinct every
+  one-left h k =
+      let e : boardOf (drop (i + 1) s) ≡ [] = none-left s (i + 1) k in
+      rw (next s i h, e)
+
+  no-more : length s ≤ i → distinct sameScreen (boardOf (drop i s)) ≡ true
+  unfolding distinct
+  no-more h = rw (none-left s i h)
+
+  pub distinct-end : length s ≤ i + 1 → distinct sameScreen (boardOf (drop i s)) ≡ true
+  distinct-end k =
+      by-test (ltb i (length s)) (λ t. one-left (ltb-true i (length s) t) k) (λ t. no-more (ltb-false i (length s) t))
 
 pub length-board : (s : List (List ℕ)) → length (boardOf s) ≡ length s
 unfolding boardOf

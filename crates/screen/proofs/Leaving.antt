@@ -1,10 +1,10 @@
 -- What a feed leaves, one law for each way out.
 use mathlib.Core.Path.{_≡_, sym, ap, _∙_}
-use mathlib.Core.Bool.{true, false, _&&_}
+use mathlib.Core.Bool.{Bool, true, false, _&&_}
 use mathlib.Core.List.{List, [], map}
 use Prim.Native.Nat.{ℕ, _≤_, _<_}
-use borrow.Author.Tests.{le-leb, lt-leb, leb-true}
-use lib.Dec.{leb}
+use borrow.Author.Tests.{le-leb, lt-leb, ltb-true, ltb-false}
+use lib.Dec.{leb, ltb}
 use lib.ListN.{length, getD, set}
 use lib.Seq.{set-getD}
 use Rattle.octets.specs.Choice.{pick, require, firstOf}
@@ -46,9 +46,17 @@ module _ (s : List (List ℕ)) (i : ℕ) (event : Event) (m : MoveIs) (state : S
 
 -- THE LIST
 module _ (s : List (List ℕ)) where
-  pub over-64 : 64 < length s → right (boardOf s) ≡ false
-  unfolding right
-  over-64 h = let e : leb (length (boardOf s)) 64 ≡ false = lt-leb (length (boardOf s)) 64 (rw (length-board s) h) in rw e
+  -- what an operation learns by asking for the length
+  module _ (many : Bool) (asked : many ≡ ltb 64 (length s)) where
+    pub over-64 : many ≡ true → right (boardOf s) ≡ false
+    unfolding right
+    over-64 e =
+        let h : 64 < length s = ltb-true 64 (length s) (sym asked ∙ e) in
+        let l : leb (length (boardOf s)) 64 ≡ false = lt-leb (length (boardOf s)) 64 (rw (length-board s) h) in
+        rw l
+
+    pub up-to-64 : many ≡ false → length s ≤ 64
+    up-to-64 e = ltb-false 64 (length s) (sym asked ∙ e)
 
   pub wrong-size : length s ≤ 64 → every sized (boardOf s) ≡ false → right (boardOf s) ≡ false
   unfolding right
@@ -59,10 +67,6 @@ module _ (s : List (List ℕ)) where
   all-right h e = let l : leb (length (boardOf s)) 64 ≡ true = le-leb (length (boardOf s)) 64 (rw (length-board s) h) in rw (l, e)
 
   module _ (r : right (boardOf s) ≡ true) where
-    pub right-length : length s ≤ 64
-    unfolding right
-    right-length = rw (length-board s) at (leb-true (length (boardOf s)) 64 (and-left _ (every sized (boardOf s) && distinct sameScreen (boardOf s)) r))
-
     rest-right : every sized (boardOf s) && distinct sameScreen (boardOf s) ≡ true
     unfolding right
     rest-right = and-right (leb (length (boardOf s)) 64) _ r

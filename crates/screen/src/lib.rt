@@ -4,6 +4,7 @@ ghost use mathlib.Core.Path.{_≡_};
 ghost use mathlib.Core.Bool.{true, false};
 ghost use mathlib.Core.List.{[]};
 ghost use Prim.Native.Nat.{_+_, _/_, _%_, _≤_, _<_};
+ghost use lib.Dec.{ltb};
 ghost use lib.ListN.{length, getD, drop, set};
 ghost use Rattle.octets.specs.Lists.{every, keep, distinct};
 ghost use Rattle.octets.specs.Numbers.{low32};
@@ -225,7 +226,7 @@ fn none_twice(screens: &[[u8; 140]]) -> bool
     ensures { λ r. ⌜ r ≡ distinct sameScreen (boardOf (now (screens .entry))) ⌝ }
 {
     let mut i: usize = 0;
-    while i < screens.len() {
+    while i + 1 < screens.len() { // the last entry has none behind it
         if !stands_once(screens, i) {
             return false;
         }
@@ -234,12 +235,17 @@ fn none_twice(screens: &[[u8; 140]]) -> bool
     true
 }
 
+// Every operation asks this by itself, before anything else: a list that is too long is then refused without a call.
+fn too_many(screens: &[[u8; 140]]) -> bool
+    ensures { λ r. ⌜ r ≡ ltb 64 (length (now (screens .entry))) ⌝ }
+{
+    screens.len() > 64
+}
+
 fn board_right(screens: &[[u8; 140]]) -> bool
+    requires { ⌜ length (now screens) ≤ 64 ⌝ }
     ensures { λ r. ⌜ r ≡ right (boardOf (now (screens .entry))) ⌝ }
 {
-    if screens.len() > 64 {
-        return false;
-    }
     if !sizes_right(screens) {
         return false;
     }
@@ -350,6 +356,7 @@ fn tell(screens: &mut [[u8; 140]], i: usize, event: Event)
 }
 
 fn feed(screens: &mut [[u8; 140]], session: &[u8], event: Event) -> u32
+    requires { ⌜ length (now screens) ≤ 64 ⌝ }
     ensures { λ r. ⌜ leaves r (now (screens .exit)) ≡ feed (boardOf (now (screens .entry))) (now (session .entry)) (eventSaid event) ⌝ }
 {
     if !board_right(screens) {
@@ -367,6 +374,9 @@ fn feed(screens: &mut [[u8; 140]], session: &[u8], event: Event) -> u32
 pub fn request(screens: &mut [[u8; 140]], which: u32, session: &[u8]) -> u32
     ensures { λ r. ⌜ leaves r (now (screens .exit)) ≡ feedRequest (boardOf (now (screens .entry))) which (now (session .entry)) ⌝ }
 {
+    if too_many(screens) {
+        return 25;
+    }
     feed(screens, session, request_says(which))
 }
 
@@ -381,6 +391,9 @@ pub fn result(
 ) -> u32
     ensures { λ r. ⌜ leaves r (now (screens .exit)) ≡ feedResult (boardOf (now (screens .entry))) which (now (session .entry)) code kind place ⌝ }
 {
+    if too_many(screens) {
+        return 25;
+    }
     feed(screens, session, result_says(which, code, kind, place))
 }
 
@@ -388,6 +401,9 @@ pub fn result(
 pub fn notice(screens: &mut [[u8; 140]], session: &[u8]) -> u32
     ensures { λ r. ⌜ leaves r (now (screens .exit)) ≡ feedNotice (boardOf (now (screens .entry))) (now (session .entry)) ⌝ }
 {
+    if too_many(screens) {
+        return 25;
+    }
     feed(screens, session, Event::Cuts)
 }
 
@@ -419,6 +435,12 @@ fn count_in(screens: &[[u8; 140]]) -> u32
 pub fn connected(screens: &[[u8; 140]]) -> Count
     ensures { λ r. ⌜ countSaid r ≡ countConnected (boardOf (now (screens .entry))) ⌝ }
 {
+    if too_many(screens) {
+        return Count {
+            number: 25,
+            screens: 0,
+        };
+    }
     if !board_right(screens) {
         return Count {
             number: 25,

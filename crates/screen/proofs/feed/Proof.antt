@@ -11,7 +11,7 @@ use Rattle.screen.proofs.feed.Statement.{statement}
 use Rattle.screen.proofs.feed.Tie as tie
 
 board-right-requires : tie.Need-board-right-requires
-board-right-requires c κs = search needs
+board-right-requires c κs = c .before .before .pre
 
 same-length : tie.Need-same-length
 same-length c = search needs

@@ -22,6 +22,9 @@ abbrev μ-loop : tie.MeasureT-loop
 loop-holds : tie.Need-loop-holds Inv-loop μ-loop
 loop-holds c = search needs
 
+add-loop : tie.Need-add-loop Inv-loop μ-loop
+add-loop c = search needs
+
 stands-once-requires : tie.Need-stands-once-requires Inv-loop μ-loop
 stands-once-requires c κs =
     let pre-was = c .before .before .pre in
@@ -64,6 +67,7 @@ none-twice-spec =
     Inv-loop
     μ-loop
     loop-holds
+    add-loop
     stands-once-requires
     returns
     add-i
