@@ -723,7 +723,7 @@ static const struct line lines[] = {
     {"judged: accepted, 20 more AVPs without M", holding_more, 1, 1, true, {0, 0, 0, 0, 0, 0, 0, 0}, 1, HOLD},
     {"judged: accepted, 4 Proxy-Infos", holding_some_proxies, 1, 1, true, {0, 0, 0, 0, 0, 0, 0, 0}, 1, HOLD},
     {"judged: accepted, 64 Proxy-Infos", holding_many_proxies, 1, 1, true, {0, 0, 0, 0, 0, 0, 0, 0}, 1, HOLD},
-    {"judged: accepted, 64 Proxy-Infos before the rest", holding_proxies_first, 1, 1, true, {0, 0, 0, 0, 0, 0, 0, 0}, 1, HOLD},
+    {"judged: accepted, 64 Proxy-Infos first", holding_proxies_first, 1, 1, true, {0, 0, 0, 0, 0, 0, 0, 0}, 1, HOLD},
 };
 enum { LINES = sizeof lines / sizeof *lines };
 
