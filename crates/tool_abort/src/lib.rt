@@ -145,7 +145,7 @@ fn step(desk: Desk, from: &[u8], to: &[u8], host: &[u8], realm: &[u8], d: Done) 
     if got == 0 {
         return ended(d, true);
     }
-    if got < 384 {
+    if got < answers::NOTICE_LENGTH_2 {
         tool_notices::refuse_end(from, 2, more(d.notices));
         return ended(d, false);
     }

@@ -13,7 +13,7 @@ ghost use Prim.Native.Nat.{_≤_};
 
 // Where the Session-Id of a request stands, as its first AVP; of no bytes where it does not.
 fn session_of(m: &[u8]) -> Span {
-    let step = reader::avp_at(m, 20);
+    let step = reader::avp_at(m, message::HEADER_LENGTH);
     let Step::One(s) = step else {
         return Span { at: 0, len: 0 };
     };
@@ -46,7 +46,7 @@ fn say_session(out: &mut [u8; 4096], at: usize, m: &[u8]) -> usize {
 
 // Whether an answer belongs to a request.
 fn belongs(answer: &[u8], m: &[u8]) -> bool {
-    if m.len() < 20 {
+    if m.len() < message::HEADER_LENGTH {
         return false;
     }
     let s = session_of(m);
@@ -71,10 +71,10 @@ const ALIKE: u8 = 1;
 const ITS: u8 = 2;
 
 fn compare(answer: &[u8], m: &[u8]) -> u8 {
-    if answer.len() < 20 {
+    if answer.len() < message::HEADER_LENGTH {
         return OTHER;
     }
-    if m.len() < 20 {
+    if m.len() < message::HEADER_LENGTH {
         return OTHER;
     }
     if !octets::same_bytes(&answer[12..20], &m[12..20]) {
@@ -95,11 +95,11 @@ fn length_at(all: &[u8], at: usize) -> usize
     if all.len() < at {
         return 0;
     }
-    if all.len() - at < 20 {
+    if all.len() - at < message::HEADER_LENGTH {
         return 0;
     }
     let n = octets::read24(all, at + 1);
-    if 4096 < n {
+    if message::LENGTH_MOST < n {
         return 0;
     }
     if all.len() - at < n {
@@ -163,7 +163,7 @@ fn sum(a: usize, b: usize) -> usize {
     if 4294967296 < a {
         return a;
     }
-    if 4096 < b {
+    if message::LENGTH_MOST < b {
         return a;
     }
     a + b
@@ -292,7 +292,7 @@ fn result_in(answer: &[u8], s: Seen) -> u32 {
 
 // The Result-Code of an answer, 0 where there is none. A message has at most 1,024 AVPs.
 fn result_of(answer: &[u8]) -> u32 {
-    let mut at: usize = 20;
+    let mut at: usize = message::HEADER_LENGTH;
     let mut turns: usize = 1024;
     while turns > 0 {
         turns -= 1;

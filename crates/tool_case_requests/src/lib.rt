@@ -38,14 +38,19 @@ fn labelled(room: &mut [u8; 4100], what: u8, session: &[u8; 1], label: u8) -> us
 fn long_session(room: &mut [u8; 4100], which: u8) -> usize {
     let letters = [b's'; 129];
     if which == b'8' {
-        return opening(room, &letters[0..128], b"001010123456789", b"board");
+        return opening(
+            room,
+            &letters[0..message::TEXT_MOST],
+            b"001010123456789",
+            b"board",
+        );
     }
     opening(room, &letters, b"001010123456789", b"board")
 }
 
 // A request made as long as the room.
 fn filled(room: &mut [u8], session: &[u8; 1]) -> usize {
-    if room.len() < 20 {
+    if room.len() < message::HEADER_LENGTH {
         return 0;
     }
     if 4100 < room.len() {
@@ -58,10 +63,10 @@ fn filled(room: &mut [u8], session: &[u8; 1]) -> usize {
 // A message of 4096 or of 4100 bytes.
 fn long_message(room: &mut [u8], which: u8) -> usize {
     if which == b'6' {
-        if room.len() < 4096 {
+        if room.len() < message::LENGTH_MOST {
             return 0;
         }
-        return filled(&mut room[0..4096], b"h");
+        return filled(&mut room[0..message::LENGTH_MOST], b"h");
     }
     filled(room, b"i")
 }
@@ -75,8 +80,8 @@ pub fn build(room: &mut [u8; 4100], what: u8, who: u8, label: u8) -> usize {
         return long_message(room, who);
     }
     if what == b'b' {
-        put_header(room, 20, 265);
-        return 20;
+        put_header(room, message::HEADER_LENGTH, 265);
+        return message::HEADER_LENGTH;
     }
     let session = [who];
     labelled(room, what, &session, label)

@@ -112,11 +112,11 @@ fn both_sums(out: &mut [u8; 4096]) -> usize {
 
 // The result in an answer to a request whose Session-Id is one byte long: it stands behind the header, the Session-Id and two numbers.
 fn result(out: &mut [u8; 4096], answer: &[u8]) -> usize {
-    if answer.len() < 5120 {
+    if answer.len() < answers::ANSWER_LEAST {
         return 0;
     }
     let end = 56 + octets::read24(answer, 61);
-    if 5120 < end {
+    if answers::ANSWER_LEAST < end {
         return 0;
     }
     let a = say(out, 0, b"  its result:");

@@ -61,7 +61,7 @@ pub fn group(m: &[u8], at: usize) {
 
 // What comes of the AVP at a place, where the message is a request to the server and it is not known. Those inside a group are not asked about.
 fn unknown(m: &[u8], at: usize) {
-    if m.len() < 20 {
+    if m.len() < message::HEADER_LENGTH {
         return;
     }
     if m[4] < 128 {
@@ -81,7 +81,7 @@ fn unknown(m: &[u8], at: usize) {
 
 // The AVPs of a message.
 fn outer(m: &[u8]) {
-    let mut at: usize = 20;
+    let mut at: usize = message::HEADER_LENGTH;
     let mut turns: usize = 1024;
     while turns > 0 {
         turns -= 1;

@@ -359,18 +359,23 @@ fn found_by(table: &[u8], form: u32, row: &[u8]) -> RowFound
         return RowFound::Nothing;
     }
     let n = octets::long(row[1]);
-    if 15 < n {
+    if table::NAME_MOST < n {
         return RowFound::Nothing;
     }
-    let end = 2 + n;
-    table::lookup(table, form as usize, octets::wide(row[19]), &row[2..end])
+    let end = table::NAME + n;
+    table::lookup(
+        table,
+        form as usize,
+        octets::wide(row[table::OPERATOR]),
+        &row[table::NAME..end],
+    )
 }
 
 // The line below row i, which no lookup comes to: it is no operator's, or a row before it has its operator and name. Nothing where it is found.
 pub fn hidden(out: &mut [u8; 4096], table: &[u8], form: u32, i: usize, row: &[u8]) -> usize
     requires { ⌜ 512 ≤ length (now row) ⌝ }
 {
-    if 15 < row[19] {
+    if 15 < row[table::OPERATOR] {
         return say(
             out,
             0,

@@ -171,7 +171,7 @@ pub fn feed(
     if screens.len() == 0 {
         return true;
     }
-    if m.len() < 20 {
+    if m.len() < message::HEADER_LENGTH {
         return true;
     }
     let heard = request::read(m, tool_request_line::most_policies(form));

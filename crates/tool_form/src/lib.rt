@@ -5,7 +5,10 @@ use tool_words::number;
 use tool_words::say;
 ghost use Prim.Native.Nat.{_≤_};
 
-// The longest table: 1,024 rows of form 2.
+// The most rows of a table.
+pub const MOST_ROWS: usize = 1024;
+
+// The longest table: as many of form 2.
 pub const MOST: usize = 8912896;
 
 // THE WORD
@@ -80,9 +83,9 @@ pub fn notice_length(form: u32) -> usize
     ensures { λ r. ⌜ (1 ≤ r) × (r ≤ 384) ⌝ }
 {
     if form == 2 {
-        return 384;
+        return answers::NOTICE_LENGTH_2;
     }
-    256
+    answers::NOTICE_LENGTH
 }
 
 // The bytes of so many rows.

@@ -319,7 +319,7 @@ fn judge_rows(
     if k < 1 {
         return false;
     }
-    if 1024 < k {
+    if tool_form::MOST_ROWS < k {
         return false;
     }
     let a = tool_form::length_of(d.form, k - 1);
@@ -460,7 +460,7 @@ fn refuse_rows(path: &[u8], rows: usize, cases: usize) {
 
 // The cases judged on both tables, which were read.
 fn judge_in(d: Desk, path: &[u8], cases: usize, before: &mut [u8], after: &[u8]) {
-    if 1024 < cases {
+    if tool_form::MOST_ROWS < cases {
         return;
     }
     let n = tool_form::length_of(d.form, cases);

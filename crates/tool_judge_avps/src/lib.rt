@@ -26,7 +26,7 @@ fn more(n: usize) -> usize {
 // How many AVPs that start before a byte have the name of another.
 pub fn named_before(m: &[u8], end: usize, s: Seen) -> usize {
     let mut n: usize = 0;
-    let mut at: usize = 20;
+    let mut at: usize = message::HEADER_LENGTH;
     let mut turns: usize = 1024;
     while turns > 0 {
         turns -= 1;
@@ -54,7 +54,7 @@ fn is_it(m: &[u8], at: usize, t: Seen, s: Seen, k: usize) -> bool {
 
 // Where the AVP stands that has the name of another, with k of that name before it; 0 where there is none.
 pub fn place_of(m: &[u8], s: Seen, k: usize) -> usize {
-    let mut at: usize = 20;
+    let mut at: usize = message::HEADER_LENGTH;
     let mut turns: usize = 1024;
     while turns > 0 {
         turns -= 1;
@@ -71,7 +71,7 @@ pub fn place_of(m: &[u8], s: Seen, k: usize) -> usize {
 
 // Where the first AVP of ours stands that theirs lacks: of its name no fewer stand before it than theirs has in all. 0 where theirs has every one.
 pub fn missing(ours: &[u8], theirs: &[u8]) -> usize {
-    let mut at: usize = 20;
+    let mut at: usize = message::HEADER_LENGTH;
     let mut turns: usize = 1024;
     while turns > 0 {
         turns -= 1;
@@ -109,7 +109,7 @@ fn is_other_result(m: &[u8], s: Seen) -> bool {
 
 // Where the first result of theirs stands that is of a name which ours has none of, 0 for none. Where ours is no bytes that is their first result.
 pub fn other_result(ours: &[u8], theirs: &[u8]) -> usize {
-    let mut at: usize = 20;
+    let mut at: usize = message::HEADER_LENGTH;
     let mut turns: usize = 1024;
     while turns > 0 {
         turns -= 1;
@@ -233,7 +233,7 @@ pub fn walk_end(m: &[u8]) -> Stop {
     let mut ends = [0usize; 5];
     ends[0] = m.len();
     let mut w = Walk {
-        at: 20,
+        at: message::HEADER_LENGTH,
         depth: 0,
         over: false,
     };

@@ -61,7 +61,7 @@ fn field(out: &mut [u8; 4096], at: usize, m: &[u8], byte: usize) -> usize {
         5..=7 => bytes(out, at, m, 5, 8),
         8..=11 => bytes(out, at, m, 8, 12),
         12..=15 => bytes(out, at, m, 12, 16),
-        _ => bytes(out, at, m, 16, 20),
+        _ => bytes(out, at, m, 16, message::HEADER_LENGTH),
     }
 }
 
@@ -145,7 +145,7 @@ fn tell_header(
     theirs: &[u8],
     byte: usize,
 ) -> bool {
-    if ours.len() < 20 {
+    if ours.len() < message::HEADER_LENGTH {
         return tell_not_due(out, at, m);
     }
     if theirs.len() < 1 {
@@ -261,7 +261,7 @@ fn is_session(s: Seen) -> bool {
 
 // Whether a message starts with Session-Id.
 fn starts_with_session(m: &[u8]) -> bool {
-    let step = reader::avp_at(m, 20);
+    let step = reader::avp_at(m, message::HEADER_LENGTH);
     let Step::One(s) = step else {
         return false;
     };
@@ -276,7 +276,7 @@ fn tell_place(
     byte: usize,
     s: Seen,
 ) -> bool {
-    if byte != 20 {
+    if byte != message::HEADER_LENGTH {
         return tell_named(out, at, ours, theirs, byte, s);
     }
     if !starts_with_session(ours) {

@@ -16,7 +16,7 @@ fn tell_tunnel(margin: &[u8], form: u32, notice: &[u8]) -> bool {
         let d = number(&mut out, c, tool_form::notice_length(form) as u64);
         return end_line(&mut out, d, b"");
     }
-    if 384 < notice.len() {
+    if answers::NOTICE_LENGTH_2 < notice.len() {
         return true;
     }
     octets::put_bytes(&mut room, 0, notice);
@@ -123,27 +123,27 @@ fn second_field(out: &mut [u8; 4096], at: usize, byte: usize) -> usize {
 
 // What a byte of a place is.
 fn place_field(out: &mut [u8; 4096], at: usize, byte: usize) -> usize {
-    if byte < 512 {
+    if byte < table::BLOCK_LENGTH {
         return first_field(out, at, byte);
     }
-    second_field(out, at, byte % 512)
+    second_field(out, at, byte % table::BLOCK_LENGTH)
 }
 
 // What a byte of a row is: one of block 0, or of a place, which has 512 bytes in form 1 and 1,024 in form 2.
 fn row_field(out: &mut [u8; 4096], at: usize, form: u32, byte: usize) -> usize {
-    if byte < 512 {
+    if byte < table::BLOCK_LENGTH {
         return head_field(out, at, byte);
     }
     let a = say(out, at, b"place ");
-    let rest = byte - 512;
+    let rest = byte - table::BLOCK_LENGTH;
     if form == 2 {
-        let b = number(out, a, (rest / 1024 + 1) as u64);
+        let b = number(out, a, (rest / table::TWO_BLOCKS + 1) as u64);
         let c = say(out, b, b", ");
-        return place_field(out, c, rest % 1024);
+        return place_field(out, c, rest % table::TWO_BLOCKS);
     }
-    let b = number(out, a, (rest / 512 + 1) as u64);
+    let b = number(out, a, (rest / table::BLOCK_LENGTH + 1) as u64);
     let c = say(out, b, b", ");
-    place_field(out, c, rest % 512)
+    place_field(out, c, rest % table::BLOCK_LENGTH)
 }
 
 // A byte of a row.

@@ -32,7 +32,7 @@ fn direction(out: &mut [u8; 4096], at: usize, x: u8) -> usize {
 
 // The command, by its name and its number.
 fn command(out: &mut [u8; 4096], at: usize, m: &[u8]) -> usize {
-    if m.len() < 20 {
+    if m.len() < message::HEADER_LENGTH {
         return say(out, at, b"no whole header");
     }
     let code = octets::read24(m, 5) as u32;
@@ -45,7 +45,7 @@ fn command(out: &mut [u8; 4096], at: usize, m: &[u8]) -> usize {
 
 // The three numbers that are copied into an answer.
 fn identifiers(out: &mut [u8; 4096], at: usize, m: &[u8]) -> usize {
-    if m.len() < 20 {
+    if m.len() < message::HEADER_LENGTH {
         return at;
     }
     let a = say(out, at, b", application ");
@@ -53,7 +53,7 @@ fn identifiers(out: &mut [u8; 4096], at: usize, m: &[u8]) -> usize {
     let c = say(out, b, b", hop-by-hop");
     let d = tool_words::octets(out, c, &m[12..16]);
     let e = say(out, d, b", end-to-end");
-    tool_words::octets(out, e, &m[16..20])
+    tool_words::octets(out, e, &m[16..message::HEADER_LENGTH])
 }
 
 // The line of message k, which stands at `from` of its file; what that counts, `place` says.
@@ -103,7 +103,7 @@ fn refusal_of(out: &mut [u8; 4096], m: &[u8], code: u32) -> usize
 // The code with which a request would be refused before any table is looked at, and why. Form 2 takes up to three policies; where form 1, which takes
 // one, gives another code for that, it is said too.
 fn refusal(out: &mut [u8; 4096], m: &[u8]) -> usize {
-    if m.len() < 20 {
+    if m.len() < message::HEADER_LENGTH {
         return 0;
     }
     let in_form_2 = request::read(m, 3);
@@ -126,7 +126,7 @@ fn refusal(out: &mut [u8; 4096], m: &[u8]) -> usize {
 
 // Whether a message is one that the server sends and is not sent: an Abort-Session-Request.
 pub fn is_abort(m: &[u8]) -> bool {
-    if m.len() < 20 {
+    if m.len() < message::HEADER_LENGTH {
         return false;
     }
     if m[4] < 128 {
@@ -140,7 +140,7 @@ fn is_for_gateway(m: &[u8]) -> bool {
     if is_abort(m) {
         return true;
     }
-    if m.len() < 20 {
+    if m.len() < message::HEADER_LENGTH {
         return false;
     }
     if m[4] < 128 {

@@ -15,7 +15,7 @@ fn begin(out: &mut [u8; 4096], n: u32, i: usize) -> usize {
     let a = say(out, 0, b"play: number ");
     let b = number(out, a, n as u64);
     let c = say(out, b, b": row ");
-    if i < 1024 {
+    if i < tool_form::MOST_ROWS {
         return number(out, c, (i + 1) as u64);
     }
     c
@@ -45,7 +45,7 @@ fn is_wide_at(i: usize, row: &[u8], k: usize) -> bool
     requires { ⌜ (isRow (now row) ≡ true) × (1 ≤ k) × (k ≤ 8) ⌝ }
 {
     let more = row::second(row, k);
-    if more.len() != 512 {
+    if more.len() != table::BLOCK_LENGTH {
         return false;
     }
     if more[1] != 0 {
@@ -85,7 +85,7 @@ fn is_wide(i: usize, row: &[u8]) -> bool
 
 // Whether row i is the one that the number is given for, which is then said.
 fn is_meant(table: &[u8], form: u32, number: u32, i: usize) -> bool {
-    if 1024 < i {
+    if tool_form::MOST_ROWS < i {
         return false;
     }
     let a = tool_form::length_of(form, i);
@@ -106,7 +106,7 @@ fn is_meant(table: &[u8], form: u32, number: u32, i: usize) -> bool {
 // The first row that the number is given for, said.
 fn tell_row(table: &[u8], form: u32, number: u32) {
     let mut i: usize = 0;
-    while i < 1024 {
+    while i < tool_form::MOST_ROWS {
         if is_meant(table, form, number, i) {
             return;
         }
@@ -166,7 +166,7 @@ fn other(form: u32) -> u32 {
 // A table moved to the start of the room.
 fn move_table(path: &[u8], to: &[u8], form: u32, table: &[u8], room: &mut [u8]) {
     let rows = table.len() / tool_form::row_length(form);
-    if 1024 < rows {
+    if tool_form::MOST_ROWS < rows {
         return;
     }
     let goal = other(form);

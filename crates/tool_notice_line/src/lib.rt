@@ -15,10 +15,10 @@ pub struct Lengths {
 fn text_length(notice: &[u8; 384], from: usize) -> usize
     ensures { λ r. ⌜ r ≤ 128 ⌝ }
 {
-    if 256 < from {
+    if answers::NOTICE_REALM < from {
         return 0;
     }
-    let mut n: usize = 128;
+    let mut n: usize = message::TEXT_MOST;
     while n > 0 {
         if notice[from + n - 1] != 0 {
             return n;
@@ -32,8 +32,8 @@ fn text_length(notice: &[u8; 384], from: usize) -> usize
 pub fn lengths_of(notice: &[u8; 384]) -> Lengths {
     Lengths {
         session: text_length(notice, 0),
-        host: text_length(notice, 128),
-        realm: text_length(notice, 256),
+        host: text_length(notice, answers::NOTICE_HOST),
+        realm: text_length(notice, answers::NOTICE_REALM),
     }
 }
 
@@ -58,13 +58,13 @@ fn realm(out: &mut [u8; 4096], at: usize, form: u32, notice: &[u8], n: usize) ->
         return say(out, at, b", no realm");
     }
     let a = say(out, at, b", realm ");
-    part(out, a, notice, 256, n)
+    part(out, a, notice, answers::NOTICE_REALM, n)
 }
 
 // The tunnel by its Session-Id, and whose it is.
 pub fn tunnel(out: &mut [u8; 4096], at: usize, form: u32, notice: &[u8], l: Lengths) -> usize {
     let a = part(out, at, notice, 0, l.session);
     let b = say(out, a, b" of ");
-    let c = part(out, b, notice, 128, l.host);
+    let c = part(out, b, notice, answers::NOTICE_HOST, l.host);
     realm(out, c, form, notice, l.realm)
 }

@@ -43,9 +43,9 @@ fn refuse_both(path: &[u8], n: usize) {
     let a = say(&mut out, 0, b"play: ");
     let b = tool_words::text(&mut out, a, path);
     let c = say(&mut out, b, b": its length is that of ");
-    let d = number(&mut out, c, (n / 256) as u64);
+    let d = number(&mut out, c, (n / answers::NOTICE_LENGTH) as u64);
     let e = say(&mut out, d, b" notices of form 1 and of ");
-    let f = number(&mut out, e, (n / 384) as u64);
+    let f = number(&mut out, e, (n / answers::NOTICE_LENGTH_2) as u64);
     let g = say(&mut out, f, b" notices of form 2: say form=1 or form=2\n");
     tool_files::note(&out, g);
     tool_files::mark();
@@ -56,14 +56,14 @@ fn as_told(path: &[u8], n: usize) -> u32 {
     if n == 0 {
         return 2;
     }
-    if n % 768 == 0 {
-        refuse_both(path, n);
-        return 0;
-    }
-    if n % 256 == 0 {
+    if n % answers::NOTICE_LENGTH == 0 {
+        if n % answers::NOTICE_LENGTH_2 == 0 {
+            refuse_both(path, n);
+            return 0;
+        }
         return 1;
     }
-    if n % 384 == 0 {
+    if n % answers::NOTICE_LENGTH_2 == 0 {
         return 2;
     }
     tool_files::refuse_word(

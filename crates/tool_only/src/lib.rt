@@ -46,7 +46,7 @@ fn look(m: &[u8], at: usize, name: &[u8]) -> Found {
 
 // A message of 8,192 bytes has at most 1,024 AVPs.
 fn is_of(m: &[u8], name: &[u8]) -> bool {
-    let mut at: usize = 20;
+    let mut at: usize = message::HEADER_LENGTH;
     let mut turns: usize = 1024;
     while turns > 0 {
         turns -= 1;

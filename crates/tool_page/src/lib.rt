@@ -134,7 +134,7 @@ fn is_lost(d: Desk, b: Beside) -> bool {
 
 // Whether a message has just the length that its header says, so that a burst has the same boundaries.
 fn is_whole(m: &[u8]) -> bool {
-    if m.len() < 20 {
+    if m.len() < message::HEADER_LENGTH {
         return false;
     }
     octets::read24(m, 1) == m.len()

@@ -69,7 +69,7 @@ fn request(out: &mut [u8; 4096], at: usize, m: &[u8], asked: Asked) -> usize {
 
 // The Session-Id of a message behind some words, where its first AVP is one; else nothing.
 pub fn session(out: &mut [u8; 4096], at: usize, words: &[u8], m: &[u8]) -> usize {
-    let step = reader::avp_at(m, 20);
+    let step = reader::avp_at(m, message::HEADER_LENGTH);
     let Step::One(first) = step else {
         return at;
     };
@@ -105,7 +105,7 @@ pub fn most_policies(form: u32) -> usize
 
 // Who asks a table of that form for what; a message that is no whole request is only said to be one.
 pub fn asked(out: &mut [u8; 4096], at: usize, m: &[u8], form: u32) -> usize {
-    if m.len() < 20 {
+    if m.len() < message::HEADER_LENGTH {
         return say(out, at, b"no request");
     }
     let heard = request::read(m, most_policies(form));

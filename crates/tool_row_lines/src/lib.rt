@@ -26,11 +26,11 @@ fn name(out: &mut [u8; 4096], at: usize, row: &[u8]) -> usize
     requires { ⌜ 512 ≤ length (now row) ⌝ }
 {
     let n = octets::long(row[1]);
-    if 15 < n {
+    if table::NAME_MOST < n {
         return at;
     }
-    let end = 2 + n;
-    text(out, at, &row[2..end])
+    let end = table::NAME + n;
+    text(out, at, &row[table::NAME..end])
 }
 
 // The number of a row in its table, counted from 1.
@@ -53,7 +53,7 @@ fn whose(out: &mut [u8; 4096], at: usize, row: &[u8]) -> usize
 {
     let a = name(out, at, row);
     let b = say(out, a, b", operator ");
-    number(out, b, octets::wide(row[19]) as u64)
+    number(out, b, octets::wide(row[table::OPERATOR]) as u64)
 }
 
 // The first line of row i: whose it is, and how many accesses stand.
@@ -168,7 +168,7 @@ fn first_policy(out: &mut [u8; 4096], at: usize, row: &[u8], k: usize) -> usize
     if n == 0 {
         return say(out, at, b", no policy");
     }
-    if 128 < n {
+    if table::TEXT_ROOM < n {
         return say(out, at, b", a policy too long");
     }
     policy(out, at, b", policy ", row::policy(row, k))
@@ -201,7 +201,7 @@ fn rest(out: &mut [u8; 4096], at: usize, row: &[u8], k: usize) -> usize
     requires { ⌜ (isRow (now row) ≡ true) × (1 ≤ k) × (k ≤ 8) ⌝ }
 {
     let more = row::second(row, k);
-    if more.len() != 512 {
+    if more.len() != table::BLOCK_LENGTH {
         return first_policy(out, at, row, k);
     }
     let a = realm(out, at, more);

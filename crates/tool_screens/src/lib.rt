@@ -10,7 +10,7 @@ use tool_words::text;
 fn entry_of(session: &[u8]) -> [u8; 140] {
     let mut e = [0u8; 140];
     let n = session.len();
-    if n > 128 {
+    if n > message::TEXT_MOST {
         e[8] = 129;
         return e;
     }
@@ -87,7 +87,7 @@ pub fn read(fd: i32, path: &[u8], screens: &mut [[u8; 140]]) -> usize {
 fn session(out: &mut [u8; 4096], at: usize, e: [u8; 140]) -> usize {
     let n = octets::long(e[8]);
     let room: &[u8] = &e;
-    if 128 < n {
+    if message::TEXT_MOST < n {
         return at;
     }
     if room.len() < 12 + n {
@@ -154,7 +154,7 @@ pub fn draw(screens: &[[u8; 140]]) -> bool {
 fn is_of(e: [u8; 140], wanted: &[u8]) -> bool {
     let n = octets::long(e[8]);
     let room: &[u8] = &e;
-    if 128 < n {
+    if message::TEXT_MOST < n {
         return false;
     }
     if room.len() < 12 + n {

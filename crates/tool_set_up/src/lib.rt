@@ -41,7 +41,7 @@ fn make_at(path: &[u8], form: u32, table: &[u8]) {
 
 // A table of so many free rows.
 fn make(path: &[u8], form: u32, table: &mut [u8], rows: usize) {
-    if 1024 < rows {
+    if tool_form::MOST_ROWS < rows {
         refused(1);
         return;
     }

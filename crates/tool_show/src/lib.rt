@@ -60,7 +60,7 @@ fn show_row(table: &[u8], form: u32, i: usize, row: &[u8], out: &mut [u8; 4096])
 
 // Row i, said; whether it is free, and nothing is said.
 fn show_or_skip(table: &[u8], form: u32, i: usize, out: &mut [u8; 4096]) -> bool {
-    if 1024 < i {
+    if tool_form::MOST_ROWS < i {
         return false;
     }
     let a = tool_form::length_of(form, i);
@@ -80,7 +80,7 @@ fn show_or_skip(table: &[u8], form: u32, i: usize, out: &mut [u8; 4096]) -> bool
 
 // One more, of at most 1,024.
 fn more(n: usize) -> usize {
-    if n < 1024 {
+    if n < tool_form::MOST_ROWS {
         return n + 1;
     }
     n
@@ -90,7 +90,7 @@ fn more(n: usize) -> usize {
 fn free_rows(table: &[u8], form: u32, out: &mut [u8; 4096]) -> usize {
     let mut free: usize = 0;
     let mut i: usize = 0;
-    while i < 1024 {
+    while i < tool_form::MOST_ROWS {
         if show_or_skip(table, form, i, out) {
             free = more(free);
         }

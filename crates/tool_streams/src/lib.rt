@@ -19,25 +19,25 @@ enum Next {
 }
 
 fn cut_next(fd: i32, m: &mut [u8]) -> Next {
-    if m.len() < 4096 {
+    if m.len() < message::LENGTH_MOST {
         return Next::Short;
     }
-    let got = io::read_full(fd, &mut m[0..20]);
+    let got = io::read_full(fd, &mut m[0..message::HEADER_LENGTH]);
     if got == 0 {
         return Next::End;
     }
-    if got < 20 {
+    if got < message::HEADER_LENGTH {
         return Next::Short;
     }
     let n = octets::read24(m, 1);
-    if n < 20 {
+    if n < message::HEADER_LENGTH {
         return Next::Length(n);
     }
-    if 4096 < n {
+    if message::LENGTH_MOST < n {
         return Next::Length(n);
     }
-    let rest = io::read_full(fd, &mut m[20..n]);
-    if rest < n - 20 {
+    let rest = io::read_full(fd, &mut m[message::HEADER_LENGTH..n]);
+    if rest < n - message::HEADER_LENGTH {
         return Next::Short;
     }
     Next::Message(n)
