@@ -2,6 +2,7 @@
 // ours does, and the first mismatch is said in words. All files are only read, and followed to their end before anything is said.
 use likeness::Found;
 use tool_judge_cases::Way;
+use tool_judge_lines::how_many;
 use tool_operator::Number;
 use tool_words::number;
 use tool_words::say;
@@ -84,8 +85,8 @@ fn refused_of(all: usize, accepted: usize) -> usize {
 fn summary(all: usize, tally: &[usize; 9]) {
     let mut out = [0u8; 4096];
     let refused = refused_of(all, tally[ACCEPTED]);
-    let a = number(&mut out, 0, all as u64);
-    let b = say(&mut out, a, b" cases, ");
+    let a = how_many(&mut out, 0, all, b"case");
+    let b = say(&mut out, a, b", ");
     let c = number(&mut out, b, tally[ACCEPTED] as u64);
     let d = say(&mut out, c, b" accepted, ");
     let e = number(&mut out, d, refused as u64);
@@ -450,10 +451,10 @@ fn refuse_rows(path: &[u8], rows: usize, cases: usize) {
     let a = say(&mut out, 0, b"play: ");
     let b = tool_words::text(&mut out, a, path);
     let c = say(&mut out, b, b": ");
-    let d = number(&mut out, c, rows as u64);
-    let e = say(&mut out, d, b" rows, and ");
-    let f = number(&mut out, e, cases as u64);
-    let g = say(&mut out, f, b" cases: each has one\n");
+    let d = how_many(&mut out, c, rows, b"row");
+    let e = say(&mut out, d, b", and ");
+    let f = how_many(&mut out, e, cases, b"case");
+    let g = say(&mut out, f, b": each has one\n");
     tool_files::note(&out, g);
     tool_files::mark();
 }

@@ -1,5 +1,6 @@
 // A notice or a row that is not the one due.
 use crate::lines::end_line;
+use crate::lines::how_many;
 use tool_words::number;
 use tool_words::say;
 
@@ -11,8 +12,8 @@ fn tell_tunnel(margin: &[u8], form: u32, notice: &[u8]) -> bool {
     let mut room = [0u8; 384];
     let a = say(&mut out, 0, margin);
     if notice.len() != tool_form::notice_length(form) {
-        let b = number(&mut out, a, notice.len() as u64);
-        let c = say(&mut out, b, b" bytes, and a notice has ");
+        let b = how_many(&mut out, a, notice.len(), b"byte");
+        let c = say(&mut out, b, b", and a notice has ");
         let d = number(&mut out, c, tool_form::notice_length(form) as u64);
         return end_line(&mut out, d, b"");
     }

@@ -8,3 +8,4 @@ pub use answer::tell_deep;
 pub use answer::tell_second;
 pub use effect::tell_notice;
 pub use effect::tell_row;
+pub use lines::how_many;
