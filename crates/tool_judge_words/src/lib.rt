@@ -1,4 +1,4 @@
-// How many of a thing, and how a line ends.
+// Words that every part of a judgement is said with: how many of a thing, and how a line ends.
 use tool_words::number;
 use tool_words::say;
 

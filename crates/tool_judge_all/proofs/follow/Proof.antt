@@ -3,8 +3,8 @@ use mathlib.Core.Path.{_≡_}
 use Prim.Native.Nat.{_≤_}
 use lib.ListN.{length}
 use borrow.Author.Needs.{needs}
-use Rattle.tool_judge.proofs.follow.Statement.{statement}
-use Rattle.tool_judge.proofs.follow.Tie as tie
+use Rattle.tool_judge_all.proofs.follow.Statement.{statement}
+use Rattle.tool_judge_all.proofs.follow.Tie as tie
 
 abbrev Inv-loop : tie.InvT-loop
 Inv-loop d path before₀ after tally₀ w₀ turns₀ before tally w turns = (turns ≤ 4294967296) × (length before ≡ length before₀)
