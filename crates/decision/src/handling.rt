@@ -37,7 +37,7 @@ pub fn name_fits(s: &[u8]) -> bool
     if s.len() < 1 {
         return false;
     }
-    s.len() <= 128
+    s.len() <= message::TEXT_MOST
 }
 
 // How long a notice is.

@@ -34,7 +34,7 @@ fn write_realm(notice: &mut [u8], row: &[u8], k: usize) -> usize
         × (r ≡ length ((accessAt (now (row .entry)) k) .realm)) ⌝ }
 {
     let second = row::second(row, k);
-    octets::put_bytes(notice, 256, row::realm_room(second));
+    octets::put_bytes(notice, answers::NOTICE_REALM, row::realm_room(second));
     let realm = row::realm(second);
     realm.len()
 }

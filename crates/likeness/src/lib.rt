@@ -186,7 +186,7 @@ fn met_by(ours: &[u8], k: usize, theirs: &[u8], at: usize) -> bool
     requires { ⌜ Stands (now theirs) at ⌝ }
     ensures { λ r. ⌜ r ≡ firstIs (drop k (having ((avpAt (now (theirs .entry)) at) .name) (avpsFrom (now (ours .entry)) 20))) (avpAt (now (theirs .entry)) at) ⌝ }
 {
-    let mut p: usize = 20;
+    let mut p: usize = message::HEADER_LENGTH;
     let mut left: usize = k;
     let mut next: usize = next_at(ours, p);
     while next != 0 {
@@ -299,7 +299,7 @@ fn header_agrees(ours: &[u8], theirs: &[u8]) -> usize
     ensures { λ r. ⌜ (r ≡ agreeing (take 20 (now (theirs .entry))) (headerDue (now (ours .entry)) (length (now (theirs .entry))))) × (r ≤ 20) ⌝ }
 {
     let mut i: usize = 0;
-    while i < 20 {
+    while i < message::HEADER_LENGTH {
         if theirs.len() <= i {
             return i;
         }
@@ -316,7 +316,7 @@ fn header_right(ours: &[u8], theirs: &[u8]) -> bool
     requires { ⌜ 20 ≤ length (now ours) ⌝ }
     ensures { λ r. ⌜ (r ≡ true → headerFinding (now (ours .entry)) (now (theirs .entry)) ≡ nothing) ⌝ }
 {
-    if theirs.len() < 20 {
+    if theirs.len() < message::HEADER_LENGTH {
         return false;
     }
     if theirs[0] != ours[0] {
@@ -325,14 +325,17 @@ fn header_right(ours: &[u8], theirs: &[u8]) -> bool
     if octets::read24(theirs, 1) != theirs.len() {
         return false;
     }
-    octets::same_bytes(&theirs[4..20], &ours[4..20])
+    octets::same_bytes(
+        &theirs[4..message::HEADER_LENGTH],
+        &ours[4..message::HEADER_LENGTH],
+    )
 }
 
 // Nothing where the header is the one due, else where it first differs.
 fn header_found(ours: &[u8], theirs: &[u8]) -> Found
     ensures { λ r. ⌜ said r ≡ headerFinding (now (ours .entry)) (now (theirs .entry)) ⌝ }
 {
-    if ours.len() < 20 {
+    if ours.len() < message::HEADER_LENGTH {
         if theirs.len() == 0 {
             return Found {
                 number: 0,
@@ -354,7 +357,7 @@ fn header_found(ours: &[u8], theirs: &[u8]) -> Found
         };
     }
     let at = header_agrees(ours, theirs);
-    if at < 20 {
+    if at < message::HEADER_LENGTH {
         return Found {
             number: 32,
             mismatch: 1,
@@ -396,7 +399,7 @@ fn mark_first(ours: &[u8], marks: &mut [usize])
     requires { ⌜ now marks ≡ zeros markCount ⌝ }
     ensures { λ r. ⌜ ((theirs : List ℕ) → Marked (now (ours .entry)) theirs 20 (now (marks .exit))) ⌝ }
 {
-    let mut at: usize = 20;
+    let mut at: usize = message::HEADER_LENGTH;
     let mut next: usize = next_at(ours, at);
     while next != 0 {
         let k = mark_of(ours, at);
@@ -460,7 +463,7 @@ fn mark_behind(ours: &[u8], mark: usize, theirs: &[u8], at: usize, met: usize) -
     if behind != 0 {
         return behind;
     }
-    if named_from(ours, 20, theirs, at) != 0 {
+    if named_from(ours, message::HEADER_LENGTH, theirs, at) != 0 {
         return 1;
     }
     mark
@@ -473,10 +476,10 @@ fn fits_anywhere(ours: &[u8], theirs: &[u8], at: usize) -> bool
     requires { ⌜ Stands (now theirs) at × (sameName failedAvp ((avpAt (now theirs) at) .name) ≡ false) ⌝ }
     ensures { λ r. ⌜ r ≡ fits (avpsFrom (now (ours .entry)) 20) (avpsFrom (now (theirs .entry)) 20) (avpsFrom (now (theirs .entry)) at) (avpAt (now (theirs .entry)) at) ⌝ }
 {
-    if named_from(ours, 20, theirs, at) == 0 {
+    if named_from(ours, message::HEADER_LENGTH, theirs, at) == 0 {
         return passes(theirs, at);
     }
-    let all = named_from(theirs, 20, theirs, at);
+    let all = named_from(theirs, message::HEADER_LENGTH, theirs, at);
     let rest = named_from(theirs, at, theirs, at);
     met_by(ours, minus(all, rest), theirs, at)
 }
@@ -517,14 +520,14 @@ fn place_fits(ours: &[u8], theirs: &[u8], at: usize, mark: usize, met: usize) ->
 fn starts_like(ours: &[u8], theirs: &[u8]) -> bool
     ensures { λ r. ⌜ r ≡ startsLike (avpsFrom (now (ours .entry)) 20) (avpsFrom (now (theirs .entry)) 20) ⌝ }
 {
-    if next_at(theirs, 20) == 0 {
+    if next_at(theirs, message::HEADER_LENGTH) == 0 {
         return true;
     }
-    if next_at(ours, 20) == 0 {
+    if next_at(ours, message::HEADER_LENGTH) == 0 {
         return true;
     }
-    if is_base(ours, 20, 263) {
-        return is_base(theirs, 20, 263);
+    if is_base(ours, message::HEADER_LENGTH, 263) {
+        return is_base(theirs, message::HEADER_LENGTH, 263);
     }
     true
 }
@@ -536,9 +539,9 @@ fn misplaced(ours: &[u8], theirs: &[u8], marks: &mut [usize]) -> usize
         × (r ≡ 0 → Marked (now (ours .entry)) (now (theirs .entry)) (length (now (theirs .entry))) (now (marks .exit))) ⌝ }
 {
     if !starts_like(ours, theirs) {
-        return 20;
+        return message::HEADER_LENGTH;
     }
-    let mut at: usize = 20;
+    let mut at: usize = message::HEADER_LENGTH;
     let mut next: usize = next_at(theirs, at);
     while next != 0 {
         let k = mark_of(theirs, at);
@@ -558,11 +561,11 @@ fn misplaced(ours: &[u8], theirs: &[u8], marks: &mut [usize]) -> usize
 fn none_fewer(ours: &[u8], theirs: &[u8]) -> bool
     ensures { λ r. ⌜ r ≡ complete (avpsFrom (now (ours .entry)) 20) (avpsFrom (now (theirs .entry)) 20) ⌝ }
 {
-    let mut at: usize = 20;
+    let mut at: usize = message::HEADER_LENGTH;
     let mut next: usize = next_at(ours, at);
     while next != 0 {
-        let n = named_from(ours, 20, ours, at);
-        if named_from(theirs, 20, ours, at) < n {
+        let n = named_from(ours, message::HEADER_LENGTH, ours, at);
+        if named_from(theirs, message::HEADER_LENGTH, ours, at) < n {
             return false;
         }
         at = next;
@@ -576,7 +579,7 @@ fn complete(ours: &[u8], theirs: &[u8], marks: &[usize]) -> bool
     requires { ⌜ Marked (now ours) (now theirs) (length (now theirs)) (now marks) ⌝ }
     ensures { λ r. ⌜ r ≡ complete (avpsFrom (now (ours .entry)) 20) (avpsFrom (now (theirs .entry)) 20) ⌝ }
 {
-    let mut at: usize = 20;
+    let mut at: usize = message::HEADER_LENGTH;
     let mut next: usize = next_at(ours, at);
     while next != 0 {
         if marks[mark_of(ours, at)] <= at {
@@ -635,7 +638,7 @@ fn faults(m: &[u8], from: usize, depth: u32) -> Found
 pub fn answer_found(ours: &[u8], theirs: &[u8]) -> Found
     ensures { λ r. ⌜ said r ≡ answerFinding (now (ours .entry)) (now (theirs .entry)) ⌝ }
 {
-    let f = faults(theirs, 20, 4);
+    let f = faults(theirs, message::HEADER_LENGTH, 4);
     if f.number == 31 {
         return f;
     }

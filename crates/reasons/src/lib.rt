@@ -112,7 +112,7 @@ fn walk_failed(m: &[u8]) -> Reason
     requires { ⌜ 20 ≤ length (now m) ⌝ }
     ensures { λ r. ⌜ checkNamed r ≡ firstFailed (walkChecks (now (m .entry))) ⌝ }
 {
-    let mut at: usize = 20;
+    let mut at: usize = message::HEADER_LENGTH;
     loop {
         let step = reader::avp_at(m, at);
         match step {
