@@ -38,13 +38,13 @@ pub record Stands (m : List ℕ) (at : ℕ) : Type 0 where
 
 -- THE MARKS
 
--- How many marks there are, and which of them an AVP has: by its code, so that each AVP of an answer of ours has one of its own.
+-- How many marks there are, and which of them an AVP has: by its code, so that each name in an answer of ours has one of its own.
 abbrev pub markCount : ℕ
 markCount = 64
 
 unfoldable pub markOf : Name → ℕ
-markOf (base c) = c % 64
-markOf (vendor v c) = c % 64
+markOf (base c) = c % markCount
+markOf (vendor v c) = c % markCount
 
 -- The walk over the AVPs leads from one place to another, in so many steps.
 unfoldable pub leadsIn : (steps : ℕ) → List ℕ → (p q : ℕ) → Bool
