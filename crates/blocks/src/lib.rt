@@ -7,7 +7,7 @@ ghost use lib.ListN.{length, getD, drop};
 ghost use lib.Dec.{eqb, leb};
 ghost use Rattle.octets.specs.Choice.{pick, within};
 ghost use Rattle.octets.specs.Texts.{part, allZero};
-ghost use Rattle.table.specs.TheTable.{readEntries};
+ghost use Rattle.table.specs.TheTable.{blockLength, readEntries};
 ghost use Rattle.octets.specs.Lists.{every, distinct, sumOf, upTo0};
 ghost use Rattle.table.specs.Soundness.{zeroBehind, isDigit, isName, headForm, entryForm, entriesForm, lowerCase, sameLabel, labels, limits, accessForm, secondForm, onlyBehind, sumsAgree};
 ghost use Rattle.blocks.specs.RowTests.{accessSound, secondSound};
@@ -33,7 +33,7 @@ fn zero_behind(room: &[u8], n: usize) -> bool
 
 // Bytes 510 and 511 of a block are the second and first sum of the bytes before them.
 pub fn block_sums_agree(b: &[u8]) -> bool
-    requires { ⌜ length (now b) ≡ 512 ⌝ }
+    requires { ⌜ length (now b) ≡ blockLength ⌝ }
     ensures { λ r. ⌜ r ≡ sumsAgree (now (b .entry)) ⌝ }
 {
     let s = table::sums_of(b);
@@ -62,7 +62,7 @@ pub fn digits(s: &[u8]) -> bool
 
 // The name: 1 to 15 digits, and zeros behind them.
 fn name_form(b: &[u8]) -> bool
-    requires { ⌜ length (now b) ≡ 512 ⌝ }
+    requires { ⌜ length (now b) ≡ blockLength ⌝ }
     ensures { λ r. ⌜ r ≡ isName (part (now (b .entry)) 2 (getD (now (b .entry)) 1 0)) && zeroBehind (getD (now (b .entry)) 1 0) (part (now (b .entry)) 2 15) ⌝ }
 {
     if !is_within(1, 15, b[1]) {
@@ -98,7 +98,7 @@ fn line_form(l: &[u8]) -> bool
 }
 
 pub fn head_form(b: &[u8]) -> bool
-    requires { ⌜ length (now b) ≡ 512 ⌝ }
+    requires { ⌜ length (now b) ≡ blockLength ⌝ }
     ensures { λ r. ⌜ r ≡ headForm (now (b .entry)) ⌝ }
 {
     if b[0] != 1 {
@@ -263,7 +263,7 @@ pub fn policy_marked(mark: u8, size: u8) -> bool
 }
 
 fn access_lengths(b: &[u8]) -> bool
-    requires { ⌜ length (now b) ≡ 512 ⌝ }
+    requires { ⌜ length (now b) ≡ blockLength ⌝ }
     ensures { λ r. ⌜ r ≡ eqb (getD (now (b .entry)) 0 0) 2 && (within 1 128 (getD (now (b .entry)) 2 0) && (within 1 128 (getD (now (b .entry)) 3 0) && leb (getD (now (b .entry)) 5 0) 128)) ⌝ }
 {
     if b[0] != 2 {
@@ -280,7 +280,7 @@ fn access_lengths(b: &[u8]) -> bool
 
 // Zeros behind Session-Id, host and policy, and behind the three: the last two are one stretch.
 fn access_rooms(b: &[u8]) -> bool
-    requires { ⌜ (length (now b) ≡ 512) × (getD (now b) 2 0 ≤ 128) × (getD (now b) 3 0 ≤ 128) × (getD (now b) 5 0 ≤ 128) ⌝ }
+    requires { ⌜ (length (now b) ≡ blockLength) × (getD (now b) 2 0 ≤ 128) × (getD (now b) 3 0 ≤ 128) × (getD (now b) 5 0 ≤ 128) ⌝ }
     ensures { λ r. ⌜ r ≡ zeroBehind (getD (now (b .entry)) 2 0) (part (now (b .entry)) 8 128) && (zeroBehind (getD (now (b .entry)) 3 0) (part (now (b .entry)) 136 128) && (zeroBehind (getD (now (b .entry)) 5 0) (part (now (b .entry)) 264 128) && allZero (part (now (b .entry)) 392 118))) ⌝ }
 {
     if !zero_behind(
@@ -300,7 +300,7 @@ fn access_rooms(b: &[u8]) -> bool
 }
 
 pub fn access_form(b: &[u8]) -> bool
-    requires { ⌜ length (now b) ≡ 512 ⌝ }
+    requires { ⌜ length (now b) ≡ blockLength ⌝ }
     ensures { λ r. ⌜ r ≡ accessForm (now (b .entry)) ⌝ }
 {
     if !access_lengths(b) {
@@ -316,7 +316,7 @@ pub fn access_form(b: &[u8]) -> bool
 }
 
 pub fn access_sound(b: &[u8], n: u8) -> bool
-    requires { ⌜ length (now b) ≡ 512 ⌝ }
+    requires { ⌜ length (now b) ≡ blockLength ⌝ }
     ensures { λ r. ⌜ r ≡ accessSound n (now (b .entry)) ⌝ }
 {
     if !access_form(b) {
@@ -344,7 +344,7 @@ pub fn only_behind(n: u8, before: u8) -> bool
 }
 
 fn second_lengths(c: &[u8]) -> bool
-    requires { ⌜ length (now c) ≡ 512 ⌝ }
+    requires { ⌜ length (now c) ≡ blockLength ⌝ }
     ensures { λ r. ⌜ r ≡ eqb (getD (now (c .entry)) 0 0) 3 && (leb (getD (now (c .entry)) 1 0) 128 && (leb (getD (now (c .entry)) 3 0) 128 && leb (getD (now (c .entry)) 4 0) 128)) ⌝ }
 {
     if c[0] != 3 {
@@ -361,7 +361,7 @@ fn second_lengths(c: &[u8]) -> bool
 
 // Zeros behind realm, second and third policy, and behind the three: the last two are one stretch.
 fn second_rooms(c: &[u8]) -> bool
-    requires { ⌜ (length (now c) ≡ 512) × (getD (now c) 1 0 ≤ 128) × (getD (now c) 3 0 ≤ 128) × (getD (now c) 4 0 ≤ 128) ⌝ }
+    requires { ⌜ (length (now c) ≡ blockLength) × (getD (now c) 1 0 ≤ 128) × (getD (now c) 3 0 ≤ 128) × (getD (now c) 4 0 ≤ 128) ⌝ }
     ensures { λ r. ⌜ r ≡ zeroBehind (getD (now (c .entry)) 1 0) (part (now (c .entry)) 8 128) && (zeroBehind (getD (now (c .entry)) 3 0) (part (now (c .entry)) 136 128) && (zeroBehind (getD (now (c .entry)) 4 0) (part (now (c .entry)) 264 128) && allZero (part (now (c .entry)) 392 118))) ⌝ }
 {
     if !zero_behind(
@@ -381,7 +381,7 @@ fn second_rooms(c: &[u8]) -> bool
 }
 
 pub fn second_form(c: &[u8]) -> bool
-    requires { ⌜ length (now c) ≡ 512 ⌝ }
+    requires { ⌜ length (now c) ≡ blockLength ⌝ }
     ensures { λ r. ⌜ r ≡ secondForm (now (c .entry)) ⌝ }
 {
     if !second_lengths(c) {
@@ -398,7 +398,7 @@ pub fn second_form(c: &[u8]) -> bool
 
 // Where the first policy has `first` bytes.
 pub fn second_sound(c: &[u8], first: u8) -> bool
-    requires { ⌜ length (now c) ≡ 512 ⌝ }
+    requires { ⌜ length (now c) ≡ blockLength ⌝ }
     ensures { λ r. ⌜ r ≡ secondSound (now (c .entry)) first ⌝ }
 {
     if !second_form(c) {

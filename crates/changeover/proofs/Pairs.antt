@@ -14,7 +14,7 @@ use Rattle.octets.proofs.Lists.{and-left, and-right, same-eq, same-refl}
 use Rattle.octets.proofs.Pieces.{take-zeros}
 use Rattle.octets.proofs.Texts.{length-zeros}
 use Rattle.table.specs.Soundness.{sound}
-use Rattle.table.specs.TheTable.{Access, accessAt, Subscriber, foundBy, formOf, hasName, isForm, orderLine, readEntries, readRow, rowLength}
+use Rattle.table.specs.TheTable.{blockLength, Access, accessAt, Subscriber, foundBy, formOf, hasName, isForm, orderLine, readEntries, readRow, rowLength}
 use Rattle.table.proofs.Good.{Good}
 use Rattle.table.proofs.Rows.{no-name, not-zero, row-form, width-least}
 use Rattle.table.proofs.Sound.{row-is, says-good}
@@ -110,14 +110,14 @@ abbrev nothing-said : Subscriber
 nothing-said = record { operator = 0; name = []; entries = []; accesses = [] }
 
 head-said : (f : ℕ → Access)
-    → record { operator = getD (zeros 512) 19 0; name = part (zeros 512) 2 (getD (zeros 512) 1 0); entries = readEntries (getD (zeros 512) 18 0) (part (zeros 512) 32 416); accesses = map f (upTo0 (part (zeros 512) 20 8)) } ≡ nothing-said
+    → record { operator = getD (zeros blockLength) 19 0; name = part (zeros blockLength) 2 (getD (zeros blockLength) 1 0); entries = readEntries (getD (zeros blockLength) 18 0) (part (zeros blockLength) 32 416); accesses = map f (upTo0 (part (zeros blockLength) 20 8)) } ≡ nothing-said
 unfolding zeros upTo0 readEntries pick
 head-said f = refl
 
-zero-said : (n : ℕ) → 512 ≤ n → readRow (zeros n) ≡ nothing-said
+zero-said : (n : ℕ) → blockLength ≤ n → readRow (zeros n) ≡ nothing-said
 unfolding readRow orderLine
 zero-said n h =
-    let e : take 512 (zeros n) ≡ zeros 512 = take-zeros 512 n h in
+    let e : take blockLength (zeros n) ≡ zeros blockLength = take-zeros blockLength n h in
     (λ i. record { operator = getD (e i) 19 0; name = part (e i) 2 (getD (e i) 1 0); entries = readEntries (getD (e i) 18 0) (part (e i) 32 416); accesses = map (accessAt (zeros n)) (upTo0 (part (e i) 20 8)) })
     ∙ head-said (accessAt (zeros n))
 

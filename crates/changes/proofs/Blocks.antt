@@ -14,7 +14,7 @@ use lib.Pow.{pow-lt}
 use Rattle.octets.specs.Choice.{pick}
 use Rattle.octets.specs.Lists.{counted, every, isOn, keep}
 use Rattle.octets.specs.Texts.{filled, part, put, zeros}
-use Rattle.table.specs.TheTable.{Entry, entryBytes, firstBytes, fromBits, held, places, sealed, secondBytes, sums, usedBits}
+use Rattle.table.specs.TheTable.{blockLength, Entry, entryBytes, firstBytes, fromBits, held, places, sealed, secondBytes, sums, usedBits}
 use Rattle.changes.specs.Changes.{noPolicies}
 use Rattle.changes.specs.Writes.{closedUp, entriesWith, fresh, headWith, othersWith, policyWith}
 use Rattle.octets.proofs.Lists.{by-test, keep-snoc, kept}
@@ -33,11 +33,11 @@ put-at n a b s h = rw (take-at a b n h, drop-past n (length s) a b h)
 
 -- THE SUMS
 
-pub sealed-by : (b : List ℕ) (first second : ℕ) → length b ≡ 512 → second ∷ first ∷ [] ≡ sums (take 510 b)
+pub sealed-by : (b : List ℕ) (first second : ℕ) → length b ≡ blockLength → second ∷ first ∷ [] ≡ sums (take 510 b)
     → set (set b 510 second) 511 first ≡ sealed (take 510 b)
 unfolding sealed
 sealed-by b x y h e =
-    let last : drop 511 b ≡ getD b 511 0 ∷ [] = drop-cons b 511 0 (omega arith) ∙ ap (λ (t : List ℕ). getD b 511 0 ∷ t) (drop-of-length-le b {i = 512} (omega arith)) in
+    let last : drop 511 b ≡ getD b 511 0 ∷ [] = drop-cons b 511 0 (omega arith) ∙ ap (λ (t : List ℕ). getD b 511 0 ∷ t) (drop-of-length-le b {i = blockLength} (omega arith)) in
     let one : set b 510 y ≡ (take 510 b ++ (y ∷ [])) ++ (getD b 511 0 ∷ []) =
     set-split b 510 y (omega arith) ∙ ap (λ (t : List ℕ). take 510 b ++ (y ∷ t)) last ∙ sym (append-assoc (take 510 b) (y ∷ []) (getD b 511 0 ∷ [])) in
     let size : length (take 510 b ++ (y ∷ [])) ≡ 511 = simp (length-append, length-take-le 510 b (omega arith)) in
@@ -161,7 +161,7 @@ line-put-rest : (b : List ℕ) (x : ℕ) (l : List ℕ) → length l ≡ 8 → p
 unfolding put
 line-put-rest b x l hl = rw (hl, drop-drop 10 18 b)
 
-pub line-put : (b : List ℕ) (x : ℕ) (l : List ℕ) → length b ≡ 512 → length l ≡ 8 → sealed (take 510 (put (set b 17 x) 20 l)) ≡ headWith b x l
+pub line-put : (b : List ℕ) (x : ℕ) (l : List ℕ) → length b ≡ blockLength → length l ≡ 8 → sealed (take 510 (put (set b 17 x) 20 l)) ≡ headWith b x l
 unfolding headWith
 line-put b x l h hl =
     let a : List ℕ = take 17 b in
@@ -185,7 +185,7 @@ cut-18 b =
     sym (take-append-drop 2 (drop 18 b))
     ∙ ap (λ (t : List ℕ). part b 18 2 ++ t) (drop-drop 2 18 b ∙ sym (take-append-drop 8 (drop 20 b)) ∙ ap (λ (t : List ℕ). part b 20 8 ++ t) (drop-drop 8 20 b))
 
-pub line-set : (b : List ℕ) (x n p : ℕ) → length b ≡ 512 → n < 8
+pub line-set : (b : List ℕ) (x n p : ℕ) → length b ≡ blockLength → n < 8
     → sealed (take 510 (set (set b 17 x) (20 + n) p)) ≡ headWith b x (set (part b 20 8) n p)
 unfolding headWith
 line-set b x n p h le =
@@ -277,7 +277,7 @@ put-over a o s r n h l = put-at n a (o ++ r) s h ∙ ap (λ (t : List ℕ). a ++
 
 -- A NEW ACCESS
 
-access-zeros : zeros 512 ≡ zeros 4 ++ (zeros 4 ++ (zeros 128 ++ (zeros 128 ++ (zeros 128 ++ (zeros 118 ++ zeros 2)))))
+access-zeros : zeros blockLength ≡ zeros 4 ++ (zeros 4 ++ (zeros 128 ++ (zeros 128 ++ (zeros 128 ++ (zeros 118 ++ zeros 2)))))
 access-zeros =
     zeros-split 4 508
     ∙ ap (λ (t : List ℕ). zeros 4 ++ t) (zeros-split 4 504
@@ -287,7 +287,7 @@ access-zeros =
     ∙ ap (λ (t : List ℕ). zeros 128 ++ t) (zeros-split 118 2)))))
 
 pub first-put : (n : ℕ) (s h : List ℕ) → length s ≤ 128 → length h ≤ 128
-    → sealed (take 510 (put (put (put (zeros 512) 0 (2 ∷ n ∷ length s ∷ length h ∷ [])) 8 s) 136 h)) ≡ firstBytes (fresh n (record { session = s; host = h; realm = [] }))
+    → sealed (take 510 (put (put (put (zeros blockLength) 0 (2 ∷ n ∷ length s ∷ length h ∷ [])) 8 s) 136 h)) ≡ firstBytes (fresh n (record { session = s; host = h; realm = [] }))
 unfolding fresh noPolicies firstBytes held
 first-put n s h ls lh =
     let a : List ℕ = 2 ∷ n ∷ length s ∷ length h ∷ [] in
@@ -295,14 +295,14 @@ first-put n s h ls lh =
     let fs : List ℕ = filled s 128 in
     let fh : List ℕ = filled h 128 in
     let e : List ℕ = zeros 128 ++ (zeros 118 ++ zeros 2) in
-    let p0 : put (zeros 512) 0 a ≡ o ++ (zeros 128 ++ (zeros 128 ++ e)) =
+    let p0 : put (zeros blockLength) 0 a ≡ o ++ (zeros 128 ++ (zeros 128 ++ e)) =
     ap (λ (t : List ℕ). put t 0 a) access-zeros
     ∙ put-over [] (zeros 4) a (zeros 4 ++ (zeros 128 ++ (zeros 128 ++ e))) 0 refl (length-zeros 4)
     ∙ ap (λ (t : List ℕ). a ++ (t ++ (zeros 128 ++ (zeros 128 ++ e)))) zeros-four in
-    let p1 : put (put (zeros 512) 0 a) 8 s ≡ (o ++ fs) ++ (zeros 128 ++ e) =
+    let p1 : put (put (zeros blockLength) 0 a) 8 s ≡ (o ++ fs) ++ (zeros 128 ++ e) =
     ap (λ (t : List ℕ). put t 8 s) p0 ∙ put-room o s (zeros 128 ++ e) 8 128 refl ls ∙ sym (append-assoc o fs (zeros 128 ++ e)) in
     let lo : length (o ++ fs) ≡ 136 = length-append o fs ∙ omega (arith, length-filled s 128) in
-    let p2 : put (put (put (zeros 512) 0 a) 8 s) 136 h ≡ o ++ (fs ++ (fh ++ e)) =
+    let p2 : put (put (put (zeros blockLength) 0 a) 8 s) 136 h ≡ o ++ (fs ++ (fh ++ e)) =
     ap (λ (t : List ℕ). put t 136 h) p1 ∙ put-room (o ++ fs) h e 136 128 lo lh ∙ append-assoc o fs (fh ++ e) in
     let t0 : take 510 (o ++ (fs ++ (fh ++ e))) ≡ o ++ (fs ++ (fh ++ (zeros 128 ++ zeros 118))) =
     take-past 8 502 o (fs ++ (fh ++ e)) refl
@@ -315,25 +315,25 @@ first-put n s h ls lh =
     ∙ ap (λ (t : List ℕ). sealed (o ++ (fs ++ (fh ++ (t ++ zeros 118))))) (sym (filled-none 128))
 
 pub second-put : (r : List ℕ) → length r ≤ 128
-    → sealed (take 510 (put (put (zeros 512) 0 (3 ∷ length r ∷ [])) 8 r)) ≡ secondBytes (fresh 0 (record { session = []; host = []; realm = r }))
+    → sealed (take 510 (put (put (zeros blockLength) 0 (3 ∷ length r ∷ [])) 8 r)) ≡ secondBytes (fresh 0 (record { session = []; host = []; realm = r }))
 unfolding fresh noPolicies secondBytes
 second-put r lr =
     let a : List ℕ = 3 ∷ length r ∷ [] in
     let o : List ℕ = 3 ∷ length r ∷ 0 ∷ 0 ∷ 0 ∷ 0 ∷ 0 ∷ 0 ∷ [] in
     let fr : List ℕ = filled r 128 in
     let e : List ℕ = zeros 128 ++ (zeros 128 ++ (zeros 118 ++ zeros 2)) in
-    let z : zeros 512 ≡ zeros 2 ++ (zeros 6 ++ (zeros 128 ++ e)) =
+    let z : zeros blockLength ≡ zeros 2 ++ (zeros 6 ++ (zeros 128 ++ e)) =
     zeros-split 2 510
     ∙ ap (λ (t : List ℕ). zeros 2 ++ t) (zeros-split 6 504
     ∙ ap (λ (t : List ℕ). zeros 6 ++ t) (zeros-split 128 376
     ∙ ap (λ (t : List ℕ). zeros 128 ++ t) (zeros-split 128 248
     ∙ ap (λ (t : List ℕ). zeros 128 ++ t) (zeros-split 128 120
     ∙ ap (λ (t : List ℕ). zeros 128 ++ t) (zeros-split 118 2))))) in
-    let p0 : put (zeros 512) 0 a ≡ o ++ (zeros 128 ++ e) =
+    let p0 : put (zeros blockLength) 0 a ≡ o ++ (zeros 128 ++ e) =
     ap (λ (t : List ℕ). put t 0 a) z
     ∙ put-over [] (zeros 2) a (zeros 6 ++ (zeros 128 ++ e)) 0 refl (length-zeros 2)
     ∙ ap (λ (t : List ℕ). a ++ (t ++ (zeros 128 ++ e))) zeros-six in
-    let p1 : put (put (zeros 512) 0 a) 8 r ≡ o ++ (fr ++ e) = ap (λ (t : List ℕ). put t 8 r) p0 ∙ put-room o r e 8 128 refl lr in
+    let p1 : put (put (zeros blockLength) 0 a) 8 r ≡ o ++ (fr ++ e) = ap (λ (t : List ℕ). put t 8 r) p0 ∙ put-room o r e 8 128 refl lr in
     let t0 : take 510 (o ++ (fr ++ e)) ≡ o ++ (fr ++ (zeros 128 ++ (zeros 128 ++ zeros 118))) =
     take-past 8 502 o (fr ++ e) refl
     ∙ ap (λ (t : List ℕ). o ++ t) (take-past 128 374 fr e (length-filled r 128)
@@ -358,7 +358,7 @@ set-pair b i x y h =
     let l : length (take i b ++ (x ∷ [])) ≡ suc i = length-append (take i b) (x ∷ []) ∙ omega (arith, length-take-le i b (omega arith)) in
     ap (λ (t : List ℕ). set t (suc i) y) q ∙ set-at (take i b ++ (x ∷ [])) (getD b (suc i) 0) (drop (suc (suc i)) b) y (suc i) l ∙ append-assoc (take i b) (x ∷ []) (y ∷ drop (suc (suc i)) b)
 
-pub policy-put : (b pol : List ℕ) → length b ≡ 512 → length pol ≤ 128
+pub policy-put : (b pol : List ℕ) → length b ≡ blockLength → length pol ≤ 128
     → sealed (take 510 (put (put (set (set b 4 1) 5 (length pol)) 264 (zeros 128)) 264 pol)) ≡ policyWith b pol
 unfolding policyWith
 policy-put b pol h l =
@@ -385,7 +385,7 @@ cut-5 b =
     sym (take-append-drop 131 (drop 5 b))
     ∙ ap (λ (t : List ℕ). part b 5 131 ++ t) (drop-drop 131 5 b ∙ sym (take-append-drop 256 (drop 136 b)) ∙ ap (λ (t : List ℕ). part b 136 256 ++ t) (drop-drop 256 136 b))
 
-pub others-put : (b u v : List ℕ) → length b ≡ 512 → length u ≤ 128 → length v ≤ 128
+pub others-put : (b u v : List ℕ) → length b ≡ blockLength → length u ≤ 128 → length v ≤ 128
     → sealed (take 510 (put (put (put (set (set b 3 (length u)) 4 (length v)) 136 (zeros 256)) 136 u) 264 v)) ≡ othersWith b u v
 unfolding othersWith
 others-put b u v h lu lv =
@@ -442,7 +442,7 @@ unfolding put
 put-first x y s n h =
     rw (take-append-le n x y (omega arith), drop-append-le (n + length s) x y h) (simp append-assoc)
 
-pub more-put : (b : List ℕ) (n : ℕ) (e : Entry) → length b ≡ 512 → n < 4
+pub more-put : (b : List ℕ) (n : ℕ) (e : Entry) → length b ≡ blockLength → n < 4
     → sealed (take 510 (put (set b 18 (n + 1)) (32 + 104 * n) (entryBytes e))) ≡ entriesWith b n e
 unfolding entriesWith
 more-put b n e h l =

@@ -13,7 +13,7 @@ use Rattle.octets.specs.Texts.{filled, part, put, zeros}
 use Rattle.octets.proofs.Lists.{keep-split}
 use Rattle.octets.proofs.Texts.{length-put, length-zeros}
 use Rattle.table.specs.Soundness.{sound}
-use Rattle.table.specs.TheTable.{Access, Subscriber, formOf, headBytes, line, orderLine, placeLength, placeStart, readRow, rowBytes, usedBits}
+use Rattle.table.specs.TheTable.{blockLength, Access, Subscriber, formOf, headBytes, line, orderLine, placeLength, placeStart, readRow, rowBytes, usedBits}
 use Rattle.table.proofs.Bytes.{length-head, read-row}
 use Rattle.table.proofs.Sound.{row-is, says-good}
 use Rattle.changes.specs.Changes.{Opening, freed, leave, lowestFree, newAccess, opened, withAccesses}
@@ -25,17 +25,17 @@ use Rattle.changes.proofs.Steps.{head-line, ones-byte, row-bits}
 use Rattle.octets.proofs.Pieces.{drop-past, take-past}
 
 -- what block 0 was does not matter to the places behind it
-behind-head : (fm : ℕ) (h d o : List ℕ) (p : ℕ) → length h ≡ 512 → drop 512 (putPlace fm (h ++ d) p o) ≡ putPiece (placeLength fm) d (p - 1) o
+behind-head : (fm : ℕ) (h d o : List ℕ) (p : ℕ) → length h ≡ blockLength → drop blockLength (putPlace fm (h ++ d) p o) ≡ putPiece (placeLength fm) d (p - 1) o
 behind-head fm h d o p l =
-    let v : 512 + 512 * fm * (p - 1) + 512 * fm ≡ 512 + (512 * fm * (p - 1) + 512 * fm) = omega arith in
-    rw (v, take-past 512 (512 * fm * (p - 1)) h d l, drop-past 512 (512 * fm * (p - 1) + 512 * fm) h d l, append-assoc)
-    (drop-at h (putPiece (placeLength fm) d (p - 1) o) 512 l)
+    let v : blockLength + blockLength * fm * (p - 1) + blockLength * fm ≡ blockLength + (blockLength * fm * (p - 1) + blockLength * fm) = omega arith in
+    rw (v, take-past blockLength (blockLength * fm * (p - 1)) h d l, drop-past blockLength (blockLength * fm * (p - 1) + blockLength * fm) h d l, append-assoc)
+    (drop-at h (putPiece (placeLength fm) d (p - 1) o) blockLength l)
 
-over-head : (fm : ℕ) (y h o : List ℕ) (p : ℕ) → length h ≡ 512 → 512 ≤ length y → drop 512 (putPlace fm (h ++ drop 512 y) p o) ≡ drop 512 (putPlace fm y p o)
+over-head : (fm : ℕ) (y h o : List ℕ) (p : ℕ) → length h ≡ blockLength → blockLength ≤ length y → drop blockLength (putPlace fm (h ++ drop blockLength y) p o) ≡ drop blockLength (putPlace fm y p o)
 over-head fm y h o p l m =
-    behind-head fm h (drop 512 y) o p l
-    ∙ sym (behind-head fm (take 512 y) (drop 512 y) o p (length-take-le 512 y m))
-    ∙ ap (λ (t : List ℕ). drop 512 (putPlace fm t p o)) (take-append-drop 512 y)
+    behind-head fm h (drop blockLength y) o p l
+    ∙ sym (behind-head fm (take blockLength y) (drop blockLength y) o p (length-take-le blockLength y m))
+    ∙ ap (λ (t : List ℕ). drop blockLength (putPlace fm t p o)) (take-append-drop blockLength y)
 
 module _ (r : List ℕ) (k : ℕ) (h : sound r ≡ true) (o : isOn (orderLine r) k ≡ true) where
   -- the row between
@@ -84,7 +84,7 @@ module _ (r : List ℕ) (k : ℕ) (h : sound r ≡ true) (o : isOn (orderLine r)
 
   pub cut-law : (n : ℕ) (q : Opening) (p m : ℕ) → p ≡ lowestFree ((freed k (readRow r)) .accesses) → m ≡ length ((freed k (readRow r)) .accesses)
       → putHead (put (put r (placeStart (formOf r) k) (zeros (placeLength (formOf r)))) (placeStart (formOf r) p) (openedBytes (formOf r) n q))
-      (headWith (take 512 (put (put r (placeStart (formOf r) k) (zeros (placeLength (formOf r)))) (placeStart (formOf r) p) (openedBytes (formOf r) n q))) (getD r 17 0 - 2 ^ (k - 1) + 2 ^ (p - 1)) (set (closedUp (part r 20 8) k) m p))
+      (headWith (take blockLength (put (put r (placeStart (formOf r) k) (zeros (placeLength (formOf r)))) (placeStart (formOf r) p) (openedBytes (formOf r) n q))) (getD r 17 0 - 2 ^ (k - 1) + 2 ^ (p - 1)) (set (closedUp (part r 20 8) k) m p))
       ≡ rowBytes (formOf r) (opened n q (freed k (readRow r)))
   unfolding opened freed headWith
   cut-law n q p m ep em =
@@ -102,23 +102,23 @@ module _ (r : List ℕ) (k : ℕ) (h : sound r ≡ true) (o : isOn (orderLine r)
       let z : List ℕ = put r (placeStart fm k) free in
       let lz : length z ≡ length r = length-put r (placeStart fm k) free (omega (arith, length-zeros (placeLength fm), place-inside r k g (w .0) (w .1))) in
       let u : List ℕ = put z (placeStart fm p) new in
-      let e1 : take 512 u ≡ headBytes s =
+      let e1 : take blockLength u ≡ headBytes s =
       head-stays fm z p new (omega (arith, place-inside r p g (omega (arith, v .0)) (omega (arith, v .1)))) ∙ head-stays fm r k free (omega (arith, place-inside r k g (w .0) (w .1))) ∙ head-of r h in
       let e2 : getD r 17 0 - 2 ^ (k - 1) + 2 ^ (p - 1) ≡ usedBits (line b) =
       ap (λ (i : ℕ). getD r 17 0 - 2 ^ (k - 1) + 2 ^ (i - 1)) ep ∙ cut-bit ∙ ap usedBits (sym (line-new a n q)) in
       let e3 : set (closedUp (part r 20 8) k) m p ≡ filled (line b) 8 = ap (λ (t : List ℕ). set t m p) (closed-is r k h o) ∙ line-more a y m p cut-fewer (ep ∙ sym (new-place a n q)) em in
-      let head : headWith (take 512 u) (getD r 17 0 - 2 ^ (k - 1) + 2 ^ (p - 1)) (set (closedUp (part r 20 8) k) m p) ≡ headBytes (withAccesses b s) =
+      let head : headWith (take blockLength u) (getD r 17 0 - 2 ^ (k - 1) + 2 ^ (p - 1)) (set (closedUp (part r 20 8) k) m p) ≡ headBytes (withAccesses b s) =
       ap (λ (t : List ℕ). headWith t (getD r 17 0 - 2 ^ (k - 1) + 2 ^ (p - 1)) (set (closedUp (part r 20 8) k) m p)) e1
       ∙ ap (λ (t : ℕ). headWith (headBytes s) t (set (closedUp (part r 20 8) k) m p)) e2
       ∙ ap (λ (t : List ℕ). headWith (headBytes s) (usedBits (line b)) t) e3
       ∙ sym (head-line s b) in
       let ez : z ≡ putPlace fm (rowBytes fm s) k free = put-place fm r k free (length-zeros (placeLength fm)) ∙ ap (λ (t : List ℕ). putPlace fm t k free) (row-is r h) in
       let eu : u ≡ putPlace fm z (lowestFree a) new = put-place fm z p new ln ∙ ap (λ (i : ℕ). putPlace fm z i new) ep in
-      let ec : cut ≡ headBytes (freed k s) ++ drop 512 z = freed-puts fm k s (in-8 k (w .0) (w .1)) ∙ ap (λ (t : List ℕ). headBytes (freed k s) ++ drop 512 t) (sym ez) in
-      let rest : drop 512 u ≡ drop 512 (putPlace fm cut (lowestFree a) new) =
-      ap (drop 512) eu
+      let ec : cut ≡ headBytes (freed k s) ++ drop blockLength z = freed-puts fm k s (in-8 k (w .0) (w .1)) ∙ ap (λ (t : List ℕ). headBytes (freed k s) ++ drop blockLength t) (sym ez) in
+      let rest : drop blockLength u ≡ drop blockLength (putPlace fm cut (lowestFree a) new) =
+      ap (drop blockLength) eu
       ∙ sym (over-head fm z (headBytes (freed k s)) new (lowestFree a) (length-head (freed k s)) (omega (arith, g .size)))
-      ∙ ap (λ (t : List ℕ). drop 512 (putPlace fm t (lowestFree a) new)) (sym ec) in
+      ∙ ap (λ (t : List ℕ). drop blockLength (putPlace fm t (lowestFree a) new)) (sym ec) in
       (λ i. head i ++ rest i)
-      ∙ ap (λ (t : List ℕ). headBytes (withAccesses b s) ++ drop 512 (putPlace fm cut (lowestFree a) t)) (opened-new fm a n q)
+      ∙ ap (λ (t : List ℕ). headBytes (withAccesses b s) ++ drop blockLength (putPlace fm cut (lowestFree a) t)) (opened-new fm a n q)
       ∙ sym (opened-puts fm n q (freed k s) cut-fewer)

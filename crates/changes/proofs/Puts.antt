@@ -11,7 +11,7 @@ use lib.Seq.{drop-at}
 use Rattle.octets.specs.Choice.{pick, within}
 use Rattle.octets.specs.Lists.{counted, every, keep}
 use Rattle.octets.specs.Texts.{zeros}
-use Rattle.table.specs.TheTable.{Access, Policies, Subscriber, accessBytes, headBytes, placeBytes, placeLength, placeStart, places, placesBytes, rowBytes}
+use Rattle.table.specs.TheTable.{blockLength, Access, Policies, Subscriber, accessBytes, headBytes, placeBytes, placeLength, placeStart, places, placesBytes, rowBytes}
 use Rattle.changes.proofs.Stays.{free-place, hold-place, line-hold}
 use Rattle.changes.specs.Changes.{Opening, freed, hold, leave, lowestFree, newAccess, opened, routed, vacant, withAccesses}
 use Rattle.octets.proofs.Lists.{and-left, and-right, by-test, within-high, within-low}
@@ -23,7 +23,7 @@ abbrev pub putPiece : (w : ℕ) → List ℕ → ℕ → List ℕ → List ℕ
 putPiece w r i b = take (w * i) r ++ (b ++ drop (w * i + w) r)
 
 abbrev pub putHead : List ℕ → List ℕ → List ℕ
-putHead r b = b ++ drop 512 r
+putHead r b = b ++ drop blockLength r
 
 -- place k of a row of the form replaced
 abbrev pub putPlace : (form : ℕ) → List ℕ → ℕ → List ℕ → List ℕ
@@ -41,17 +41,17 @@ module _ (fm : ℕ) (a c : List Access) (k : ℕ) (others : (j : ℕ) → (j ≡
   put-places b zero i e h = absurd (omega arith)
   put-places b (suc n) zero e h =
       let q : b ≡ k = omega arith in
-      let z : 512 * fm * 0 ≡ 0 = omega arith in
-      let y : 0 + 512 * fm ≡ 512 * fm = omega arith in
-      let d : drop (512 * fm) (placeBytes fm a b ++ placesBytes fm a (counted (suc b) n)) ≡ placesBytes fm a (counted (suc b) n) =
-      drop-at (placeBytes fm a b) (placesBytes fm a (counted (suc b) n)) (512 * fm) (length-place fm a b) in
+      let z : blockLength * fm * 0 ≡ 0 = omega arith in
+      let y : 0 + blockLength * fm ≡ blockLength * fm = omega arith in
+      let d : drop (blockLength * fm) (placeBytes fm a b ++ placesBytes fm a (counted (suc b) n)) ≡ placesBytes fm a (counted (suc b) n) =
+      drop-at (placeBytes fm a b) (placesBytes fm a (counted (suc b) n)) (blockLength * fm) (length-place fm a b) in
       rw (z, y, d, past (suc b) n (omega arith), q)
   put-places b (suc n) (suc i) e h =
-      let w : ℕ = 512 * fm in
-      let r : placesBytes fm c (counted (suc b) n) ≡ putPiece (512 * fm) (placesBytes fm a (counted (suc b) n)) i (placeBytes fm c k) = put-places (suc b) n i (omega arith) (omega arith) in
-      let q : 512 * fm * suc i ≡ 512 * fm + 512 * fm * i = omega arith in
-      let p : 512 * fm + 512 * fm * i + 512 * fm ≡ 512 * fm + (512 * fm * i + 512 * fm) = omega arith in
-      rw (q, p, take-past (512 * fm) (512 * fm * i) (placeBytes fm a b) _ (length-place fm a b), drop-past (512 * fm) (512 * fm * i + 512 * fm) (placeBytes fm a b) _ (length-place fm a b), others b (omega arith), r, append-assoc)
+      let w : ℕ = blockLength * fm in
+      let r : placesBytes fm c (counted (suc b) n) ≡ putPiece (blockLength * fm) (placesBytes fm a (counted (suc b) n)) i (placeBytes fm c k) = put-places (suc b) n i (omega arith) (omega arith) in
+      let q : blockLength * fm * suc i ≡ blockLength * fm + blockLength * fm * i = omega arith in
+      let p : blockLength * fm + blockLength * fm * i + blockLength * fm ≡ blockLength * fm + (blockLength * fm * i + blockLength * fm) = omega arith in
+      rw (q, p, take-past (blockLength * fm) (blockLength * fm * i) (placeBytes fm a b) _ (length-place fm a b), drop-past (blockLength * fm) (blockLength * fm * i + blockLength * fm) (placeBytes fm a b) _ (length-place fm a b), others b (omega arith), r, append-assoc)
 
 -- the row's bytes, from those before
 module _ (fm : ℕ) (s : Subscriber) (c : List Access) (k : ℕ) (others : (j : ℕ) → (j ≡ k → ⊥) → placeBytes fm c j ≡ placeBytes fm (s .accesses) j) where
@@ -61,9 +61,9 @@ module _ (fm : ℕ) (s : Subscriber) (c : List Access) (k : ℕ) (others : (j : 
       let i : ℕ = k - 1 in
       let m : placesBytes fm c (counted 1 8) ≡ putPiece (placeLength fm) (placesBytes fm (s .accesses) (counted 1 8)) (k - 1) (placeBytes fm c k) =
       put-places fm (s .accesses) c k others 1 8 (k - 1) (omega (arith, within-low 1 8 k v)) (omega (arith, within-high 1 8 k v, within-low 1 8 k v)) in
-      let p : 512 + 512 * fm * (k - 1) + 512 * fm ≡ 512 + (512 * fm * (k - 1) + 512 * fm) = omega arith in
-      rw (p, take-past 512 (512 * fm * (k - 1)) (headBytes s) _ (length-head s), drop-past 512 (512 * fm * (k - 1) + 512 * fm) (headBytes s) _ (length-head s), append-assoc)
-      (rw (drop-at (headBytes s) (putPiece (placeLength fm) (placesBytes fm (s .accesses) (counted 1 8)) (k - 1) (placeBytes fm c k)) 512 (length-head s), m))
+      let p : blockLength + blockLength * fm * (k - 1) + blockLength * fm ≡ blockLength + (blockLength * fm * (k - 1) + blockLength * fm) = omega arith in
+      rw (p, take-past blockLength (blockLength * fm * (k - 1)) (headBytes s) _ (length-head s), drop-past blockLength (blockLength * fm * (k - 1) + blockLength * fm) (headBytes s) _ (length-head s), append-assoc)
+      (rw (drop-at (headBytes s) (putPiece (placeLength fm) (placesBytes fm (s .accesses) (counted 1 8)) (k - 1) (placeBytes fm c k)) blockLength (length-head s), m))
 
 -- the place that leaves
 

@@ -15,7 +15,7 @@ use Rattle.octets.proofs.Lists.{by-test, eqb-comm, keep-length, on-cons, on-non
 use Rattle.octets.proofs.Texts.{back-put, length-filled, length-part, length-zeros}
 use Rattle.table.specs.Soundness.{sound}
 use Rattle.table.specs.Answers.{lent}
-use Rattle.table.specs.TheTable.{Access, Entry, Policies, Subscriber, accessBytes, firstBytes, formOf, isForm, place, placeLength, placeStart, secondBlock, secondBytes, entriesBytes, entryBytes, fromBits, headBytes, held, line, orderLine, placeBytes, places, placesBytes, readRow, rowAt, rowBytes, rowLength, sealed, sumsFrom, usedBits, withRow}
+use Rattle.table.specs.TheTable.{blockLength, Access, Entry, Policies, Subscriber, accessBytes, firstBytes, formOf, isForm, place, placeLength, placeStart, secondBlock, secondBytes, entriesBytes, entryBytes, fromBits, headBytes, held, line, orderLine, placeBytes, places, placesBytes, readRow, rowAt, rowBytes, rowLength, sealed, sumsFrom, usedBits, withRow}
 use Rattle.table.proofs.Bytes.{access-one, access-two, first-of, form-of, length-access, length-first, length-entry, length-head, length-row, length-sealed, length-second, place-is, second-of}
 use Rattle.table.proofs.Form.{Sized, every-on, line-read, place-ends}
 use Rattle.table.proofs.Good.{at-most-eight, by-form}
@@ -57,9 +57,9 @@ row-line fm s =
     ∙ ap (take 8) (drop-past 15 3 (filled (s .name) 15) _ (length-filled _ 15))
     ∙ take-at (filled (line (s .accesses)) 8) (behind fm s) 8 (length-filled _ 8)
 
-row-head : (fm : ℕ) (s : Subscriber) → take 512 (rowBytes fm s) ≡ headBytes s
+row-head : (fm : ℕ) (s : Subscriber) → take blockLength (rowBytes fm s) ≡ headBytes s
 unfolding rowBytes
-row-head fm s = take-at (headBytes s) (placesBytes fm (s .accesses) places) 512 (length-head s)
+row-head fm s = take-at (headBytes s) (placesBytes fm (s .accesses) places) blockLength (length-head s)
 
 -- the order line within block 0
 part-first : (x y : List ℕ) → 28 ≤ length x → part (x ++ y) 20 8 ≡ part x 20 8
@@ -70,16 +70,16 @@ head-order : (s : Subscriber) → part (headBytes s) 20 8 ≡ filled (line (s .a
 unfolding rowBytes
 head-order s = sym (part-first (headBytes s) (placesBytes 1 (s .accesses) places) (rw length-head (omega arith))) ∙ row-line 1 s
 
-row-rest : (fm : ℕ) (s : Subscriber) → drop 512 (rowBytes fm s) ≡ placesBytes fm (s .accesses) places
+row-rest : (fm : ℕ) (s : Subscriber) → drop blockLength (rowBytes fm s) ≡ placesBytes fm (s .accesses) places
 unfolding rowBytes
-row-rest fm s = drop-at (headBytes s) (placesBytes fm (s .accesses) places) 512 (length-head s)
+row-rest fm s = drop-at (headBytes s) (placesBytes fm (s .accesses) places) blockLength (length-head s)
 
 pub row-sized : (r : List ℕ) → sound r ≡ true → Sized r
 row-sized r h = (clauses r h) .row
 
 -- the size of a row as the code counts it
 pub record Measured (r : List ℕ) : Type 0 where
-  pub size : length r ≡ 512 + 4096 * formOf r
+  pub size : length r ≡ blockLength + 4096 * formOf r
   pub least : 1 ≤ formOf r
   pub most : formOf r ≤ 2
 
@@ -96,8 +96,8 @@ unfolding rowLength
 place-inside r k m lo hi = omega (arith, m .size, place-ends (formOf r) k lo hi)
 
 module _ (r : List ℕ) (h : sound r ≡ true) where
-  pub head-of : take 512 r ≡ headBytes (readRow r)
-  head-of = ap (take 512) (row-is r h) ∙ row-head (formOf r) (readRow r)
+  pub head-of : take blockLength r ≡ headBytes (readRow r)
+  head-of = ap (take blockLength) (row-is r h) ∙ row-head (formOf r) (readRow r)
 
   pub count-of : getD r 18 0 ≡ length ((readRow r) .entries)
   count-of = ap (λ (t : List ℕ). getD t 18 0) (row-is r h) ∙ row-count (formOf r) (readRow r)
@@ -127,39 +127,39 @@ unfolding put
 put-place fm r k b h = rw h
 
 -- the length of a place as the code counts it, and the part that is lent for one: n bytes from a on
-pub place-long : (r : List ℕ) → Measured r → (length r - 512) / 8 ≡ placeLength (formOf r)
+pub place-long : (r : List ℕ) → Measured r → (length r - blockLength) / 8 ≡ placeLength (formOf r)
 place-long r m = omega (arith, m .size)
 
 pub lent-place : (r : List ℕ) (k a n : ℕ) → a ≡ placeStart (formOf r) k → n ≡ placeLength (formOf r) → take (a + n - a) (drop a r) ≡ place r k
 unfolding place
-lent-place r k a n ea en = let q : a + n - a ≡ 512 * formOf r = omega arith in rw (q, ea)
+lent-place r k a n ea en = let q : a + n - a ≡ blockLength * formOf r = omega arith in rw (q, ea)
 
 -- its length tells the form
-part-form : (s : List ℕ) (fm a n : ℕ) → a + n ≤ length s → n ≡ placeLength fm → length (take (a + n - a) (drop a s)) / 512 ≡ fm
+part-form : (s : List ℕ) (fm a n : ℕ) → a + n ≤ length s → n ≡ placeLength fm → length (take (a + n - a) (drop a s)) / blockLength ≡ fm
 part-form s fm a n h e = omega (arith, lent-length s a n h)
 
 pub room-of : (s : List ℕ) (fm a n : ℕ) → a + n ≤ length s → n ≡ placeLength fm → 1 ≤ fm → fm ≤ 2
-    → (length (take (a + n - a) (drop a s)) ≡ placeLength (length (take (a + n - a) (drop a s)) / 512)) × (1 ≤ length (take (a + n - a) (drop a s)) / 512) × (length (take (a + n - a) (drop a s)) / 512 ≤ 2)
+    → (length (take (a + n - a) (drop a s)) ≡ placeLength (length (take (a + n - a) (drop a s)) / blockLength)) × (1 ≤ length (take (a + n - a) (drop a s)) / blockLength) × (length (take (a + n - a) (drop a s)) / blockLength ≤ 2)
 room-of s fm a n h e lo hi =
     let l : length (take (a + n - a) (drop a s)) ≡ n = lent-length s a n h in
     (omega arith, omega arith, omega arith)
 
 -- block 0 stays as it is where a place is written
-pub head-stays : (fm : ℕ) (r : List ℕ) (k : ℕ) (b : List ℕ) → placeStart fm k ≤ length r → take 512 (put r (placeStart fm k) b) ≡ take 512 r
+pub head-stays : (fm : ℕ) (r : List ℕ) (k : ℕ) (b : List ℕ) → placeStart fm k ≤ length r → take blockLength (put r (placeStart fm k) b) ≡ take blockLength r
 unfolding put
 head-stays fm r k b h =
-    let l : length (take (512 + 512 * fm * (k - 1)) r) ≡ 512 + 512 * fm * (k - 1) = length-take-le (512 + 512 * fm * (k - 1)) r h in
-    take-append-le 512 (take (512 + 512 * fm * (k - 1)) r) (b ++ drop (512 + 512 * fm * (k - 1) + length b) r) (omega arith) ∙ take-take 512 (512 + 512 * fm * (k - 1)) r (omega arith)
+    let l : length (take (blockLength + blockLength * fm * (k - 1)) r) ≡ blockLength + blockLength * fm * (k - 1) = length-take-le (blockLength + blockLength * fm * (k - 1)) r h in
+    take-append-le blockLength (take (blockLength + blockLength * fm * (k - 1)) r) (b ++ drop (blockLength + blockLength * fm * (k - 1) + length b) r) (omega arith) ∙ take-take blockLength (blockLength + blockLength * fm * (k - 1)) r (omega arith)
 
 -- the sums of block 0 agree, whatever was written behind it
 head-sealed : (s : Subscriber) (u : List ℕ) → u ≡ headBytes s → u ≡ sealed (take 510 u)
 unfolding headBytes
 head-sealed s u e = block-agrees _ u (length-head s) e
 
-pub head-agrees : (r z : List ℕ) → sound r ≡ true → take 512 z ≡ take 512 r → (length (take 512 z) ≡ 512) × (take 512 z ≡ sealed (take 510 (take 512 z)))
+pub head-agrees : (r z : List ℕ) → sound r ≡ true → take blockLength z ≡ take blockLength r → (length (take blockLength z) ≡ blockLength) × (take blockLength z ≡ sealed (take 510 (take blockLength z)))
 head-agrees r z h e =
-    let head : take 512 z ≡ headBytes (readRow r) = e ∙ head-of r h in
-    (ap length head ∙ length-head (readRow r), head-sealed (readRow r) (take 512 z) head)
+    let head : take blockLength z ≡ headBytes (readRow r) = e ∙ head-of r h in
+    (ap length head ∙ length-head (readRow r), head-sealed (readRow r) (take blockLength z) head)
 
 -- A PLACE IS FREED
 
@@ -191,7 +191,7 @@ closed-is r k h o =
     ∙ ap (λ (t : List ℕ). filled t 8) (sym (line-leave k a))
 
 pub free-law : (r : List ℕ) (k : ℕ) → sound r ≡ true → isOn (orderLine r) k ≡ true
-    → putHead (put r (placeStart (formOf r) k) (zeros (placeLength (formOf r)))) (headWith (take 512 (put r (placeStart (formOf r) k) (zeros (placeLength (formOf r))))) (getD r 17 0 - 2 ^ (k - 1)) (closedUp (part r 20 8) k))
+    → putHead (put r (placeStart (formOf r) k) (zeros (placeLength (formOf r)))) (headWith (take blockLength (put r (placeStart (formOf r) k) (zeros (placeLength (formOf r))))) (getD r 17 0 - 2 ^ (k - 1)) (closedUp (part r 20 8) k))
     ≡ rowBytes (formOf r) (freed k (readRow r))
 unfolding freed headWith
 free-law r k h o =
@@ -201,11 +201,11 @@ free-law r k h o =
     let w : (1 ≤ k) × (k ≤ 8) = place-in r h k o in
     let n : List ℕ = zeros (placeLength fm) in
     let z : List ℕ = put r (placeStart fm k) n in
-    let e1 : take 512 z ≡ headBytes s = head-stays fm r k n (omega (arith, place-inside r k (row-size r h) (w .0) (w .1))) ∙ head-of r h in
+    let e1 : take blockLength z ≡ headBytes s = head-stays fm r k n (omega (arith, place-inside r k (row-size r h) (w .0) (w .1))) ∙ head-of r h in
     let e2 : getD r 17 0 - 2 ^ (k - 1) ≡ usedBits (line (leave k a)) = omega (arith, bit-in r k h o) in
     let e3 : closedUp (part r 20 8) k ≡ filled (line (leave k a)) 8 = closed-is r k h o in
     let ez : z ≡ putPlace fm (rowBytes fm s) k n = put-place fm r k n (length-zeros (placeLength fm)) ∙ ap (λ (t : List ℕ). putPlace fm t k n) (row-is r h) in
-    let head : headWith (take 512 z) (getD r 17 0 - 2 ^ (k - 1)) (closedUp (part r 20 8) k) ≡ headBytes (freed k s) =
+    let head : headWith (take blockLength z) (getD r 17 0 - 2 ^ (k - 1)) (closedUp (part r 20 8) k) ≡ headBytes (freed k s) =
     ap (λ (t : List ℕ). headWith t (getD r 17 0 - 2 ^ (k - 1)) (closedUp (part r 20 8) k)) e1
     ∙ ap (λ (t : ℕ). headWith (headBytes s) t (closedUp (part r 20 8) k)) e2
     ∙ ap (λ (t : List ℕ). headWith (headBytes s) (usedBits (line (leave k a))) t) e3
@@ -270,7 +270,7 @@ module _ (r : List ℕ) (h : sound r ≡ true) (lt : length ((readRow r) .access
 
   pub open-law : (n : ℕ) (o : Opening) (p m : ℕ) → p ≡ lowestFree ((readRow r) .accesses) → m ≡ length ((readRow r) .accesses)
       → putHead (put r (placeStart (formOf r) p) (openedBytes (formOf r) n o))
-      (headWith (take 512 (put r (placeStart (formOf r) p) (openedBytes (formOf r) n o))) (getD r 17 0 + 2 ^ (p - 1)) (set (part (take 512 (put r (placeStart (formOf r) p) (openedBytes (formOf r) n o))) 20 8) m p))
+      (headWith (take blockLength (put r (placeStart (formOf r) p) (openedBytes (formOf r) n o))) (getD r 17 0 + 2 ^ (p - 1)) (set (part (take blockLength (put r (placeStart (formOf r) p) (openedBytes (formOf r) n o))) 20 8) m p))
       ≡ rowBytes (formOf r) (opened n o (readRow r))
   unfolding opened headWith
   open-law n o p m ep em =
@@ -281,15 +281,15 @@ module _ (r : List ℕ) (h : sound r ≡ true) (lt : length ((readRow r) .access
       let b : List ℕ = openedBytes fm n o in
       let lo : length b ≡ placeLength fm = length-opened fm n o in
       let z : List ℕ = put r (placeStart fm p) b in
-      let e1 : take 512 z ≡ take 512 r = head-stays fm r p b (omega (arith, place-inside r p (row-size r h) (omega (arith, lowest-in .0)) (omega (arith, lowest-in .1)))) in
+      let e1 : take blockLength z ≡ take blockLength r = head-stays fm r p b (omega (arith, place-inside r p (row-size r h) (omega (arith, lowest-in .0)) (omega (arith, lowest-in .1)))) in
       let e2 : getD r 17 0 + 2 ^ (p - 1) ≡ usedBits (line (a ++ (y ∷ []))) =
       ap (λ (i : ℕ). getD r 17 0 + 2 ^ (i - 1)) ep ∙ bit-out ∙ ap usedBits (sym (line-new a n o)) in
-      let el : part (take 512 r) 20 8 ≡ filled (line a) 8 = ap (λ (t : List ℕ). part t 20 8) (head-of r h) ∙ head-order s in
-      let e3 : set (part (take 512 z) 20 8) m p ≡ filled (line (a ++ (y ∷ []))) 8 =
+      let el : part (take blockLength r) 20 8 ≡ filled (line a) 8 = ap (λ (t : List ℕ). part t 20 8) (head-of r h) ∙ head-order s in
+      let e3 : set (part (take blockLength z) 20 8) m p ≡ filled (line (a ++ (y ∷ []))) 8 =
       ap (λ (t : List ℕ). set (part t 20 8) m p) e1 ∙ ap (λ (t : List ℕ). set t m p) el ∙ line-more a y m p lt (ep ∙ sym (new-place a n o)) em in
-      let head : headWith (take 512 z) (getD r 17 0 + 2 ^ (p - 1)) (set (part (take 512 z) 20 8) m p) ≡ headBytes (withAccesses (a ++ (y ∷ [])) s) =
-      ap (λ (t : List ℕ). headWith t (getD r 17 0 + 2 ^ (p - 1)) (set (part (take 512 z) 20 8) m p)) (e1 ∙ head-of r h)
-      ∙ ap (λ (t : ℕ). headWith (headBytes s) t (set (part (take 512 z) 20 8) m p)) e2
+      let head : headWith (take blockLength z) (getD r 17 0 + 2 ^ (p - 1)) (set (part (take blockLength z) 20 8) m p) ≡ headBytes (withAccesses (a ++ (y ∷ [])) s) =
+      ap (λ (t : List ℕ). headWith t (getD r 17 0 + 2 ^ (p - 1)) (set (part (take blockLength z) 20 8) m p)) (e1 ∙ head-of r h)
+      ∙ ap (λ (t : ℕ). headWith (headBytes s) t (set (part (take blockLength z) 20 8) m p)) e2
       ∙ ap (λ (t : List ℕ). headWith (headBytes s) (usedBits (line (a ++ (y ∷ [])))) t) e3
       ∙ sym (head-line s (a ++ (y ∷ []))) in
       let ez : z ≡ putPlace fm (rowBytes fm s) (lowestFree a) b =
@@ -300,27 +300,27 @@ module _ (r : List ℕ) (h : sound r ≡ true) (lt : length ((readRow r) .access
       ∙ sym (opened-puts fm n o s lt)
 
 -- what is written for it, block by block
-pub opened-one : (f n : ℕ) (s h r p q : List ℕ) → f ≡ 1 → length p ≡ 512 → q ≡ firstBytes (fresh n (record { session = s; host = h; realm = [] }))
-    → q ++ drop 512 p ≡ openedBytes f n (record { session = s; host = h; realm = keptIn f r })
+pub opened-one : (f n : ℕ) (s h r p q : List ℕ) → f ≡ 1 → length p ≡ blockLength → q ≡ firstBytes (fresh n (record { session = s; host = h; realm = [] }))
+    → q ++ drop blockLength p ≡ openedBytes f n (record { session = s; host = h; realm = keptIn f r })
 unfolding openedBytes keptIn pick
 opened-one f n s h r p q e l w =
-    rw (e, w, drop-of-length-le p {i = 512} (omega arith))
+    rw (e, w, drop-of-length-le p {i = blockLength} (omega arith))
     (append-nil (firstBytes (fresh n (record { session = s; host = h; realm = [] }))) ∙ sym (access-one (fresh n (record { session = s; host = h; realm = [] }))))
 
 pub opened-two : (f n : ℕ) (s h r p q c : List ℕ) → f ≡ 2 → length p ≡ 1024 → q ≡ firstBytes (fresh n (record { session = s; host = h; realm = [] }))
     → c ≡ secondBytes (fresh 0 (record { session = []; host = []; realm = r }))
-    → take 512 (q ++ drop 512 p) ++ (c ++ drop 512 (drop 512 (q ++ drop 512 p))) ≡ openedBytes f n (record { session = s; host = h; realm = keptIn f r })
+    → take blockLength (q ++ drop blockLength p) ++ (c ++ drop blockLength (drop blockLength (q ++ drop blockLength p))) ≡ openedBytes f n (record { session = s; host = h; realm = keptIn f r })
 unfolding openedBytes keptIn pick fresh firstBytes secondBytes
 opened-two f n s h r p q c e l w v =
     let a : Access = fresh n (record { session = s; host = h; realm = r }) in
-    let lq : length q ≡ 512 = ap length w ∙ length-first a in
-    let d : drop 512 (drop 512 p) ≡ [] = drop-drop 512 512 p ∙ drop-of-length-le p {i = 1024} (omega arith) in
-    rw (e, take-at q (drop 512 p) 512 lq, drop-at q (drop 512 p) 512 lq, d)
+    let lq : length q ≡ blockLength = ap length w ∙ length-first a in
+    let d : drop blockLength (drop blockLength p) ≡ [] = drop-drop blockLength blockLength p ∙ drop-of-length-le p {i = 1024} (omega arith) in
+    rw (e, take-at q (drop blockLength p) blockLength lq, drop-at q (drop blockLength p) blockLength lq, d)
     (ap (λ (t : List ℕ). q ++ t) (append-nil c) ∙ (λ i. w i ++ v i) ∙ sym (access-two a))
 
 -- the place has come back with a new access in it
 pub came-back : (v : List ℕ) (fm p a n e : ℕ) (s h r b : List ℕ) → a ≡ placeStart fm p → n ≡ placeLength fm → a + n ≤ length v
-    → b ≡ openedBytes (length (take (a + n - a) (drop a v)) / 512) e (record { session = s; host = h; realm = keptIn (length (take (a + n - a) (drop a v)) / 512) r })
+    → b ≡ openedBytes (length (take (a + n - a) (drop a v)) / blockLength) e (record { session = s; host = h; realm = keptIn (length (take (a + n - a) (drop a v)) / blockLength) r })
     → take a v ++ (b ++ drop (a + n - a) (drop a v)) ≡ put v (placeStart fm p) (openedBytes fm e (record { session = s; host = h; realm = keptIn fm r }))
 came-back v fm p a n e s h r b ea en l w =
     let o : ℕ → List ℕ = λ f. openedBytes f e (record { session = s; host = h; realm = keptIn f r }) in
@@ -328,23 +328,23 @@ came-back v fm p a n e s h r b ea en l w =
 
 -- ANOTHER POLICY
 
-pub routed-short : (p q : List ℕ) (pol : Policies) → length p ≡ 512 → q ≡ policyWith (take 512 p) (pol .first) → q ++ drop 512 p ≡ routedBytes p pol
+pub routed-short : (p q : List ℕ) (pol : Policies) → length p ≡ blockLength → q ≡ policyWith (take blockLength p) (pol .first) → q ++ drop blockLength p ≡ routedBytes p pol
 unfolding routedBytes pick
 routed-short p q pol l w =
-    let t : ltb 512 (length p) ≡ false = rw l refl in
-    rw (t, w, drop-of-length-le p {i = 512} (omega arith))
+    let t : ltb blockLength (length p) ≡ false = rw l refl in
+    rw (t, w, drop-of-length-le p {i = blockLength} (omega arith))
 
-pub routed-long : (p q c : List ℕ) (pol : Policies) → length p ≡ 1024 → length q ≡ 512 → q ≡ policyWith (take 512 p) (pol .first)
-    → c ≡ othersWith (take 512 (drop 512 (q ++ drop 512 p))) (pol .second) (pol .third)
-    → take 512 (q ++ drop 512 p) ++ (c ++ drop 512 (drop 512 (q ++ drop 512 p))) ≡ routedBytes p pol
+pub routed-long : (p q c : List ℕ) (pol : Policies) → length p ≡ 1024 → length q ≡ blockLength → q ≡ policyWith (take blockLength p) (pol .first)
+    → c ≡ othersWith (take blockLength (drop blockLength (q ++ drop blockLength p))) (pol .second) (pol .third)
+    → take blockLength (q ++ drop blockLength p) ++ (c ++ drop blockLength (drop blockLength (q ++ drop blockLength p))) ≡ routedBytes p pol
 unfolding routedBytes pick
 routed-long p q c pol l lq w v =
-    let t : ltb 512 (length p) ≡ true = rw l refl in
-    let d : drop 512 (drop 512 p) ≡ [] = drop-drop 512 512 p ∙ drop-of-length-le p {i = 1024} (omega arith) in
-    let y : drop 512 (q ++ drop 512 p) ≡ drop 512 p = drop-at q (drop 512 p) 512 lq in
-    let x : take 512 (drop 512 p) ≡ drop 512 p = take-all 512 (drop 512 p) (rw length-drop (omega arith)) in
-    rw (t, take-at q (drop 512 p) 512 lq, y, d)
-    (ap (λ (u : List ℕ). q ++ u) (append-nil c) ∙ (λ i. w i ++ v i) ∙ ap (λ (u : List ℕ). policyWith (take 512 p) (pol .first) ++ othersWith u (pol .second) (pol .third)) (ap (take 512) y ∙ x))
+    let t : ltb blockLength (length p) ≡ true = rw l refl in
+    let d : drop blockLength (drop blockLength p) ≡ [] = drop-drop blockLength blockLength p ∙ drop-of-length-le p {i = 1024} (omega arith) in
+    let y : drop blockLength (q ++ drop blockLength p) ≡ drop blockLength p = drop-at q (drop blockLength p) blockLength lq in
+    let x : take blockLength (drop blockLength p) ≡ drop blockLength p = take-all blockLength (drop blockLength p) (rw length-drop (omega arith)) in
+    rw (t, take-at q (drop blockLength p) blockLength lq, y, d)
+    (ap (λ (u : List ℕ). q ++ u) (append-nil c) ∙ (λ i. w i ++ v i) ∙ ap (λ (u : List ℕ). policyWith (take blockLength p) (pol .first) ++ othersWith u (pol .second) (pol .third)) (ap (take blockLength) y ∙ x))
 
 -- the access at a place
 pub record At (fm k : ℕ) (a : List Access) : Type 0 where
@@ -371,7 +371,7 @@ unfolding held
 held-one [] h = absurd (omega arith)
 held-one (x ∷ pol) h = refl
 
-pub length-policy : (b pol : List ℕ) → length b ≡ 512 → length (policyWith b pol) ≡ 512
+pub length-policy : (b pol : List ℕ) → length b ≡ blockLength → length (policyWith b pol) ≡ blockLength
 unfolding policyWith
 length-policy b pol h =
     let l1 : length (take 4 b) ≡ 4 = length-take-le 4 b (omega arith) in
@@ -392,14 +392,14 @@ routed-one : (k : ℕ) (pol : Policies) (x : Access) → 1 ≤ length (pol .firs
 unfolding routedBytes pick isForm within
 routed-one k pol x h e =
     let p : accessBytes 1 x ≡ firstBytes x = access-one x in
-    let l : ltb 512 (length (accessBytes 1 x)) ≡ false = rw (length-access 1 x) refl in
+    let l : ltb blockLength (length (accessBytes 1 x)) ≡ false = rw (length-access 1 x) refl in
     rw (l, first-of 1 x refl) (access-one (hold k pol x) ∙ policy-is k pol x h e ∙ sym (append-nil (policyWith (firstBytes x) (pol .first))))
 
 routed-two : (k : ℕ) (pol : Policies) (x : Access) → 1 ≤ length (pol .first) → eqb (x .place) k ≡ true → accessBytes 2 (hold k pol x) ≡ routedBytes (accessBytes 2 x) pol
 unfolding routedBytes pick isForm within
 routed-two k pol x h e =
-    let l : ltb 512 (length (accessBytes 2 x)) ≡ true = rw (length-access 2 x) refl in
-    let c : secondBlock (accessBytes 2 x) ≡ secondBytes x = second-of 2 x refl ∙ take-all 512 (secondBytes x) (omega (arith, length-second x)) in
+    let l : ltb blockLength (length (accessBytes 2 x)) ≡ true = rw (length-access 2 x) refl in
+    let c : secondBlock (accessBytes 2 x) ≡ secondBytes x = second-of 2 x refl ∙ take-all blockLength (secondBytes x) (omega (arith, length-second x)) in
     rw (l, first-of 2 x refl, c) (access-two (hold k pol x) ∙ (λ i. policy-is k pol x h e i ++ others-are k pol x e i))
 
 routed-is : (fm k : ℕ) (pol : Policies) (x : Access) → isForm fm ≡ true → 1 ≤ length (pol .first) → eqb (x .place) k ≡ true → accessBytes fm (hold k pol x) ≡ routedBytes (accessBytes fm x) pol
@@ -422,9 +422,9 @@ route-law r k pol h o lp =
     let z : List ℕ = put r (placeStart fm k) p in
     let ez : z ≡ putPlace fm (rowBytes fm s) k (accessBytes fm (hold k pol x)) =
     put-place fm r k p lb ∙ ap (λ (t : List ℕ). putPlace fm t k p) (row-is r h) ∙ ap (λ (t : List ℕ). putPlace fm (rowBytes fm s) k t) ep in
-    let eh : take 512 z ≡ headBytes s = head-stays fm r k p (omega (arith, place-inside r k (row-size r h) (w .0) (w .1))) ∙ head-of r h in
-    sym (take-append-drop 512 z)
-    ∙ ap (λ (t : List ℕ). t ++ drop 512 z) eh
+    let eh : take blockLength z ≡ headBytes s = head-stays fm r k p (omega (arith, place-inside r k (row-size r h) (w .0) (w .1))) ∙ head-of r h in
+    sym (take-append-drop blockLength z)
+    ∙ ap (λ (t : List ℕ). t ++ drop blockLength z) eh
     ∙ ap (λ (t : List ℕ). putHead t (headBytes s)) ez
     ∙ sym (routed-puts fm k pol s x (f .others) (in-8 k (w .0) (w .1)) (f .on))
 
@@ -510,12 +510,12 @@ module _ (s : Subscriber) (e : Entry) (lt : length (s .entries) < 4) where
       ∙ entry-end s e count (sym room-put)
 
 pub entry-law : (r : List ℕ) (e : Entry) → sound r ≡ true → length ((readRow r) .entries) < 4
-    → entriesWith (take 512 r) (getD r 18 0) e ++ drop 512 r ≡ rowBytes (formOf r) (withEntry e (readRow r))
+    → entriesWith (take blockLength r) (getD r 18 0) e ++ drop blockLength r ≡ rowBytes (formOf r) (withEntry e (readRow r))
 entry-law r e h lt =
     let s : Subscriber = readRow r in
-    ap (λ (t : List ℕ). entriesWith t (getD r 18 0) e ++ drop 512 r) (head-of r h)
-    ∙ ap (λ (i : ℕ). entriesWith (headBytes s) i e ++ drop 512 r) (count-of r h)
-    ∙ ap (λ (t : List ℕ). entriesWith (headBytes s) (length (s .entries)) e ++ drop 512 t) (row-is r h)
+    ap (λ (t : List ℕ). entriesWith t (getD r 18 0) e ++ drop blockLength r) (head-of r h)
+    ∙ ap (λ (i : ℕ). entriesWith (headBytes s) i e ++ drop blockLength r) (count-of r h)
+    ∙ ap (λ (t : List ℕ). entriesWith (headBytes s) (length (s .entries)) e ++ drop blockLength t) (row-is r h)
     ∙ ap (λ (t : List ℕ). entriesWith (headBytes s) (length (s .entries)) e ++ t) (row-rest (formOf r) s)
     ∙ ap (λ (t : List ℕ). t ++ placesBytes (formOf r) (s .accesses) places) (head-entry s e lt)
     ∙ row-entry (formOf r) s e
@@ -528,8 +528,8 @@ no-zeros = refl
 
 places-none : (fm b n : ℕ) → placesBytes fm [] (counted b n) ≡ zeros (placeLength fm * n)
 unfolding placesBytes placeBytes counted
-places-none fm b zero = let q : 512 * fm * 0 ≡ 0 = omega arith in rw q no-zeros
-places-none fm b (suc n) = let q : 512 * fm * suc n ≡ 512 * fm + 512 * fm * n = omega arith in rw (q, places-none fm (suc b) n) (sym (zeros-split (512 * fm) (512 * fm * n)))
+places-none fm b zero = let q : blockLength * fm * 0 ≡ 0 = omega arith in rw q no-zeros
+places-none fm b (suc n) = let q : blockLength * fm * suc n ≡ blockLength * fm + blockLength * fm * n = omega arith in rw (q, places-none fm (suc b) n) (sym (zeros-split (blockLength * fm) (blockLength * fm * n)))
 
 places-zero : (fm : ℕ) → zeros (placeLength fm * 8) ≡ placesBytes fm [] places
 unfolding places
@@ -557,19 +557,19 @@ length-rest op = simp (length-append, length-zeros)
 zeros-cut : (n a b : ℕ) → n ≡ a + b → zeros n ≡ zeros a ++ zeros b
 zeros-cut n a b e = ap zeros e ∙ zeros-split a b
 
-new-zeros : (op n : ℕ) → put (zeros (512 + n)) 19 (op ∷ []) ≡ zeros 2 ++ (zeros 15 ++ (newRest op ++ (zeros 2 ++ zeros n)))
+new-zeros : (op n : ℕ) → put (zeros (blockLength + n)) 19 (op ∷ []) ≡ zeros 2 ++ (zeros 15 ++ (newRest op ++ (zeros 2 ++ zeros n)))
 new-zeros op n =
-    ap (λ (t : List ℕ). put t 19 (op ∷ [])) (zeros-cut (512 + n) 19 (493 + n) (omega arith) ∙ ap (λ (t : List ℕ). zeros 19 ++ t) (zeros-cut (493 + n) 1 (492 + n) (omega arith)))
+    ap (λ (t : List ℕ). put t 19 (op ∷ [])) (zeros-cut (blockLength + n) 19 (493 + n) (omega arith) ∙ ap (λ (t : List ℕ). zeros 19 ++ t) (zeros-cut (493 + n) 1 (492 + n) (omega arith)))
     ∙ put-over (zeros 19) (zeros 1) (op ∷ []) (zeros (492 + n)) 19 (length-zeros 19) (length-zeros 1)
     ∙ (λ i. (zeros-split 2 17 ∙ ap (λ (t : List ℕ). zeros 2 ++ t) (zeros-split 15 2)) i ++ ((op ∷ []) ++ (zeros-cut (492 + n) 490 (2 + n) (omega arith) ∙ ap (λ (t : List ℕ). zeros 490 ++ t) (zeros-split 2 n)) i))
     ∙ simp append-assoc
 
 pub new-law : (fm op : ℕ) (name z : List ℕ) → length name ≤ 15 → z ≡ put (put (put (zeros (rowLength fm)) 19 (op ∷ [])) 0 (1 ∷ length name ∷ [])) 2 name
-    → sealed (take 510 (take 512 z)) ++ drop 512 z ≡ rowBytes fm (named (record { operator = op; name = name }))
+    → sealed (take 510 (take blockLength z)) ++ drop blockLength z ≡ rowBytes fm (named (record { operator = op; name = name }))
 unfolding named rowBytes headBytes rowLength
 new-law fm op name z l e =
     let n : ℕ = placeLength fm * 8 in
-    let size : 512 + 8 * (512 * fm) ≡ 512 + n = omega arith in
+    let size : blockLength + 8 * (blockLength * fm) ≡ blockLength + n = omega arith in
     let rest : List ℕ = newRest op in
     let hr : length rest ≡ 493 = length-rest op in
     let a : List ℕ = 1 ∷ length name ∷ [] in
@@ -581,18 +581,18 @@ new-law fm op name z l e =
     ∙ ap (λ (t : List ℕ). put (put t 0 a) 2 name) (ap (λ (i : ℕ). put (zeros i) 19 (op ∷ [])) size ∙ new-zeros op n)
     ∙ ap (λ (t : List ℕ). put t 2 name) (put-over [] (zeros 2) a (zeros 15 ++ (rest ++ (zeros 2 ++ zeros n))) 0 refl (length-zeros 2))
     ∙ put-room a name (rest ++ (zeros 2 ++ zeros n)) 2 15 refl l in
-    let et : take 510 (take 512 w) ≡ a ++ (f ++ rest) =
-    take-take 510 512 w (omega arith)
+    let et : take 510 (take blockLength w) ≡ a ++ (f ++ rest) =
+    take-take 510 blockLength w (omega arith)
     ∙ take-past 2 508 a (f ++ (rest ++ (zeros 2 ++ zeros n))) refl
     ∙ ap (λ (t : List ℕ). a ++ t) (take-past 15 493 f (rest ++ (zeros 2 ++ zeros n)) hf
     ∙ ap (λ (t : List ℕ). f ++ t) (take-at (rest) (zeros 2 ++ zeros n) 493 hr)) in
-    let ed : drop 512 w ≡ placesBytes fm [] places =
+    let ed : drop blockLength w ≡ placesBytes fm [] places =
     drop-past 2 510 a (f ++ (rest ++ (zeros 2 ++ zeros n))) refl
     ∙ drop-past 15 495 f (rest ++ (zeros 2 ++ zeros n)) hf
     ∙ drop-past 493 2 (rest) (zeros 2 ++ zeros n) hr
     ∙ drop-past 2 0 (zeros 2) (zeros n) (length-zeros 2)
     ∙ places-zero fm in
-    ap (λ (t : List ℕ). sealed (take 510 (take 512 t)) ++ drop 512 t) ez
+    ap (λ (t : List ℕ). sealed (take 510 (take blockLength t)) ++ drop blockLength t) ez
     ∙ (λ i. sealed (et i) ++ ed i)
     ∙ ap (λ (t : List ℕ). sealed (a ++ (f ++ t)) ++ placesBytes fm [] places) (new-rest op)
 

@@ -9,7 +9,7 @@ use lib.Seq.{getD-take, length-take-le, set-append-left, take-at}
 use Rattle.octets.specs.Lists.{sumOf}
 use Rattle.octets.specs.Texts.{part, put}
 use Rattle.octets.proofs.Texts.{length-put}
-use Rattle.table.specs.TheTable.{sealed, sums}
+use Rattle.table.specs.TheTable.{blockLength, sealed, sums}
 use Rattle.table.proofs.Bytes.{length-sealed}
 use Rattle.table.proofs.Columns.{sums-plain, weighted}
 use Rattle.changes.specs.Writes.{headWith}
@@ -74,7 +74,7 @@ set-self [] i y h e = absurd (omega arith)
 set-self (x ∷ s) zero y h e = ap (λ (n : ℕ). n ∷ s) (sym e)
 set-self (x ∷ s) (suc i) y h e = ap (λ (t : List ℕ). x ∷ t) (set-self s i y (omega arith) e)
 
-module _ (b : List ℕ) (size : length b ≡ 512) (agree : b ≡ sealed (take 510 b)) (at : ℕ) (h : at < 510) where
+module _ (b : List ℕ) (size : length b ≡ blockLength) (agree : b ≡ sealed (take 510 b)) (at : ℕ) (h : at < 510) where
   body-long : length (take 510 b) ≡ 510
   body-long = length-take-le 510 b (omega arith)
 
@@ -118,17 +118,17 @@ module _ (s : List ℕ) (h : length s ≡ 510) where
   pub sealed-agrees : (u : List ℕ) → u ≡ sealed s → u ≡ sealed (take 510 u)
   sealed-agrees u e = e ∙ ap sealed (sym (ap (take 510) e ∙ body-of))
 
-  pub sealed-long : (u : List ℕ) → u ≡ sealed s → length u ≡ 512
+  pub sealed-long : (u : List ℕ) → u ≡ sealed s → length u ≡ blockLength
   sealed-long u e = ap length e ∙ length-sealed s ∙ omega arith
 
   -- one byte more exchanged in a block whose sums agree
   pub sealed-set : (u v : List ℕ) (i y : ℕ) → u ≡ sealed s → v ≡ sealed (set (take 510 u) i y) → v ≡ sealed (set s i y)
   sealed-set u v i y e f = f ∙ ap (λ (t : List ℕ). sealed (set t i y)) (ap (take 510) e ∙ body-of)
 
-pub block-agrees : (s u : List ℕ) → length (sealed s) ≡ 512 → u ≡ sealed s → u ≡ sealed (take 510 u)
+pub block-agrees : (s u : List ℕ) → length (sealed s) ≡ blockLength → u ≡ sealed s → u ≡ sealed (take 510 u)
 block-agrees s u h e = sealed-agrees s (omega (arith, length-sealed s)) u e
 
-module _ (b : List ℕ) (size : length b ≡ 512) (x : ℕ) where
+module _ (b : List ℕ) (size : length b ≡ blockLength) (x : ℕ) where
   pub marked-long : length (set (take 510 b) 17 x) ≡ 510
   marked-long = length-set (take 510 b) 17 x ∙ length-take-le 510 b (omega arith)
 

@@ -7,7 +7,7 @@ use Rattle.octets.specs.Choice.{pick}
 use lib.ListN.{length, take}
 use Rattle.octets.specs.Lists.{firstOr, keep}
 use Rattle.octets.specs.Texts.{filled, part, put}
-use Rattle.table.specs.TheTable.{Access, Entry, Policies, accessBytes, entryBytes, firstBlock, places, sealed, secondBlock}
+use Rattle.table.specs.TheTable.{blockLength, Access, Entry, Policies, accessBytes, entryBytes, firstBlock, places, sealed, secondBlock}
 use Rattle.changes.specs.Changes.{Opening, noPolicies}
 
 -- Block 0 with another byte 17 and another order line, sealed anew.
@@ -37,7 +37,7 @@ othersWith c second third =
 -- A place with other policies: both blocks, or in form 1 the first alone.
 unfoldable pub routedBytes : (p : List ℕ) → Policies → List ℕ
 routedBytes p policies =
-    policyWith (firstBlock p) (policies .first) ++ pick (ltb 512 (length p)) (othersWith (secondBlock p) (policies .second) (policies .third)) []
+    policyWith (firstBlock p) (policies .first) ++ pick (ltb blockLength (length p)) (othersWith (secondBlock p) (policies .second) (policies .third)) []
 
 -- A new access, which holds no policy. The number of its place is not among its bytes.
 unfoldable pub fresh : (entry : ℕ) → Opening → Access

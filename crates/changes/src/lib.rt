@@ -7,14 +7,14 @@ ghost use lib.ListN.{length, take, set};
 ghost use Rattle.octets.specs.Texts.{part};
 ghost use Rattle.octets.specs.Lists.{isOn};
 ghost use Rattle.table.specs.Answers.{lent};
-ghost use Rattle.table.specs.TheTable.{entryBytes, firstBytes, formOf, orderLine, placeLength, readRow, rowAt, rowBytes, rowLength, sealed, secondBytes, withRow};
+ghost use Rattle.table.specs.TheTable.{blockLength, entryBytes, firstBytes, formOf, orderLine, placeLength, readRow, rowAt, rowBytes, rowLength, sealed, secondBytes, withRow};
 ghost use Rattle.table.specs.Soundness.{sound};
 ghost use Rattle.changes.specs.Changes.{freed, keptIn, lowestFree, named, opened, routed, withEntry};
 ghost use Rattle.changes.specs.Writes.{closedUp, entriesWith, fresh, headWith, lowestClear, openedBytes, othersWith, policyWith, routedBytes};
 
 // The sums of a block's first 510 bytes, written behind them: the second, then the first.
 pub fn seal(block: &mut [u8])
-    requires { ⌜ length (now block) ≡ 512 ⌝ }
+    requires { ⌜ length (now block) ≡ blockLength ⌝ }
     ensures { λ _. ⌜ now (block .exit) ≡ sealed (take 510 (now (block .entry))) ⌝ }
 {
     let s = table::sums_of(block);
@@ -62,7 +62,7 @@ fn line_without(line: &[u8], k: u8) -> [u8; 8]
 // Another byte in a block whose sums agree: the sums follow, the first by what the byte gains, the second by that as often as there are bytes
 // from it on. A loss is counted as 255 less it, which is the same remainder.
 fn put_byte(block: &mut [u8], at: usize, byte: u8)
-    requires { ⌜ (length (now block) ≡ 512) × (now block ≡ sealed (take 510 (now block))) × (at < 510) ⌝ }
+    requires { ⌜ (length (now block) ≡ blockLength) × (now block ≡ sealed (take 510 (now block))) × (at < 510) ⌝ }
     ensures { λ _. ⌜ now (block .exit) ≡ sealed (set (take 510 (now (block .entry))) at byte) ⌝ }
 {
     if block[at] == byte {
@@ -78,7 +78,7 @@ fn put_byte(block: &mut [u8], at: usize, byte: u8)
 
 // Block 0 with other places in use and another order line.
 fn write_line(block: &mut [u8], bits: u8, line: [u8; 8])
-    requires { ⌜ (length (now block) ≡ 512) × (now block ≡ sealed (take 510 (now block))) ⌝ }
+    requires { ⌜ (length (now block) ≡ blockLength) × (now block ≡ sealed (take 510 (now block))) ⌝ }
     ensures { λ _. ⌜ now (block .exit) ≡ headWith (now (block .entry)) bits line ⌝ }
 {
     put_byte(block, table::USED_BITS, bits);
@@ -91,7 +91,7 @@ fn write_line(block: &mut [u8], bits: u8, line: [u8; 8])
 
 // Block 0 with one place more at the end of its order line, behind the `count` that are there.
 fn enlist(block: &mut [u8], bits: u8, count: usize, place: u8)
-    requires { ⌜ (length (now block) ≡ 512) × (now block ≡ sealed (take 510 (now block))) × (count < 8) ⌝ }
+    requires { ⌜ (length (now block) ≡ blockLength) × (now block ≡ sealed (take 510 (now block))) × (count < 8) ⌝ }
     ensures { λ _. ⌜ now (block .exit) ≡ headWith (now (block .entry)) bits (set (part (now (block .entry)) 20 8) count place) ⌝ }
 {
     put_byte(block, table::USED_BITS, bits);
@@ -100,7 +100,7 @@ fn enlist(block: &mut [u8], bits: u8, count: usize, place: u8)
 
 // The first block of a new access.
 fn write_first(block: &mut [u8], entry: u8, session: &[u8], host: &[u8])
-    requires { ⌜ (length (now block) ≡ 512) × (length (now session) ≤ 128) × (length (now host) ≤ 128) ⌝ }
+    requires { ⌜ (length (now block) ≡ blockLength) × (length (now session) ≤ 128) × (length (now host) ≤ 128) ⌝ }
     ensures { λ _. ⌜ now (block .exit) ≡ firstBytes (fresh entry (record { session = now (session .entry); host = now (host .entry); realm = [] })) ⌝ }
 {
     octets::clear(block);
@@ -113,7 +113,7 @@ fn write_first(block: &mut [u8], entry: u8, session: &[u8], host: &[u8])
 
 // Its second block.
 fn write_second(block: &mut [u8], realm: &[u8])
-    requires { ⌜ (length (now block) ≡ 512) × (length (now realm) ≤ 128) ⌝ }
+    requires { ⌜ (length (now block) ≡ blockLength) × (length (now realm) ≤ 128) ⌝ }
     ensures { λ _. ⌜ now (block .exit) ≡ secondBytes (fresh 0 (record { session = []; host = []; realm = now (realm .entry) })) ⌝ }
 {
     octets::clear(block);
@@ -125,8 +125,8 @@ fn write_second(block: &mut [u8], realm: &[u8])
 
 // The place of a new access: its first block, and in form 2 its second.
 fn write_access(place: &mut [u8], entry: u8, session: &[u8], host: &[u8], realm: &[u8])
-    requires { ⌜ (length (now place) ≡ placeLength (length (now place) / 512)) × (1 ≤ length (now place) / 512) × (length (now place) / 512 ≤ 2) × (length (now session) ≤ 128) × (length (now host) ≤ 128) × (length (now realm) ≤ 128) ⌝ }
-    ensures { λ _. ⌜ now (place .exit) ≡ openedBytes (length (now (place .entry)) / 512) entry (record { session = now (session .entry); host = now (host .entry); realm = keptIn (length (now (place .entry)) / 512) (now (realm .entry)) }) ⌝ }
+    requires { ⌜ (length (now place) ≡ placeLength (length (now place) / blockLength)) × (1 ≤ length (now place) / blockLength) × (length (now place) / blockLength ≤ 2) × (length (now session) ≤ 128) × (length (now host) ≤ 128) × (length (now realm) ≤ 128) ⌝ }
+    ensures { λ _. ⌜ now (place .exit) ≡ openedBytes (length (now (place .entry)) / blockLength) entry (record { session = now (session .entry); host = now (host .entry); realm = keptIn (length (now (place .entry)) / blockLength) (now (realm .entry)) }) ⌝ }
 {
     write_first(&mut place[0..table::BLOCK_LENGTH], entry, session, host);
     if place.len() == table::BLOCK_LENGTH {
@@ -137,7 +137,7 @@ fn write_access(place: &mut [u8], entry: u8, session: &[u8], host: &[u8], realm:
 
 // The first block of a place with another first policy.
 fn write_policy(block: &mut [u8], policy: &[u8])
-    requires { ⌜ (length (now block) ≡ 512) × (length (now policy) ≤ 128) ⌝ }
+    requires { ⌜ (length (now block) ≡ blockLength) × (length (now policy) ≤ 128) ⌝ }
     ensures { λ _. ⌜ now (block .exit) ≡ policyWith (now (block .entry)) (now (policy .entry)) ⌝ }
 {
     block[4] = 1;
@@ -149,7 +149,7 @@ fn write_policy(block: &mut [u8], policy: &[u8])
 
 // The second block of a place with another second and third policy.
 fn write_others(block: &mut [u8], second: &[u8], third: &[u8])
-    requires { ⌜ (length (now block) ≡ 512) × (length (now second) ≤ 128) × (length (now third) ≤ 128) ⌝ }
+    requires { ⌜ (length (now block) ≡ blockLength) × (length (now second) ≤ 128) × (length (now third) ≤ 128) ⌝ }
     ensures { λ _. ⌜ now (block .exit) ≡ othersWith (now (block .entry)) (now (second .entry)) (now (third .entry)) ⌝ }
 {
     block[3] = second.len() as u8;
@@ -162,7 +162,7 @@ fn write_others(block: &mut [u8], second: &[u8], third: &[u8])
 
 // A place with other policies: all that it held are replaced. Form 1 has room for the first alone.
 fn write_policies(place: &mut [u8], first: &[u8], second: &[u8], third: &[u8])
-    requires { ⌜ (length (now place) ≡ placeLength (length (now place) / 512)) × (1 ≤ length (now place) / 512) × (length (now place) / 512 ≤ 2) × (length (now first) ≤ 128) × (length (now second) ≤ 128) × (length (now third) ≤ 128) ⌝ }
+    requires { ⌜ (length (now place) ≡ placeLength (length (now place) / blockLength)) × (1 ≤ length (now place) / blockLength) × (length (now place) / blockLength ≤ 2) × (length (now first) ≤ 128) × (length (now second) ≤ 128) × (length (now third) ≤ 128) ⌝ }
     ensures { λ _. ⌜ now (place .exit) ≡ routedBytes (now (place .entry)) (record { first = now (first .entry); second = now (second .entry); third = now (third .entry) }) ⌝ }
 {
     write_policy(&mut place[0..table::BLOCK_LENGTH], first);
@@ -190,7 +190,7 @@ fn write_entry(room: &mut [u8], label: &[u8], flags: u8, limit: u8)
 
 // Block 0 with one entry more, behind the n that are there.
 fn write_more(block: &mut [u8], n: u8, label: &[u8], flags: u8, limit: u8)
-    requires { ⌜ (length (now block) ≡ 512) × (n < 4) × (length (now label) ≤ 100) ⌝ }
+    requires { ⌜ (length (now block) ≡ blockLength) × (n < 4) × (length (now label) ≤ 100) ⌝ }
     ensures { λ _. ⌜ now (block .exit) ≡ entriesWith (now (block .entry)) n (record { label = now (label .entry); flags = flags; limit = limit }) ⌝ }
 {
     block[table::ENTRY_COUNT] = n + 1;

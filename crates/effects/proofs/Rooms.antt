@@ -14,7 +14,7 @@ use Rattle.octets.specs.Texts.{filled, part, put, zeros}
 use Rattle.message.specs.Codes.{numberOf}
 use Rattle.table.specs.Answers.{lent}
 use Rattle.table.specs.Soundness.{sound}
-use Rattle.table.specs.TheTable.{Access, Table, accessAt, accessBytes, firstBlock, firstBytes, formOf, held, orderLine, place, placeLength, readAccess, readRow, rowAt, rowBytes, sealed, secondBlock, secondBytes, sumsFrom, width, withRow}
+use Rattle.table.specs.TheTable.{blockLength, Access, Table, accessAt, accessBytes, firstBlock, firstBytes, formOf, held, orderLine, place, placeLength, readAccess, readRow, rowAt, rowBytes, sealed, secondBlock, secondBytes, sumsFrom, width, withRow}
 use Rattle.changes.proofs.Steps.{keep-map}
 use Rattle.rules.specs.Calls.{noticeBytes, noticeLength, noticeRoom, tableAfter}
 use Rattle.rules.specs.Deciding.{atPlace, grant}
@@ -127,9 +127,9 @@ module _ (r : List ℕ) (h : sound r ≡ true) (k : ℕ) (o : isOn (orderLine r)
   pub realm-is : formOf r ≡ 2 → part (secondBlock (place r k)) 8 128 ≡ filled ((accessAt r k) .realm) 128
   realm-is f =
       let x : Access = accessAt r k in
-      let whole : 512 * (formOf r - 1) ≡ 512 = omega (arith, f) in
+      let whole : blockLength * (formOf r - 1) ≡ blockLength = omega (arith, f) in
       let block : secondBlock (place r k) ≡ secondBytes x =
-      ap secondBlock bytes-are ∙ second-of (formOf r) x ((clauses r h) .row .form) ∙ ap (λ (n : ℕ). take n (secondBytes x)) whole ∙ take-all 512 (secondBytes x) (omega (arith, length-second x)) in
+      ap secondBlock bytes-are ∙ second-of (formOf r) x ((clauses r h) .row .form) ∙ ap (λ (n : ℕ). take n (secondBytes x)) whole ∙ take-all blockLength (secondBytes x) (omega (arith, length-second x)) in
       ap (λ (b : List ℕ). part b 8 128) block ∙ realm-text x
 
 -- THE NOTICE

@@ -16,7 +16,7 @@ use Rattle.octets.proofs.Lists.{and-left, and-right, by-test, same-eq, same-ref
 use Rattle.octets.proofs.Pieces.{drop-zeros, one-more, take-zeros}
 use Rattle.octets.proofs.Texts.{length-zeros}
 use Rattle.table.specs.Soundness.{isRow, lineExact, sound}
-use Rattle.table.specs.TheTable.{Access, Subscriber, accessBytes, firstBlock, firstBytes, formOf, head, headBytes, isForm, orderLine, place, placeBytes, placeLength, placeStart, places, placesBytes, readRow, rowBytes, rowLength, sealed}
+use Rattle.table.specs.TheTable.{blockLength, Access, Subscriber, accessBytes, firstBlock, firstBytes, formOf, head, headBytes, isForm, orderLine, place, placeBytes, placeLength, placeStart, places, placesBytes, readRow, rowBytes, rowLength, sealed}
 use Rattle.table.proofs.Bytes.{first-of, length-head, length-row, place-is, read-row}
 use Rattle.table.proofs.Form.{is-sized, place-ends}
 use Rattle.table.proofs.Good.{Good, goodAccess, places-eight}
@@ -50,13 +50,13 @@ is-zeros r n h z = same-eq r (zeros (length r)) z ∙ ap zeros h
 
 -- A PLACE
 
-behind-free : behindFirst (zeros 512) ≡ zeros 512
+behind-free : behindFirst (zeros blockLength) ≡ zeros blockLength
 unfolding behindFirst zeros pick
 behind-free = refl
 
-free-copied : (w : ℕ) → copiedPlace w (zeros 512) ≡ zeros w
+free-copied : (w : ℕ) → copiedPlace w (zeros blockLength) ≡ zeros w
 unfolding copiedPlace filled
-free-copied w = rw (behind-free, more-zeros 512 512, more-zeros 1024 w) (take-zeros w (1024 + w) (omega arith))
+free-copied w = rw (behind-free, more-zeros blockLength blockLength, more-zeros 1024 w) (take-zeros w (1024 + w) (omega arith))
 
 behind-used : (a : Access) → behindFirst (firstBytes a) ≡ plainSecond
 unfolding behindFirst firstBytes sealed pick
@@ -67,9 +67,9 @@ unfolding accessBytes copiedPlace
 access-copied to a b = ap (λ (t : List ℕ). filled (firstBytes a ++ t) (placeLength to)) (second-bare a b ∙ sym (behind-used a))
 
 module _ (fm to n : ℕ) (f : isForm fm ≡ true) where
-  first-free : firstBlock (zeros (placeLength fm)) ≡ zeros 512
+  first-free : firstBlock (zeros (placeLength fm)) ≡ zeros blockLength
   unfolding isForm
-  first-free = take-zeros 512 (512 * fm) (omega (arith, within-low 1 2 fm f))
+  first-free = take-zeros blockLength (blockLength * fm) (omega (arith, within-low 1 2 fm f))
 
   place-copied : (a : List Access) (k : ℕ) → every (goodAccess fm n) a ≡ true → every plainAccess a ≡ true
       → placeBytes to a k ≡ copiedPlace (placeLength to) (firstBlock (placeBytes fm a k))
@@ -89,7 +89,7 @@ unfolding rowBytes
 row-parts to s = refl
 
 head-row : (fm : ℕ) (s : Subscriber) → head (rowBytes fm s) ≡ headBytes s
-head-row fm s = ap (take 512) (row-parts fm s) ∙ take-at (headBytes s) _ 512 (length-head s)
+head-row fm s = ap (take blockLength) (row-parts fm s) ∙ take-at (headBytes s) _ blockLength (length-head s)
 
 copied-parts : (to : ℕ) (r : List ℕ) → copiedRow to r ≡ head r ++ joinedRows (map (λ (k : ℕ). copiedPlace (placeLength to) (firstBlock (place r k))) places)
 unfolding copiedRow copiedPlaces
@@ -120,14 +120,14 @@ pub is-row : (r : List ℕ) (fm : ℕ) → isForm fm ≡ true → length r ≡ r
 is-row r fm f h = let q : formOf r ≡ fm = row-form r fm h in is-sized r (record { form = rw q f; size = rw q h })
 
 module _ (fm to : ℕ) (f : isForm fm ≡ true) where
-  zero-first : (k : ℕ) → within 1 8 k ≡ true → firstBlock (place (zeros (rowLength fm)) k) ≡ zeros 512
+  zero-first : (k : ℕ) → within 1 8 k ≡ true → firstBlock (place (zeros (rowLength fm)) k) ≡ zeros blockLength
   unfolding isForm
   zero-first k w =
       let r : List ℕ = zeros (rowLength fm) in
       let size : length r ≡ rowLength fm = length-zeros (rowLength fm) in
       let q : formOf r ≡ fm = row-form r fm size in
       let ends : placeStart fm k + placeLength fm ≤ rowLength fm = place-ends fm k (within-low 1 8 k w) (within-high 1 8 k w) in
-      first-is r k (is-row r fm f size) ∙ ap (λ (g : ℕ). part r (placeStart g k) 512) q ∙ part-zeros (rowLength fm) (placeStart fm k) 512 (omega (arith, ends, within-low 1 2 fm f))
+      first-is r k (is-row r fm f size) ∙ ap (λ (g : ℕ). part r (placeStart g k) blockLength) q ∙ part-zeros (rowLength fm) (placeStart fm k) blockLength (omega (arith, ends, within-low 1 2 fm f))
 
   zero-places : (ks : List ℕ) → every (within 1 8) ks ≡ true
       → joinedRows (map (λ (k : ℕ). copiedPlace (placeLength to) (firstBlock (place (zeros (rowLength fm)) k))) ks) ≡ zeros (placeLength to * length ks)
@@ -143,24 +143,24 @@ module _ (fm to : ℕ) (f : isForm fm ≡ true) where
   zero-copied : zeros (rowLength to) ≡ copiedRow to (zeros (rowLength fm))
   unfolding rowLength
   zero-copied =
-      let h : head (zeros (rowLength fm)) ≡ zeros 512 = take-zeros 512 (rowLength fm) (width-least fm) in
+      let h : head (zeros (rowLength fm)) ≡ zeros blockLength = take-zeros blockLength (rowLength fm) (width-least fm) in
       let b : joinedRows (map (λ (k : ℕ). copiedPlace (placeLength to) (firstBlock (place (zeros (rowLength fm)) k))) places) ≡ zeros (placeLength to * length places) =
       zero-places places (places-eight .1) in
-      let n : 512 + placeLength to * length places ≡ rowLength to = omega (arith, ap (λ (m : ℕ). placeLength to * m) (places-eight .2)) in
-      sym (copied-parts to (zeros (rowLength fm)) ∙ (λ i. h i ++ b i) ∙ more-zeros 512 (placeLength to * length places) ∙ ap zeros n)
+      let n : blockLength + placeLength to * length places ≡ rowLength to = omega (arith, ap (λ (m : ℕ). placeLength to * m) (places-eight .2)) in
+      sym (copied-parts to (zeros (rowLength fm)) ∙ (λ i. h i ++ b i) ∙ more-zeros blockLength (placeLength to * length places) ∙ ap zeros n)
 
 -- its order line is empty
-none-on : upTo0 (part (zeros 512) 20 8) ≡ []
+none-on : upTo0 (part (zeros blockLength) 20 8) ≡ []
 unfolding zeros upTo0 pick
 none-on = refl
 
-none-used : getD (zeros 512) 17 0 ≡ 0
+none-used : getD (zeros blockLength) 17 0 ≡ 0
 unfolding zeros
 none-used = refl
 
-module _ (r : List ℕ) (least : 512 ≤ length r) (z : allZero r ≡ true) where
-  zero-head : head r ≡ zeros 512
-  zero-head = ap (take 512) (is-zeros r (length r) refl z) ∙ take-zeros 512 (length r) least
+module _ (r : List ℕ) (least : blockLength ≤ length r) (z : allZero r ≡ true) where
+  zero-head : head r ≡ zeros blockLength
+  zero-head = ap (take blockLength) (is-zeros r (length r) refl z) ∙ take-zeros blockLength (length r) least
 
   zero-line : orderLine r ≡ []
   unfolding orderLine
@@ -174,7 +174,7 @@ module _ (r : List ℕ) (least : 512 ≤ length r) (z : allZero r ≡ true) wher
   unfolding lineExact every distinct
   zero-exact = rw (zero-line, zero-head, none-used, ← used-none)
 
-zero-plain : (r : List ℕ) → 512 ≤ length r → allZero r ≡ true → every plainAccess ((readRow r) .accesses) ≡ true
+zero-plain : (r : List ℕ) → blockLength ≤ length r → allZero r ≡ true → every plainAccess ((readRow r) .accesses) ≡ true
 unfolding fitsForm1
 zero-plain r h z = zero-fits r h z
 
@@ -198,7 +198,7 @@ by-row r m f g =
     (λ e. f e (sound-some r e))
     (λ e. g (rw e at m))
 
-pub line-exact : (r : List ℕ) → 512 ≤ length r → movable r ≡ true → lineExact r ≡ true
+pub line-exact : (r : List ℕ) → blockLength ≤ length r → movable r ≡ true → lineExact r ≡ true
 unfolding lineExact
 line-exact r h m =
     by-row r m

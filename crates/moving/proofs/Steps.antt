@@ -18,7 +18,7 @@ use Rattle.row.proofs.Entries.{head-size, row-least}
 use Rattle.row.proofs.Places.{row-sizes}
 use Rattle.table.specs.Answers.{lent}
 use Rattle.table.specs.Soundness.{isRow, lineExact}
-use Rattle.table.specs.TheTable.{Table, firstBlock, formOf, head, isForm, place, placeLength, places, rowAt, rowLength, rows, tableNumber, width}
+use Rattle.table.specs.TheTable.{blockLength, Table, firstBlock, formOf, head, isForm, place, placeLength, places, rowAt, rowLength, rows, tableNumber, width}
 use Rattle.table.proofs.Bytes.{form-of}
 use Rattle.table.proofs.Form.{length-first-of, sized}
 use Rattle.table.proofs.Rows.{form-in, form-top, rows-most, width-least, width-most}
@@ -39,14 +39,14 @@ unfolding copiedPlaces places placeFrom
 places-built w r = built-counted (λ (k : ℕ). copiedPlace w (firstBlock (place r k))) 1 8
 
 -- eight of them
-pub eight-parts : (n : ℕ) → 4096 ≤ n → n ≤ 8192 → n % 4096 ≡ 0 → (n ≡ n / 8 * 8) × (512 ≤ n / 8) × (n / 8 ≤ 1024) × (n / 8 % 512 ≡ 0)
+pub eight-parts : (n : ℕ) → 4096 ≤ n → n ≤ 8192 → n % 4096 ≡ 0 → (n ≡ n / 8 * 8) × (blockLength ≤ n / 8) × (n / 8 ≤ 1024) × (n / 8 % blockLength ≡ 0)
 eight-parts n lo hi e = (omega arith, omega arith, omega arith, omega arith)
 
 pub place-by : (w v : ℕ) (r : List ℕ) (k : ℕ) (b s : List ℕ) → b ≡ firstBlock (place r (k + 1)) → v ≡ w → s ≡ copiedPlace v b → s ≡ placeFrom w r k
 unfolding placeFrom
 place-by w v r k b s e q p = p ∙ (λ i. copiedPlace (q i) (e i))
 
-pub first-size : (r : List ℕ) (k : ℕ) (b : List ℕ) → isRow r ≡ true → k < 8 → b ≡ firstBlock (place r (k + 1)) → length b ≡ 512
+pub first-size : (r : List ℕ) (k : ℕ) (b : List ℕ) → isRow r ≡ true → k < 8 → b ≡ firstBlock (place r (k + 1)) → length b ≡ blockLength
 first-size r k b h l e = ap length e ∙ length-first-of r (k + 1) (sized r h) (omega arith) (omega arith)
 
 -- A ROW: block 0 is put, and the places come back as s
@@ -56,22 +56,22 @@ unfolding copiedRow
 copied-is to r = refl
 
 module _ (room from h q : List ℕ) (a : isRow room ≡ true) (b : isRow from ≡ true) (e : h ≡ head from) (d : q ≡ put room 0 h) where
-  pub head-long : length h ≡ 512
+  pub head-long : length h ≡ blockLength
   head-long = ap length e ∙ head-size from (row-least from b)
 
   pub put-long : length q ≡ length room
   put-long = ap length d ∙ length-put room 0 h (omega (arith, head-long, row-least room a))
 
-  pub rest-long : length (take (length q - 512) (drop 512 q)) ≡ 4096 * formOf room
-  rest-long = ap length (take-all (length q - 512) (drop 512 q) (rw length-drop (omega arith))) ∙ length-drop 512 q ∙ omega (arith, put-long, row-sizes room a .0)
+  pub rest-long : length (take (length q - blockLength) (drop blockLength q)) ≡ 4096 * formOf room
+  rest-long = ap length (take-all (length q - blockLength) (drop blockLength q) (rw length-drop (omega arith))) ∙ length-drop blockLength q ∙ omega (arith, put-long, row-sizes room a .0)
 
-  pub row-back : (s : List ℕ) → s ≡ copiedPlaces (length (take (length q - 512) (drop 512 q)) / 8) from
-      → take 512 q ++ (s ++ drop (length q - 512) (drop 512 q)) ≡ copiedRow (formOf room) from
+  pub row-back : (s : List ℕ) → s ≡ copiedPlaces (length (take (length q - blockLength) (drop blockLength q)) / 8) from
+      → take blockLength q ++ (s ++ drop (length q - blockLength) (drop blockLength q)) ≡ copiedRow (formOf room) from
   row-back s p =
-      let first : take 512 q ≡ head from = ap (take 512) d ∙ put-there room 0 h 512 head-long (omega (arith, row-least room a)) ∙ e in
-      let none : drop (length q - 512) (drop 512 q) ≡ [] = drop-of-length-le (drop 512 q) {i = length q - 512} (rw length-drop (omega arith)) in
-      let wide : length (take (length q - 512) (drop 512 q)) / 8 ≡ placeLength (formOf room) = omega (arith, rest-long) in
-      let rest : s ++ drop (length q - 512) (drop 512 q) ≡ copiedPlaces (placeLength (formOf room)) from =
+      let first : take blockLength q ≡ head from = ap (take blockLength) d ∙ put-there room 0 h blockLength head-long (omega (arith, row-least room a)) ∙ e in
+      let none : drop (length q - blockLength) (drop blockLength q) ≡ [] = drop-of-length-le (drop blockLength q) {i = length q - blockLength} (rw length-drop (omega arith)) in
+      let wide : length (take (length q - blockLength) (drop blockLength q)) / 8 ≡ placeLength (formOf room) = omega (arith, rest-long) in
+      let rest : s ++ drop (length q - blockLength) (drop blockLength q) ≡ copiedPlaces (placeLength (formOf room)) from =
       ap (λ (t : List ℕ). s ++ t) none ∙ append-nil s ∙ p ∙ ap (λ (w : ℕ). copiedPlaces w from) wide in
       (λ i. first i ++ rest i) ∙ copied-is (formOf room) from
 

@@ -6,7 +6,7 @@ use lib.Dec.{eqb}
 use lib.ListN.{getD}
 use Rattle.octets.specs.Choice.{pick}
 use Rattle.octets.specs.Texts.{filled, zeros}
-use Rattle.table.specs.TheTable.{firstBlock, head, place, placeLength, places}
+use Rattle.table.specs.TheTable.{blockLength, firstBlock, head, place, placeLength, places}
 use Rattle.moving.specs.Moving.{joinedRows}
 
 -- The second block of an access without a realm and without further policies: 3, zeros, and the sums, 0 and 3.
@@ -15,7 +15,7 @@ plainSecond = 3 ∷ zeros 510 ++ (3 ∷ [])
 
 -- What stands behind a first block: that, where it is an access's; zeros behind that of a free place.
 unfoldable pub behindFirst : (first : List ℕ) → List ℕ
-behindFirst b = pick (eqb (getD b 0 0) 2) plainSecond (zeros 512)
+behindFirst b = pick (eqb (getD b 0 0) 2) plainSecond (zeros blockLength)
 
 -- A place of w bytes from its first block.
 unfoldable pub copiedPlace : (w : ℕ) → (first : List ℕ) → List ℕ

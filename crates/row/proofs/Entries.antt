@@ -13,7 +13,7 @@ use Rattle.octets.specs.Texts.{part}
 use Rattle.octets.proofs.Lists.{by-test, within-high, within-low}
 use Rattle.octets.proofs.Texts.{length-part}
 use Rattle.table.specs.Soundness.{isRow, sound}
-use Rattle.table.specs.TheTable.{accessAt, entriesRoom, firstBlock, formOf, head, orderLine, place, readAccess, readRow, secondBlock}
+use Rattle.table.specs.TheTable.{blockLength, accessAt, entriesRoom, firstBlock, formOf, head, orderLine, place, readAccess, readRow, secondBlock}
 use Rattle.table.proofs.Form.{every-on, is-sized, length-read, length-second-of}
 use Rattle.table.proofs.Sound.{Blocks, blocks-on, clauses, head-of}
 use Rattle.row.proofs.Places.{row-sizes}
@@ -22,21 +22,21 @@ pub count-is : (r : List ℕ) → length ((readRow r) .entries) ≡ getD (head r
 unfolding readRow
 count-is r = length-read (getD (head r) 18 0) (entriesRoom r)
 
-pub head-size : (r : List ℕ) → 512 ≤ length r → length (head r) ≡ 512
+pub head-size : (r : List ℕ) → blockLength ≤ length r → length (head r) ≡ blockLength
 head-size r h = rw length-take (omega arith)
 
-pub length-room : (r : List ℕ) → 512 ≤ length r → length (entriesRoom r) ≡ 416
+pub length-room : (r : List ℕ) → blockLength ≤ length r → length (entriesRoom r) ≡ 416
 length-room r h = length-part (head r) 32 416 (omega (arith, head-size r h))
 
 -- a row has block 0
-pub row-least : (r : List ℕ) → isRow r ≡ true → 512 ≤ length r
+pub row-least : (r : List ℕ) → isRow r ≡ true → blockLength ≤ length r
 row-least r h = omega (arith, row-sizes r h .0)
 
 module _ (r : List ℕ) (h : sound r ≡ true) where
   pub row-of : isRow r ≡ true
   row-of = is-sized r ((clauses r h) .row)
 
-  pub least-of : 512 ≤ length r
+  pub least-of : blockLength ≤ length r
   least-of = row-least r row-of
 
   pub most-four : length ((readRow r) .entries) ≤ 4

@@ -7,7 +7,7 @@ ghost use Rattle.octets.specs.Choice.{within};
 ghost use Rattle.octets.specs.Texts.{part};
 ghost use Rattle.table.specs.Answers.{lent};
 ghost use Rattle.table.specs.Soundness.{isRow};
-ghost use Rattle.table.specs.TheTable.{accessAt, entriesRoom, firstBlock, formOf, head, lineRoom, place, placeStart, readEntry, rowAt, rowLength, secondBlock};
+ghost use Rattle.table.specs.TheTable.{blockLength, accessAt, entriesRoom, firstBlock, formOf, head, lineRoom, place, placeStart, readEntry, rowAt, rowLength, secondBlock};
 
 // ROW i OF A TABLE, counted from 0
 
@@ -25,7 +25,7 @@ pub fn at(table: &[u8], form: usize, i: usize) -> &[u8]
 
 // The head of the row, its block 0.
 pub fn head(r: &[u8]) -> &[u8]
-    requires { ⌜ 512 ≤ length (now r) ⌝ }
+    requires { ⌜ blockLength ≤ length (now r) ⌝ }
     ensures { λ b. ⌜ now b ≡ head (now (r .entry)) ⌝ }
 {
     &r[0..table::BLOCK_LENGTH]
@@ -33,7 +33,7 @@ pub fn head(r: &[u8]) -> &[u8]
 
 // The places in use, bit k for place k + 1.
 pub fn used_bits(r: &[u8]) -> u8
-    requires { ⌜ 512 ≤ length (now r) ⌝ }
+    requires { ⌜ blockLength ≤ length (now r) ⌝ }
     ensures { λ x. ⌜ x ≡ getD (head (now (r .entry))) 17 0 ⌝ }
 {
     r[table::USED_BITS]
@@ -41,7 +41,7 @@ pub fn used_bits(r: &[u8]) -> u8
 
 // How many entries there are.
 pub fn entry_count(r: &[u8]) -> u8
-    requires { ⌜ 512 ≤ length (now r) ⌝ }
+    requires { ⌜ blockLength ≤ length (now r) ⌝ }
     ensures { λ x. ⌜ x ≡ getD (head (now (r .entry))) 18 0 ⌝ }
 {
     r[table::ENTRY_COUNT]
@@ -49,7 +49,7 @@ pub fn entry_count(r: &[u8]) -> u8
 
 // The room of the order line.
 pub fn line_room(r: &[u8]) -> &[u8]
-    requires { ⌜ 512 ≤ length (now r) ⌝ }
+    requires { ⌜ blockLength ≤ length (now r) ⌝ }
     ensures { λ l. ⌜ now l ≡ lineRoom (now (r .entry)) ⌝ }
 {
     &r[table::LINE..table::LINE_END]
@@ -57,7 +57,7 @@ pub fn line_room(r: &[u8]) -> &[u8]
 
 // The i-th byte of the order line's room: a place, or 0 behind the last.
 pub fn line_place(r: &[u8], i: usize) -> usize
-    requires { ⌜ (512 ≤ length (now r)) × (i < 8) ⌝ }
+    requires { ⌜ (blockLength ≤ length (now r)) × (i < 8) ⌝ }
     ensures { λ k. ⌜ (k ≡ getD (lineRoom (now (r .entry))) i 0) × (k < 256) ⌝ }
 {
     octets::long(r[table::LINE + i])
@@ -65,7 +65,7 @@ pub fn line_place(r: &[u8], i: usize) -> usize
 
 // The room of the entries.
 pub fn entries_room(r: &[u8]) -> &[u8]
-    requires { ⌜ 512 ≤ length (now r) ⌝ }
+    requires { ⌜ blockLength ≤ length (now r) ⌝ }
     ensures { λ e. ⌜ now e ≡ entriesRoom (now (r .entry)) ⌝ }
 {
     &r[table::ENTRIES..table::ENTRIES_END]
@@ -76,8 +76,8 @@ pub fn entries_room(r: &[u8]) -> &[u8]
 // Where place k starts. The places share what the row has behind block 0.
 pub fn start(r: &[u8], k: usize) -> usize
     requires { ⌜ (isRow (now r) ≡ true) × (1 ≤ k) × (k ≤ 8) ⌝ }
-    ensures { λ x. ⌜ (x ≡ placeStart (formOf (now (r .entry))) k) × (512 ≤ x) × (x + 512 * formOf (now (r .entry)) ≤ length (now (r .entry)))
-        × (length (now (r .entry)) ≡ 512 + 4096 * formOf (now (r .entry))) × (1 ≤ formOf (now (r .entry))) × (formOf (now (r .entry)) ≤ 2) ⌝ }
+    ensures { λ x. ⌜ (x ≡ placeStart (formOf (now (r .entry))) k) × (blockLength ≤ x) × (x + blockLength * formOf (now (r .entry)) ≤ length (now (r .entry)))
+        × (length (now (r .entry)) ≡ blockLength + 4096 * formOf (now (r .entry))) × (1 ≤ formOf (now (r .entry))) × (formOf (now (r .entry)) ≤ 2) ⌝ }
 {
     let stride = (r.len() - table::BLOCK_LENGTH) / table::PLACES;
     table::BLOCK_LENGTH + stride * (k - 1)
@@ -175,7 +175,7 @@ pub fn notice_rooms(r: &[u8], k: usize) -> &[u8]
 
 // The realm of the gateway.
 pub fn realm(c: &[u8]) -> &[u8]
-    requires { ⌜ length (now c) % 512 ≡ 0 ⌝ }
+    requires { ⌜ length (now c) % blockLength ≡ 0 ⌝ }
     ensures { λ t. ⌜ now t ≡ part (now (c .entry)) 8 (getD (now (c .entry)) 1 0) ⌝ }
 {
     if c.len() == 0 {
@@ -187,7 +187,7 @@ pub fn realm(c: &[u8]) -> &[u8]
 
 // Its room, where there is a block, as a cut notice of form 2 has it.
 pub fn realm_room(c: &[u8]) -> &[u8]
-    requires { ⌜ length (now c) ≡ 512 ⌝ }
+    requires { ⌜ length (now c) ≡ blockLength ⌝ }
     ensures { λ t. ⌜ now t ≡ part (now (c .entry)) 8 128 ⌝ }
 {
     &c[table::FIRST_TEXT..table::SECOND_TEXT]
@@ -195,7 +195,7 @@ pub fn realm_room(c: &[u8]) -> &[u8]
 
 // The second policy.
 pub fn second_policy(c: &[u8]) -> &[u8]
-    requires { ⌜ length (now c) % 512 ≡ 0 ⌝ }
+    requires { ⌜ length (now c) % blockLength ≡ 0 ⌝ }
     ensures { λ t. ⌜ now t ≡ part (now (c .entry)) 136 (getD (now (c .entry)) 3 0) ⌝ }
 {
     if c.len() == 0 {
@@ -207,7 +207,7 @@ pub fn second_policy(c: &[u8]) -> &[u8]
 
 // The third, where it ends within the block.
 pub fn third_policy(c: &[u8]) -> &[u8]
-    requires { ⌜ (length (now c) % 512 ≡ 0) × (getD (now c) 4 0 ≤ 248) ⌝ }
+    requires { ⌜ (length (now c) % blockLength ≡ 0) × (getD (now c) 4 0 ≤ 248) ⌝ }
     ensures { λ t. ⌜ now t ≡ part (now (c .entry)) 264 (getD (now (c .entry)) 4 0) ⌝ }
 {
     if c.len() == 0 {

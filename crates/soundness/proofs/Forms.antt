@@ -15,7 +15,7 @@ use Rattle.octets.proofs.Texts.{zero-end}
 use Rattle.row.proofs.Places.{row-sizes}
 use Rattle.blocks.specs.RowTests.{placeSound}
 use Rattle.blocks.proofs.Rooms.{zero-append}
-use Rattle.table.specs.TheTable.{formOf, place, places}
+use Rattle.table.specs.TheTable.{blockLength, formOf, place, places}
 use Rattle.table.specs.Soundness.{inUse, isRow, ofBlocks, onlyBehind}
 use Rattle.soundness.specs.Blocks.{firstSound, otherSound}
 
@@ -60,16 +60,16 @@ every-blocks f p q s h [] = no-blocks f
 every-blocks f p q s h (x ∷ xs) = rw (h x, every-blocks f p q s h xs) (both-blocks f (q x) (s x) (every q xs) (every s xs))
 
 -- a free place, block by block; in form 1 it has one
-zero-cut : (f : ℕ) (p : List ℕ) → ((f ≡ 2 → ⊥) → length p ≤ 512) → allZero p ≡ ofBlocks f (allZero (take 512 p)) (allZero (drop 512 p))
+zero-cut : (f : ℕ) (p : List ℕ) → ((f ≡ 2 → ⊥) → length p ≤ blockLength) → allZero p ≡ ofBlocks f (allZero (take blockLength p)) (allZero (drop blockLength p))
 unfolding ofBlocks pick
 zero-cut f p s =
-    let cut : allZero p ≡ allZero (take 512 p) && allZero (drop 512 p) =
-    ap allZero (sym (take-append-drop 512 p)) ∙ zero-append (take 512 p) (drop 512 p) in
+    let cut : allZero p ≡ allZero (take blockLength p) && allZero (drop blockLength p) =
+    ap allZero (sym (take-append-drop blockLength p)) ∙ zero-append (take blockLength p) (drop blockLength p) in
     by-test (eqb f 2)
     (λ e. rw e cut)
-    (λ e. rw e (cut ∙ ap (λ (b : Bool). allZero (take 512 p) && b) (zero-end p 512 (s (eqb-false f 2 e)))))
+    (λ e. rw e (cut ∙ ap (λ (b : Bool). allZero (take blockLength p) && b) (zero-end p blockLength (s (eqb-false f 2 e)))))
 
-one-long : (r : List ℕ) (k : ℕ) → isRow r ≡ true → (formOf r ≡ 2 → ⊥) → length (place r k) ≤ 512
+one-long : (r : List ℕ) (k : ℕ) → isRow r ≡ true → (formOf r ≡ 2 → ⊥) → length (place r k) ≤ blockLength
 unfolding place
 one-long r k h e =
     let f : formOf r ≡ 1 = omega (arith, row-sizes r h .1, row-sizes r h .2) in

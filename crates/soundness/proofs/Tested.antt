@@ -20,7 +20,7 @@ use Rattle.table.proofs.Sound.{Clauses, at-place, clauses, clauses-sound, each-
 use Rattle.table.proofs.Tests.{clash}
 use Rattle.blocks.specs.RowTests.{accessSound, headSound, placeSound, secondSound}
 use Rattle.table.specs.Soundness.{accessForm, entriesForm, headForm, inUse, isRow, labels, limits, lineExact, onlyBehind, placeForm, placeSums, policiesInOrder, policyMarked, sameLabel, secondForm, sessions, sound, sumsAgree, underLimits}
-use Rattle.table.specs.TheTable.{accessAt, entriesRoom, firstBlock, formOf, head, orderLine, place, places, readAccess, readEntries, readRow, secondBlock}
+use Rattle.table.specs.TheTable.{blockLength, accessAt, entriesRoom, firstBlock, formOf, head, orderLine, place, places, readAccess, readEntries, readRow, secondBlock}
 
 -- BLOCK 0, read from the row
 
@@ -208,13 +208,13 @@ module _ (r : List ℕ) (row : isRow r ≡ true) (p : Parts r) where
       let z : Sized r = sized r row in
       let b : List ℕ = firstBlock (place r k) in
       let d : List ℕ = secondBlock (place r k) in
-      let lb : length b ≡ 512 = length-first-of r k z (within-low 1 8 k w) (within-high 1 8 k w) in
-      let ld : formOf r ≡ 2 → length d ≡ 512 = λ e. omega (arith, length-second-of r k z (within-low 1 8 k w) (within-high 1 8 k w)) in
+      let lb : length b ≡ blockLength = length-first-of r k z (within-low 1 8 k w) (within-high 1 8 k w) in
+      let ld : formOf r ≡ 2 → length d ≡ blockLength = λ e. omega (arith, length-second-of r k z (within-low 1 8 k w) (within-high 1 8 k w)) in
       by-test (inUse r k)
       (λ u. both-of (formOf r) _ _ (first-rest k (shown k w u .0) .2) (λ e. second-rest k (shown k w u .1 e) .1))
       (λ u. both-of (formOf r) _ _
-      (sums-tail b lb ∙ sums-zero b lb (zero-first 512 (place r k) (zero-there k w u)))
-      (λ e. sums-tail d (ld e) ∙ sums-zero d (ld e) (zero-second 512 (place r k) (zero-there k w u))))
+      (sums-tail b lb ∙ sums-zero b lb (zero-first blockLength (place r k) (zero-there k w u)))
+      (λ e. sums-tail d (ld e) ∙ sums-zero d (ld e) (zero-second blockLength (place r k) (zero-there k w u))))
 
   clauses-hold : Clauses r
   unfolding readRow accessAt readAccess

@@ -6,7 +6,7 @@ ghost use Prim.Native.Nat.{_+_, _-_, _/_, _%_, _^_, _<_, _≤_};
 ghost use lib.ListN.{length, getD, drop};
 ghost use lib.Dec.{eqb};
 ghost use Rattle.octets.specs.Texts.{same};
-ghost use Rattle.table.specs.TheTable.{formOf, head, orderLine, places, readRow};
+ghost use Rattle.table.specs.TheTable.{blockLength, formOf, head, orderLine, places, readRow};
 ghost use Rattle.octets.specs.Lists.{every, distinct};
 ghost use Rattle.table.specs.Soundness.{isRow, limits, lineExact, sessions, onEntry, underLimits, sound};
 ghost use Rattle.blocks.specs.RowTests.{placeSound, headSound};
@@ -32,7 +32,7 @@ fn with_place(bits: u8, k: usize) -> u8
 
 // The order line is the places in use. Its bits are gathered, and none comes twice.
 pub fn line_exact(r: &[u8]) -> bool
-    requires { ⌜ 512 ≤ length (now r) ⌝ }
+    requires { ⌜ blockLength ≤ length (now r) ⌝ }
     ensures { λ x. ⌜ x ≡ lineExact (now (r .entry)) ⌝ }
 {
     let n = blocks::line_length(row::line_room(r));
@@ -54,7 +54,7 @@ pub fn line_exact(r: &[u8]) -> bool
 
 // How many accesses there are: the ones of byte 17.
 pub fn accesses_in_use(r: &[u8]) -> usize
-    requires { ⌜ (512 ≤ length (now r)) × (lineExact (now r) ≡ true) ⌝ }
+    requires { ⌜ (blockLength ≤ length (now r)) × (lineExact (now r) ≡ true) ⌝ }
     ensures { λ x. ⌜ (x ≡ length (orderLine (now (r .entry)))) × (x ≤ 8) ⌝ }
 {
     u8::count_ones(row::used_bits(r)) as usize
@@ -201,7 +201,7 @@ pub fn under_limits(r: &[u8], n: usize) -> bool
 
 // Block 0 but for its sums and its order line's places: its form, the entries' form, their labels and limits.
 fn head_sound(r: &[u8]) -> bool
-    requires { ⌜ 512 ≤ length (now r) ⌝ }
+    requires { ⌜ blockLength ≤ length (now r) ⌝ }
     ensures { λ x. ⌜ x ≡ headSound (now (r .entry)) ⌝ }
 {
     if !blocks::head_form(row::head(r)) {

@@ -16,7 +16,7 @@ use Rattle.octets.proofs.Texts.{length-filled, length-zeros}
 use Rattle.octets.proofs.Pieces.{drop-past, getD-past}
 use Rattle.table.proofs.Good.{Entered, Fits, Good, Standing, at-most-eight, by-form, good-is, goodAccess, goodEntry, is-good, saidSound, spare, standing}
 use Rattle.table.specs.Soundness.{isName}
-use Rattle.table.specs.TheTable.{Access, Entry, Subscriber, accessAt, accessBytes, firstBlock, firstBytes, formOf, head, isForm, place, placeLength, secondBlock, secondBytes, entriesBytes, entryBytes, headBytes, line, orderLine, placeBytes, places, placesBytes, readAccess, readEntries, readEntry, readRow, rowBytes, rowLength, sealed, sumsFrom, usedBits}
+use Rattle.table.specs.TheTable.{blockLength, Access, Entry, Subscriber, accessAt, accessBytes, firstBlock, firstBytes, formOf, head, isForm, place, placeLength, secondBlock, secondBytes, entriesBytes, entryBytes, headBytes, line, orderLine, placeBytes, places, placesBytes, readAccess, readEntries, readEntry, readRow, rowBytes, rowLength, sealed, sumsFrom, usedBits}
 
 -- lengths: total, so they have no condition
 
@@ -33,26 +33,26 @@ pub length-entry : (e : Entry) → length (entryBytes e) ≡ 104
 unfolding entryBytes
 length-entry e = simp (length-append, length-filled)
 
-pub length-head : (s : Subscriber) → length (headBytes s) ≡ 512
+pub length-head : (s : Subscriber) → length (headBytes s) ≡ blockLength
 unfolding headBytes
 length-head s = simp (length-sealed, length-append, length-filled, length-zeros)
 
 -- the blocks of an access
-pub length-first : (a : Access) → length (firstBytes a) ≡ 512
+pub length-first : (a : Access) → length (firstBytes a) ≡ blockLength
 unfolding firstBytes
 length-first a = simp (length-sealed, length-append, length-filled, length-zeros)
 
-pub length-second : (a : Access) → length (secondBytes a) ≡ 512
+pub length-second : (a : Access) → length (secondBytes a) ≡ blockLength
 unfolding secondBytes
 length-second a = simp (length-sealed, length-append, length-filled, length-zeros)
 
 pub length-access : (fm : ℕ) (a : Access) → length (accessBytes fm a) ≡ placeLength fm
 unfolding accessBytes
-length-access fm a = length-filled _ (512 * fm)
+length-access fm a = length-filled _ (blockLength * fm)
 
 pub length-place : (fm : ℕ) (a : List Access) (k : ℕ) → length (placeBytes fm a k) ≡ placeLength fm
 unfolding placeBytes pick
-length-place fm [] k = length-zeros (512 * fm)
+length-place fm [] k = length-zeros (blockLength * fm)
 length-place fm (x ∷ a) k = by-test (eqb (x .place) k) (λ e. rw e (length-access fm x)) (λ e. rw e (length-place fm a k))
 
 -- the size of a row
@@ -149,7 +149,7 @@ module _ (s h p z c : List ℕ) (hs : length s ≤ 128) (hh : length h ≤ 128) 
 -- An access in its place: the first block stands first; behind it in form 1 nothing, in form 2 the second.
 pub access-one : (a : Access) → accessBytes 1 a ≡ firstBytes a
 unfolding accessBytes filled
-access-one a = rw (append-assoc (firstBytes a) (secondBytes a) (zeros 512)) (take-at (firstBytes a) (secondBytes a ++ zeros 512) 512 (length-first a))
+access-one a = rw (append-assoc (firstBytes a) (secondBytes a) (zeros blockLength)) (take-at (firstBytes a) (secondBytes a ++ zeros blockLength) blockLength (length-first a))
 
 pub access-two : (a : Access) → accessBytes 2 a ≡ firstBytes a ++ secondBytes a
 unfolding accessBytes filled
@@ -158,14 +158,14 @@ access-two a = take-at (firstBytes a ++ secondBytes a) (zeros 1024) 1024 (rw (le
 pub first-of : (fm : ℕ) (a : Access) → isForm fm ≡ true → firstBlock (accessBytes fm a) ≡ firstBytes a
 first-of fm a h =
     by-form (λ f. firstBlock (accessBytes f a) ≡ firstBytes a) fm h
-    (rw access-one (take-all 512 (firstBytes a) (omega (arith, length-first a))))
-    (rw access-two (take-at (firstBytes a) (secondBytes a) 512 (length-first a)))
+    (rw access-one (take-all blockLength (firstBytes a) (omega (arith, length-first a))))
+    (rw access-two (take-at (firstBytes a) (secondBytes a) blockLength (length-first a)))
 
-pub second-of : (fm : ℕ) (a : Access) → isForm fm ≡ true → secondBlock (accessBytes fm a) ≡ take (512 * (fm - 1)) (secondBytes a)
+pub second-of : (fm : ℕ) (a : Access) → isForm fm ≡ true → secondBlock (accessBytes fm a) ≡ take (blockLength * (fm - 1)) (secondBytes a)
 second-of fm a h =
-    by-form (λ f. secondBlock (accessBytes f a) ≡ take (512 * (f - 1)) (secondBytes a)) fm h
-    (rw access-one (drop-of-length-le (firstBytes a) {i = 512} (omega (arith, length-first a))))
-    (rw access-two (drop-at (firstBytes a) (secondBytes a) 512 (length-first a) ∙ sym (take-all 512 (secondBytes a) (omega (arith, length-second a)))))
+    by-form (λ f. secondBlock (accessBytes f a) ≡ take (blockLength * (f - 1)) (secondBytes a)) fm h
+    (rw access-one (drop-of-length-le (firstBytes a) {i = blockLength} (omega (arith, length-first a))))
+    (rw access-two (drop-at (firstBytes a) (secondBytes a) blockLength (length-first a) ∙ sym (take-all blockLength (secondBytes a) (omega (arith, length-second a)))))
 
 none-left : (s : List ℕ) → length s ≤ 0 → [] ≡ s
 none-left [] h = refl
@@ -224,7 +224,7 @@ unfolding isForm within
 read-access fm a n h s =
     by-form (λ f. Standing f n a → readPlace (a .place) (accessBytes f a) ≡ a) fm h
     (λ s. rw (first-of 1 a refl, second-of 1 a refl) (read-one a n s))
-    (λ s. rw (first-of 2 a refl, second-of 2 a refl, take-all 512 (secondBytes a) (omega (arith, length-second a))) (read-two a n s))
+    (λ s. rw (first-of 2 a refl, second-of 2 a refl, take-all blockLength (secondBytes a) (omega (arith, length-second a))) (read-two a n s))
     s
 
 -- the bytes of a place, of the places' and of the row's bytes
@@ -233,11 +233,11 @@ in-places : (fm : ℕ) (a : List Access) (ks : List ℕ) (i : ℕ) → i < lengt
 unfolding placesBytes
 in-places fm a [] i h = absurd (omega arith)
 in-places fm a (k ∷ ks) zero h =
-    let q : 512 * fm * 0 ≡ 0 = omega arith in
-    rw q (take-at (placeBytes fm a k) _ (512 * fm) (length-place fm a k))
+    let q : blockLength * fm * 0 ≡ 0 = omega arith in
+    rw q (take-at (placeBytes fm a k) _ (blockLength * fm) (length-place fm a k))
 in-places fm a (k ∷ ks) (suc i) h =
-    let q : 512 * fm * suc i ≡ 512 * fm + 512 * fm * i = omega arith in
-    rw (q, drop-past (512 * fm) (512 * fm * i) (placeBytes fm a k) (placesBytes fm a ks) (length-place fm a k)) (in-places fm a ks i (omega arith))
+    let q : blockLength * fm * suc i ≡ blockLength * fm + blockLength * fm * i = omega arith in
+    rw (q, drop-past (blockLength * fm) (blockLength * fm * i) (placeBytes fm a k) (placesBytes fm a ks) (length-place fm a k)) (in-places fm a ks i (omega arith))
 
 getD-counted : (b n i : ℕ) → i < n → getD (counted b n) i 0 ≡ b + i
 unfolding counted
@@ -251,7 +251,7 @@ place-is fm s k w =
     let f : formOf (headBytes s ++ placesBytes fm (s .accesses) (counted 1 8)) ≡ fm = form-row fm s in
     let lo : 1 ≤ k = within-low 1 8 k w in
     let h : k - 1 < 8 = omega (arith, within-high 1 8 k w) in
-    rw (f, drop-past 512 (512 * fm * (k - 1)) (headBytes s) (placesBytes fm (s .accesses) (counted 1 8)) (length-head s))
+    rw (f, drop-past blockLength (blockLength * fm * (k - 1)) (headBytes s) (placesBytes fm (s .accesses) (counted 1 8)) (length-head s))
     (in-places fm (s .accesses) (counted 1 8) (k - 1) h ∙ ap (placeBytes fm (s .accesses)) (getD-counted 1 8 (k - 1) h ∙ omega arith))
 
 -- reading the places on the order line gives back the accesses
@@ -302,7 +302,7 @@ rest s =
 
 row-front : (fm : ℕ) (s : Subscriber) → head (rowBytes fm s) ≡ front s (rest s)
 unfolding rowBytes headBytes sealed front rest
-row-front fm s = take-at (headBytes s) (placesBytes fm (s .accesses) places) 512 (length-head s) ∙ simp append-assoc
+row-front fm s = take-at (headBytes s) (placesBytes fm (s .accesses) places) blockLength (length-head s) ∙ simp append-assoc
 
 front-name : (s : Subscriber) (t : List ℕ) → length (s .name) ≤ 15 → part (front s t) 2 (getD (front s t) 1 0) ≡ s .name
 unfolding front

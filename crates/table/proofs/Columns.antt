@@ -10,7 +10,7 @@ use lib.ListN.{length, getD, take, drop, length-drop, length-append, drop-of-len
 use lib.Seq.{drop-cons, drop-drop, getD-drop}
 use Rattle.octets.specs.Lists.{sumOf}
 use Rattle.table.specs.Columns.{columnFirst, columnBefore}
-use Rattle.table.specs.TheTable.{sumsFrom}
+use Rattle.table.specs.TheTable.{blockLength, sumsFrom}
 
 -- PLAIN SUMS
 
@@ -143,9 +143,9 @@ weighted-two (x ∷ s) p q =
     let m : suc (length (s ++ (p ∷ q ∷ []))) * x ≡ suc (length s) * x + 2 * x = ap (λ (i : ℕ). i * x) k ∙ add-mul (suc (length s)) 2 x in
     omega (arith, m, weighted-two s p q)
 
-last-two : (b : List ℕ) → length b ≡ 512 → b ≡ take 510 b ++ (getD b 510 0 ∷ getD b 511 0 ∷ [])
+last-two : (b : List ℕ) → length b ≡ blockLength → b ≡ take 510 b ++ (getD b 510 0 ∷ getD b 511 0 ∷ [])
 last-two b h =
-    let e : drop 512 b ≡ [] = drop-of-length-le b {i = 512} (omega arith) in
+    let e : drop blockLength b ≡ [] = drop-of-length-le b {i = blockLength} (omega arith) in
     sym (take-append-drop 510 b) ∙ ap (λ (r : List ℕ). take 510 b ++ r) (drop-cons b 510 0 (omega arith) ∙ ap (λ (r : List ℕ). getD b 510 0 ∷ r) (drop-cons b 511 0 (omega arith) ∙ ap (λ (r : List ℕ). getD b 511 0 ∷ r) e))
 
 pub more : (a k : ℕ) → (a + 255 * k) % 255 ≡ a % 255
@@ -174,7 +174,7 @@ second-left y w s p q f h bp bq hf =
     ap (λ (k : ℕ). k % 255) e ∙ with-both y (w + 2 * s + 2 * p + q) (1530 - 2 * f - 2 * p - q) h ∙ ap (λ (k : ℕ). k % 255) d ∙ more w (2 * (s / 255) + 6)
 
 -- the sums by columns of a block are the paper's
-pub columns-right : (b : List ℕ) (x y p q : ℕ) → length b ≡ 512
+pub columns-right : (b : List ℕ) (x y p q : ℕ) → length b ≡ blockLength
     → x % 255 ≡ total (columnFirst 16 b) 32 % 255 → y % 255 ≡ total (columnShare 16 b) 32 % 255
     → p ≡ getD b 510 0 → q ≡ getD b 511 0 → p < 256 → q < 256
     → (y + 1530 - 2 * ((x + 510 - p - q) % 255) - 2 * p - q) % 255 ∷ (x + 510 - p - q) % 255 ∷ [] ≡ sumsFrom 0 0 (take 510 b)

@@ -17,7 +17,7 @@ use Rattle.octets.proofs.Pieces.{drop-take, part-take, take-zeros}
 use Rattle.table.proofs.Bytes.{access-one, access-two, fill, length-entry, length-first, length-head, length-place, name-length, readPlace}
 use Rattle.table.proofs.Good.{Good, Standing, by-form, good, goodAccess, goodEntry, is-good, places-eight, saidSound, spare, standing}
 use Rattle.table.specs.Soundness.{isRow, ofBlocks, zeroBehind}
-use Rattle.table.specs.TheTable.{Access, Subscriber, accessAt, accessBytes, firstBlock, firstBytes, formOf, head, isForm, place, placeLength, placeStart, secondBlock, secondBytes, entriesBytes, entryBytes, headBytes, held, line, orderLine, placeBytes, places, placesBytes, readAccess, readEntries, readEntry, readRow, rowBytes, rowLength, sealed, sumsFrom, usedBits}
+use Rattle.table.specs.TheTable.{blockLength, Access, Subscriber, accessAt, accessBytes, firstBlock, firstBytes, formOf, head, isForm, place, placeLength, placeStart, secondBlock, secondBytes, entriesBytes, entryBytes, headBytes, held, line, orderLine, placeBytes, places, placesBytes, readAccess, readEntries, readEntry, readRow, rowBytes, rowLength, sealed, sumsFrom, usedBits}
 
 -- bytes 510 and 511 are the sums
 unfoldable pub sumOk : List ℕ → Bool
@@ -72,7 +72,7 @@ same-room room m n h le =
     let d : length (drop n room) ≡ m - n = rw length-drop (omega arith) in
     rw (fill (take n room) m (omega arith), t, take-zeros (m - n) m (omega arith), same-past n (take n room) (zeros (m - n)) room t, same-refl, d)
 
-same-at : (b : List ℕ) (i c : ℕ) (y : List ℕ) → length b ≡ 512 → i < 510
+same-at : (b : List ℕ) (i c : ℕ) (y : List ℕ) → length b ≡ blockLength → i < 510
     → same (drop i (take 510 b)) (c ∷ y) ≡ eqb (getD b i 0) c && same (drop (suc i) (take 510 b)) y
 unfolding same
 same-at b i c y h lt =
@@ -100,7 +100,7 @@ same-rooms : (t s h p z : List ℕ) → length s ≡ 128 → length h ≡ 128 �
 same-rooms t s h p z hs hh hp =
     rw (same-past 128 s (h ++ (p ++ z)) t hs, same-past 128 h (p ++ z) (drop 128 t) hh, same-past 128 p z (drop 128 (drop 128 t)) hp, drop-drop 128 128 t, drop-drop 128 256 t)
 
-same-body : (b : List ℕ) (m e ls lh g lp x y : ℕ) (s h p : List ℕ) → length b ≡ 512
+same-body : (b : List ℕ) (m e ls lh g lp x y : ℕ) (s h p : List ℕ) → length b ≡ blockLength
     → same (take 510 b) (m ∷ e ∷ ls ∷ lh ∷ g ∷ lp ∷ x ∷ y ∷ filled s 128 ++ (filled h 128 ++ (filled p 128 ++ zeros 118)))
     ≡ eqb (getD b 0 0) m && (eqb (getD b 1 0) e && (eqb (getD b 2 0) ls && (eqb (getD b 3 0) lh && (eqb (getD b 4 0) g && (eqb (getD b 5 0) lp
     && (eqb (getD b 6 0) x && (eqb (getD b 7 0) y
@@ -128,7 +128,7 @@ same-body b m e ls lh g lp x y s h p lb =
     )
 
 -- the blocks of a place are the bytes of what they say exactly if they pass the tests
-pub first-form : (k : ℕ) (b c : List ℕ) → length b ≡ 512 → getD b 2 0 ≤ 128 → getD b 3 0 ≤ 128 → getD b 5 0 ≤ 128
+pub first-form : (k : ℕ) (b c : List ℕ) → length b ≡ blockLength → getD b 2 0 ≤ 128 → getD b 3 0 ≤ 128 → getD b 5 0 ≤ 128
     → same b (firstBytes (readAccess k b c)) ≡ accessTests b
 unfolding firstBytes readAccess accessTests
 first-form k b c h h2 h3 h5 =
@@ -153,7 +153,7 @@ first-form k b c h h2 h3 h5 =
     )
     (simp (eqb-self, and-assoc))
 
-pub second-form : (k : ℕ) (b c : List ℕ) → length c ≡ 512 → getD c 1 0 ≤ 128 → getD c 3 0 ≤ 128 → getD c 4 0 ≤ 128
+pub second-form : (k : ℕ) (b c : List ℕ) → length c ≡ blockLength → getD c 1 0 ≤ 128 → getD c 3 0 ≤ 128 → getD c 4 0 ≤ 128
     → same c (secondBytes (readAccess k b c)) ≡ secondTests c
 unfolding secondBytes readAccess secondTests
 second-form k b c h h1 h3 h4 =
@@ -181,11 +181,11 @@ second-form k b c h h1 h3 h4 =
 unfoldable pub blockTests : (form : ℕ) → List ℕ → Bool
 blockTests fm p = ofBlocks fm (accessTests (firstBlock p)) (secondTests (secondBlock p))
 
-same-one : (k : ℕ) (p : List ℕ) → length p ≡ 512 → Short 1 p → same p (accessBytes 1 (readPlace k p)) ≡ blockTests 1 p
+same-one : (k : ℕ) (p : List ℕ) → length p ≡ blockLength → Short 1 p → same p (accessBytes 1 (readPlace k p)) ≡ blockTests 1 p
 unfolding blockTests ofBlocks pick
 same-one k p h s =
     rw (access-one, and-true)
-    (ap (λ (b : List ℕ). same b (firstBytes (readPlace k p))) (sym (take-all 512 p (omega arith)))
+    (ap (λ (b : List ℕ). same b (firstBytes (readPlace k p))) (sym (take-all blockLength p (omega arith)))
     ∙ first-form k (firstBlock p) (secondBlock p) (rw length-take (omega arith)) (s .two) (s .three) (s .five))
 
 same-two : (k : ℕ) (p : List ℕ) → length p ≡ 1024 → Short 2 p → same p (accessBytes 2 (readPlace k p)) ≡ blockTests 2 p
@@ -193,7 +193,7 @@ unfolding blockTests ofBlocks pick
 same-two k p h s =
     rw (
       access-two,
-      same-past 512 (firstBytes (readPlace k p)) (secondBytes (readPlace k p)) p (length-first _),
+      same-past blockLength (firstBytes (readPlace k p)) (secondBytes (readPlace k p)) p (length-first _),
       first-form k (firstBlock p) (secondBlock p) (rw length-take (omega arith)) (s .two) (s .three) (s .five),
       second-form k (firstBlock p) (secondBlock p) (rw length-drop (omega arith)) (s .one' refl) (s .three' refl) (s .four' refl),
     )
@@ -207,16 +207,16 @@ place-form-of fm k p f h s =
 
 -- the row by places
 
-same-places : (fm : ℕ) (r : List ℕ) (a : List Access) (b n : ℕ) → 1 ≤ b → length r ≡ 512 + placeLength fm * (b - 1 + n)
+same-places : (fm : ℕ) (r : List ℕ) (a : List Access) (b n : ℕ) → 1 ≤ b → length r ≡ blockLength + placeLength fm * (b - 1 + n)
     → same (drop (placeStart fm b) r) (placesBytes fm a (counted b n)) ≡ every (λ k. same (part r (placeStart fm k) (placeLength fm)) (placeBytes fm a k)) (counted b n)
 unfolding placesBytes counted every same
-same-places fm r a b zero l h = rw (lib.ListN.drop-of-length-le r {i = 512 + 512 * fm * (b - 1)} (omega arith))
+same-places fm r a b zero l h = rw (lib.ListN.drop-of-length-le r {i = blockLength + blockLength * fm * (b - 1)} (omega arith))
 same-places fm r a b (suc n) l h =
-    let q : 512 + 512 * fm * (b - 1) + 512 * fm ≡ 512 + 512 * fm * (suc b - 1) = next-start fm b l in
-    let s : length r ≡ 512 + 512 * fm * (suc b - 1 + n) = h ∙ ap (λ (i : ℕ). 512 + 512 * fm * i) (omega arith) in
-    rw (same-past (512 * fm) (placeBytes fm a b) (placesBytes fm a (counted (suc b) n)) (drop (512 + 512 * fm * (b - 1)) r) (length-place fm a b), drop-drop (512 * fm) (512 + 512 * fm * (b - 1)) r, q, same-places fm r a (suc b) n (omega arith) s)
+    let q : blockLength + blockLength * fm * (b - 1) + blockLength * fm ≡ blockLength + blockLength * fm * (suc b - 1) = next-start fm b l in
+    let s : length r ≡ blockLength + blockLength * fm * (suc b - 1 + n) = h ∙ ap (λ (i : ℕ). blockLength + blockLength * fm * i) (omega arith) in
+    rw (same-past (blockLength * fm) (placeBytes fm a b) (placesBytes fm a (counted (suc b) n)) (drop (blockLength + blockLength * fm * (b - 1)) r) (length-place fm a b), drop-drop (blockLength * fm) (blockLength + blockLength * fm * (b - 1)) r, q, same-places fm r a (suc b) n (omega arith) s)
   where
-    next-start : (fm b : ℕ) → 1 ≤ b → 512 + 512 * fm * (b - 1) + 512 * fm ≡ 512 + 512 * fm * (suc b - 1)
+    next-start : (fm b : ℕ) → 1 ≤ b → blockLength + blockLength * fm * (b - 1) + blockLength * fm ≡ blockLength + blockLength * fm * (suc b - 1)
     next-start fm zero l = absurd (omega arith)
     next-start fm (suc b) l =
         let p : suc b - 1 ≡ b = omega arith in
@@ -227,11 +227,11 @@ same-row : (r : List ℕ) (s : Subscriber) → length r ≡ rowLength (formOf r)
     → same r (rowBytes (formOf r) s) ≡ same (head r) (headBytes s) && every (λ k. same (place r k) (placeBytes (formOf r) (s .accesses) k)) places
 unfolding rowBytes places place rowLength
 same-row r s h =
-    let q : 512 ≡ 512 + 512 * formOf r * (1 - 1) = omega arith in
-    let m : same (drop 512 r) (placesBytes (formOf r) (s .accesses) (counted 1 8))
+    let q : blockLength ≡ blockLength + blockLength * formOf r * (1 - 1) = omega arith in
+    let m : same (drop blockLength r) (placesBytes (formOf r) (s .accesses) (counted 1 8))
     ≡ every (λ k. same (part r (placeStart (formOf r) k) (placeLength (formOf r))) (placeBytes (formOf r) (s .accesses) k)) (counted 1 8) =
     ap (λ (i : ℕ). same (drop i r) (placesBytes (formOf r) (s .accesses) (counted 1 8))) q ∙ same-places (formOf r) r (s .accesses) 1 8 (omega arith) (h ∙ omega arith) in
-    same-past 512 (headBytes s) (placesBytes (formOf r) (s .accesses) (counted 1 8)) r (length-head s) ∙ ap (λ (x : Bool). same (head r) (headBytes s) && x) m
+    same-past blockLength (headBytes s) (placesBytes (formOf r) (s .accesses) (counted 1 8)) r (length-head s) ∙ ap (λ (x : Bool). same (head r) (headBytes s) && x) m
 
 -- a place of the row
 
@@ -277,7 +277,7 @@ pub is-sized : (r : List ℕ) → Sized r → isRow r ≡ true
 unfolding isRow
 is-sized r s = rw (s .form, eq-eqb (length r) (rowLength (formOf r)) (s .size))
 
-pub length-head-of : (r : List ℕ) → Sized r → length (head r) ≡ 512
+pub length-head-of : (r : List ℕ) → Sized r → length (head r) ≡ blockLength
 unfolding rowLength
 length-head-of r s = rw length-take (omega (arith, s .size))
 
@@ -285,7 +285,7 @@ length-head-of r s = rw length-take (omega (arith, s .size))
 pub place-ends : (fm k : ℕ) → 1 ≤ k → k ≤ 8 → placeStart fm k + placeLength fm ≤ rowLength fm
 unfolding rowLength
 place-ends fm k lo hi =
-    let m : 512 * fm * (k - 1) ≤ 512 * fm * 7 = native.Mathlib.Nat.mul-le-mul-left (512 * fm) (omega arith) in
+    let m : blockLength * fm * (k - 1) ≤ blockLength * fm * 7 = native.Mathlib.Nat.mul-le-mul-left (blockLength * fm) (omega arith) in
     omega arith
 
 pub length-place-of : (r : List ℕ) (k : ℕ) → Sized r → 1 ≤ k → k ≤ 8 → length (place r k) ≡ placeLength (formOf r)
@@ -293,14 +293,14 @@ unfolding place
 length-place-of r k s lo hi = length-part r (placeStart (formOf r) k) (placeLength (formOf r)) (omega (arith, s .size, place-ends (formOf r) k lo hi))
 
 -- its blocks
-pub length-first-of : (r : List ℕ) (k : ℕ) → Sized r → 1 ≤ k → k ≤ 8 → length (firstBlock (place r k)) ≡ 512
+pub length-first-of : (r : List ℕ) (k : ℕ) → Sized r → 1 ≤ k → k ≤ 8 → length (firstBlock (place r k)) ≡ blockLength
 unfolding isForm
 length-first-of r k s lo hi = rw length-take (omega (arith, length-place-of r k s lo hi, within-low 1 2 _ (s .form)))
 
-pub length-second-of : (r : List ℕ) (k : ℕ) → Sized r → 1 ≤ k → k ≤ 8 → length (secondBlock (place r k)) ≡ 512 * (formOf r - 1)
+pub length-second-of : (r : List ℕ) (k : ℕ) → Sized r → 1 ≤ k → k ≤ 8 → length (secondBlock (place r k)) ≡ blockLength * (formOf r - 1)
 length-second-of r k s lo hi = rw length-drop (omega (arith, length-place-of r k s lo hi))
 
-text-bound : (b : List ℕ) (i n : ℕ) → length b ≡ 512 → i ≤ 264 → length (part b i n) ≤ 128 → n ≤ 128
+text-bound : (b : List ℕ) (i n : ℕ) → length b ≡ blockLength → i ≤ 264 → length (part b i n) ≤ 128 → n ≤ 128
 text-bound b i n h le t = omega (arith, simp (length-take, length-drop) at t)
 
 zero-all : (b : List ℕ) (n : ℕ) → length b ≡ n → same b (zeros n) ≡ allZero b
@@ -314,9 +314,9 @@ short fm k n p f h t =
     let lo : 1 ≤ fm = within-low 1 2 fm f in
     let b : List ℕ = firstBlock p in
     let c : List ℕ = secondBlock p in
-    let lb : length b ≡ 512 = rw length-take (omega arith) in
+    let lb : length b ≡ blockLength = rw length-take (omega arith) in
     let hi : fm ≤ 2 = within-high 1 2 fm f in
-    let lc : fm ≡ 2 → length c ≡ 512 = λ e. rw length-drop (omega arith) in
+    let lc : fm ≡ 2 → length c ≡ blockLength = λ e. rw length-drop (omega arith) in
     record {
       two = text-bound b 8 (getD b 2 0) lb (omega arith) (within-high 1 128 _ (t .sid-fits));
       three = text-bound b 136 (getD b 3 0) lb (omega arith) (within-high 1 128 _ (t .host-fits));
@@ -432,7 +432,7 @@ unfolding upTo0 pick
 up-to-length [] = omega arith
 up-to-length (x ∷ l) = by-test (eqb x 0) (λ e. rw e (omega arith)) (λ e. rw e (omega (arith, up-to-length l)))
 
-same-head : (b : List ℕ) (n bits c o : ℕ) (nm l es : List ℕ) → length b ≡ 512
+same-head : (b : List ℕ) (n bits c o : ℕ) (nm l es : List ℕ) → length b ≡ blockLength
     → same (take 510 b) (1 ∷ n ∷ filled nm 15 ++ (bits ∷ c ∷ o ∷ filled l 8 ++ (zeros 4 ++ (filled es 416 ++ zeros 62))))
     ≡ eqb (getD b 0 0) 1 && (eqb (getD b 1 0) n && (same (part b 2 15) (filled nm 15) && (eqb (getD b 17 0) bits && (eqb (getD b 18 0) c && (eqb (getD b 19 0) o
     && (same (part b 20 8) (filled l 8) && (same (part b 28 4) (zeros 4) && (same (part b 32 416) (filled es 416) && same (part b 448 62) (zeros 62)))))))))
@@ -473,7 +473,7 @@ room-line : (t : List ℕ) → length t ≡ 8 → same t (filled (upTo0 t) 8) �
 room-line t h =
     ap (λ (l : List ℕ). same t (filled l 8)) (up-to-part t) ∙ same-room t 8 (length (upTo0 t)) h (omega (arith, up-to-length t))
 
-head-form-of : (b : List ℕ) (a : List Access) → line a ≡ upTo0 (part b 20 8) → length b ≡ 512 → getD b 1 0 ≤ 15 → getD b 18 0 ≤ 4 → every goodEntry (readEntries (getD b 18 0) (part b 32 416)) ≡ true
+head-form-of : (b : List ℕ) (a : List Access) → line a ≡ upTo0 (part b 20 8) → length b ≡ blockLength → getD b 1 0 ≤ 15 → getD b 18 0 ≤ 4 → every goodEntry (readEntries (getD b 18 0) (part b 32 416)) ≡ true
     → same b (headBytes (record { operator = getD b 19 0; name = part b 2 (getD b 1 0); entries = readEntries (getD b 18 0) (part b 32 416); accesses = a }))
     ≡ headTests b
 unfolding headBytes headTests
@@ -499,13 +499,13 @@ head-form-of b a la lb n15 n4 g =
     )
     (simp (eqb-self, and-assoc))
 
-name-bound : (b : List ℕ) → length b ≡ 512 → length (part b 2 (getD b 1 0)) ≤ 15 → getD b 1 0 ≤ 15
+name-bound : (b : List ℕ) → length b ≡ blockLength → length (part b 2 (getD b 1 0)) ≤ 15 → getD b 1 0 ≤ 15
 name-bound b h t = omega (arith, simp (length-take, length-drop) at t)
 
 head-form : (r : List ℕ) → Sized r → Good (formOf r) (readRow r) → same (head r) (headBytes (readRow r)) ≡ headTests (head r)
 unfolding readRow orderLine
 head-form r z g =
-    let lb : length (head r) ≡ 512 = length-head-of r z in
+    let lb : length (head r) ≡ blockLength = length-head-of r z in
     let nl : length (part (head r) 2 (getD (head r) 1 0)) ≤ 15 = name-length _ (g .name-good) in
     let es : length (readEntries (getD (head r) 18 0) (part (head r) 32 416)) ≤ 4 = leb-true _ 4 (g .entries-good .four) in
     head-form-of (head r) _ (line-read r _) lb

@@ -18,13 +18,13 @@ use Rattle.octets.proofs.Pieces.{joined, join-pieces, length-piece, length-with
 use Rattle.octets.proofs.Texts.{length-part, zero-step}
 use Rattle.octets.proofs.Words.{low-eq}
 use Rattle.octets.proofs.Lists.{and-left, and-right, by-test, in-within, same-eq, within-high, within-low}
-use Rattle.table.specs.TheTable.{Account, Found, Table, firstNumber, firstRow, formOf, foundBy, hasName, isForm, isRowOf, later, nothing, row, rowAt, rowLength, tableNumber, width, withRow}
+use Rattle.table.specs.TheTable.{blockLength, Account, Found, Table, firstNumber, firstRow, formOf, foundBy, hasName, isForm, isRowOf, later, nothing, row, rowAt, rowLength, tableNumber, width, withRow}
 use Rattle.table.specs.Answers.{lent}
 use Rattle.table.proofs.Widths.{fewer-rows, rows-order, split}
 
 -- THE FORM AND ITS WIDTH
 
-pub width-least : (f : ℕ) → 512 ≤ rowLength f
+pub width-least : (f : ℕ) → blockLength ≤ rowLength f
 unfolding rowLength
 width-least f = omega arith
 

@@ -18,7 +18,7 @@ use Rattle.table.proofs.Bytes.{length-row, readPlace, said-good, said-i
 use Rattle.table.proofs.Form.{Sized, accessTests, blockTests, entriesTests, entryTests, every-on, headTests, is-sized, length-head-of, length-place-of, length-read, line-read, placeTests, said-tests, secondTests, sized, sumOk, tests}
 use Rattle.table.proofs.Good.{Entered, Fits, Good, Standing, by-form, each-entry, good-is, goodAccess, goodEntry, places-eight, saidSound, spare, stand, standing}
 use Rattle.table.specs.Soundness.{accessForm, entriesForm, entryForm, hasForm, headForm, inUse, isName, isRow, labels, limits, lineExact, ofBlocks, onlyBehind, placeForm, placeSums, policiesInOrder, policyMarked, sameLabel, secondForm, sessions, sound, sumsAgree, underLimits, zeroBehind}
-use Rattle.table.specs.TheTable.{Access, Entry, Subscriber, accessAt, firstBlock, formOf, fromBits, head, isForm, orderLine, place, placeLength, places, secondBlock, readAccess, readEntries, readEntry, readRow, rowBytes, rowLength, sums, sumsFrom, usedBits}
+use Rattle.table.specs.TheTable.{blockLength, Access, Entry, Subscriber, accessAt, firstBlock, formOf, fromBits, head, isForm, orderLine, place, placeLength, places, secondBlock, readAccess, readEntries, readEntry, readRow, rowBytes, rowLength, sums, sumsFrom, usedBits}
 
 -- BITS
 
@@ -138,7 +138,7 @@ mark-small m n h =
     (λ e. le-leb m 1 (omega (arith, eqb-true m 0 (rw e at h))))
     (λ e. le-leb m 1 (omega (arith, eqb-true m 1 (rw e at h))))
 
-pub sums-tail : (b : List ℕ) → length b ≡ 512 → sumsAgree b ≡ sumOk b
+pub sums-tail : (b : List ℕ) → length b ≡ blockLength → sumsAgree b ≡ sumOk b
 unfolding sumOk sumsAgree
 sums-tail b h = rw (take-all 2 (drop 510 b) (rw length-drop (omega arith)))
 
@@ -148,11 +148,11 @@ zero-three b i h =
     rw (drop-cons b i 0 (omega arith), drop-cons b (suc i) 0 (omega arith), drop-cons b (suc (suc i)) 0 h)
     (ap (λ (t : Bool). eqb (getD b i 0) 0 && (eqb (getD b (suc i) 0) 0 && t)) (and-true (eqb (getD b (suc (suc i)) 0) 0)))
 
-sums-of-zeros : sumOk (zeros 512) ≡ true
+sums-of-zeros : sumOk (zeros blockLength) ≡ true
 unfolding sumOk zeros sumsFrom same
 sums-of-zeros = refl
 
-pub sums-zero : (b : List ℕ) → length b ≡ 512 → allZero b ≡ true → sumOk b ≡ true
+pub sums-zero : (b : List ℕ) → length b ≡ blockLength → allZero b ≡ true → sumOk b ≡ true
 unfolding allZero
 sums-zero b h z = rw (same-eq b (zeros (length b)) z, h) sums-of-zeros
 
@@ -183,7 +183,7 @@ pub record Formed (b : List ℕ) : Type 0 where
   pub policy-end : zeroBehind (getD b 5 0) (part b 264 128) ≡ true
   pub end : allZero (part b 392 118) ≡ true
 
-form-of : (b : List ℕ) → length b ≡ 512 → accessForm b ≡ true → Formed b
+form-of : (b : List ℕ) → length b ≡ blockLength → accessForm b ≡ true → Formed b
 unfolding accessForm
 form-of b h f =
     let f1 = and-right (eqb (getD b 0 0) 2) _ f in
@@ -208,7 +208,7 @@ form-of b h f =
       end = and-right (zeroBehind (getD b 5 0) (part b 264 128)) _ f8;
     }
 
-of-form : (b : List ℕ) → length b ≡ 512 → leb (getD b 4 0) 1 ≡ true → Formed b → accessForm b ≡ true
+of-form : (b : List ℕ) → length b ≡ blockLength → leb (getD b 4 0) 1 ≡ true → Formed b → accessForm b ≡ true
 unfolding accessForm
 of-form b h m f =
     let z : allZero (part b 6 2) ≡ true = zero-pair b 6 (omega arith) ∙ both (f .six) (f .seven) in
@@ -233,7 +233,7 @@ pub record Formed2 (c : List ℕ) : Type 0 where
   pub third-end : zeroBehind (getD c 4 0) (part c 264 128) ≡ true
   pub end : allZero (part c 392 118) ≡ true
 
-form-of2 : (c : List ℕ) → length c ≡ 512 → secondForm c ≡ true → Formed2 c
+form-of2 : (c : List ℕ) → length c ≡ blockLength → secondForm c ≡ true → Formed2 c
 unfolding secondForm
 form-of2 c h f =
     let f1 = and-right (eqb (getD c 0 0) 3) _ f in
@@ -261,7 +261,7 @@ form-of2 c h f =
       end = and-right (zeroBehind (getD c 4 0) (part c 264 128)) _ f8;
     }
 
-of-form2 : (c : List ℕ) → length c ≡ 512 → Formed2 c → secondForm c ≡ true
+of-form2 : (c : List ℕ) → length c ≡ blockLength → Formed2 c → secondForm c ≡ true
 unfolding secondForm
 of-form2 c h f =
     let z : allZero (part c 5 3) ≡ true = zero-three c 5 (omega arith) ∙ both (f .five) (both (f .six) (f .seven)) in
@@ -298,11 +298,11 @@ none-second (x ∷ c) h = absurd (omega arith)
 
 -- the lengths of the texts, as their length bytes say
 module _ (fm : ℕ) (p : List ℕ) (f : isForm fm ≡ true) (size : length p ≡ placeLength fm) where
-  first-size : length (firstBlock p) ≡ 512
+  first-size : length (firstBlock p) ≡ blockLength
   unfolding isForm
   first-size = rw length-take (omega (arith, within-low 1 2 fm f))
 
-  second-size : fm ≡ 2 → length (secondBlock p) ≡ 512
+  second-size : fm ≡ 2 → length (secondBlock p) ≡ blockLength
   second-size e = rw length-drop (omega arith)
 
   second-none : fm ≡ 1 → secondBlock p ≡ []
@@ -321,7 +321,7 @@ module _ (fm : ℕ) (p : List ℕ) (f : isForm fm ≡ true) (size : length p ≡
       → (length (part (secondBlock p) i (getD (secondBlock p) j 0)) ≡ getD (secondBlock p) j 0) × (leb (length (part (secondBlock p) i (getD (secondBlock p) j 0))) (spare fm) ≡ true)
   unfolding spare
   second-text i j h none le =
-      by-form (λ g. (g ≡ 1 → secondBlock p ≡ []) → (g ≡ 2 → length (secondBlock p) ≡ 512)
+      by-form (λ g. (g ≡ 1 → secondBlock p ≡ []) → (g ≡ 2 → length (secondBlock p) ≡ blockLength)
       → (length (part (secondBlock p) i (getD (secondBlock p) j 0)) ≡ getD (secondBlock p) j 0) × (leb (length (part (secondBlock p) i (getD (secondBlock p) j 0))) (128 * (g - 1)) ≡ true)) fm f
       (λ o t. rw (o refl, none) (refl, refl))
       (λ o t. let l : length (part (secondBlock p) i (getD (secondBlock p) j 0)) ≡ getD (secondBlock p) j 0 = length-part (secondBlock p) i _ (omega (arith, t refl)) in (l, rw l (le-leb _ 128 le)))
@@ -339,7 +339,7 @@ good-of : (fm n k : ℕ) (p : List ℕ) → isForm fm ≡ true → length p ≡ 
     → goodAccess fm n (readPlace k p) ≡ true
 unfolding readAccess
 good-of fm n k p f h w e b =
-    let lb : length (firstBlock p) ≡ 512 = first-size fm p f h in
+    let lb : length (firstBlock p) ≡ blockLength = first-size fm p f h in
     let u : Formed (firstBlock p) = b .first in
     let l5 : length (part (firstBlock p) 264 (getD (firstBlock p) 5 0)) ≡ getD (firstBlock p) 5 0 = length-part (firstBlock p) 264 (getD (firstBlock p) 5 0) (omega (arith, leb-true (getD (firstBlock p) 5 0) 128 (u .policy-in))) in
     let s1 : getD (secondBlock p) 1 0 ≤ 128 = second-short fm p f h 1 refl (λ q. leb-true _ 128 (b .second q .realm-in)) in
@@ -362,7 +362,7 @@ good-of fm n k p f h w e b =
     })
 
 -- and back, from the tests
-formed-first : (b : List ℕ) → length b ≡ 512 → within 1 128 (length (part b 8 (getD b 2 0))) ≡ true → within 1 128 (length (part b 136 (getD b 3 0))) ≡ true
+formed-first : (b : List ℕ) → length b ≡ blockLength → within 1 128 (length (part b 8 (getD b 2 0))) ≡ true → within 1 128 (length (part b 136 (getD b 3 0))) ≡ true
     → leb (length (part b 264 (getD b 5 0))) 128 ≡ true → accessTests b ≡ true
     → Formed b × (eqb (getD b 4 0) (pick (eqb (getD b 5 0) 0) 0 1) ≡ true) × (sumOk b ≡ true)
 unfolding accessTests
@@ -419,7 +419,7 @@ formed-by : (fm n k : ℕ) (p : List ℕ) → isForm fm ≡ true → length p �
 unfolding blockTests readAccess
 formed-by fm n k p f h g t =
     let s : Standing fm n (readPlace k p) = standing n (readPlace k p) g in
-    let lb : length (firstBlock p) ≡ 512 = first-size fm p f h in
+    let lb : length (firstBlock p) ≡ blockLength = first-size fm p f h in
     let w : (accessTests (firstBlock p) ≡ true) × (fm ≡ 2 → secondTests (secondBlock p) ≡ true) = of-both fm _ _ t in
     let u : Formed (firstBlock p) × (eqb (getD (firstBlock p) 4 0) (pick (eqb (getD (firstBlock p) 5 0) 0) 0 1) ≡ true) × (sumOk (firstBlock p) ≡ true) =
     formed-first (firstBlock p) lb (s .sid-fits) (s .host-fits) (s .first-fits) (w .0) in
@@ -586,7 +586,7 @@ tests-head b o f =
 
 -- from the clauses
 module _ (r : List ℕ) (c : Clauses r) where
-  head-size : length (head r) ≡ 512
+  head-size : length (head r) ≡ blockLength
   head-size = length-head-of r (c .row)
 
   count-of : getD (head r) 18 0 ≤ 4
@@ -594,7 +594,7 @@ module _ (r : List ℕ) (c : Clauses r) where
 
   entries-of : every goodEntry (readEntries (getD (head r) 18 0) (part (head r) 32 416)) && entriesTests (getD (head r) 18 0) (part (head r) 32 416) ≡ true
   entries-of =
-      let z : length (head r) ≡ 512 = head-size in
+      let z : length (head r) ≡ blockLength = head-size in
       sym (entries-form (getD (head r) 18 0) 4 (part (head r) 32 416) (length-part (head r) 32 416 (omega arith)) count-of) ∙ c .entries-form
 
   -- a place on the line has the form of an access
@@ -604,7 +604,7 @@ module _ (r : List ℕ) (c : Clauses r) where
       let fm : ℕ = formOf r in
       let p : List ℕ = place r k in
       let lp : length p ≡ placeLength fm = length-place-of r k (c .row) (within-low 1 8 k w) (within-high 1 8 k w) in
-      let lb : length (firstBlock p) ≡ 512 = first-size fm p (c .row .form) lp in
+      let lb : length (firstBlock p) ≡ blockLength = first-size fm p (c .row .form) lp in
       let u : inUse r k ≡ true = in-use r k (c .bits) w ∙ o in
       let f : placeForm r k ≡ true = at-place (placeForm r) k (c .places-form) w in
       let fo : (accessForm (firstBlock p) ≡ true) × (fm ≡ 2 → secondForm (secondBlock p) ≡ true) = of-both fm _ _ (rw u at f) in
@@ -660,7 +660,7 @@ module _ (r : List ℕ) (c : Clauses r) where
   passes : tests r ≡ true
   unfolding tests orderLine
   passes =
-      let z : length (head r) ≡ 512 = head-size in
+      let z : length (head r) ≡ blockLength = head-size in
       let h : headTests (head r) ≡ true =
       head-tests (head r) (head-of (head r) (c .head-form) .0) (c .bits) (and-right (every goodEntry (readEntries (getD (head r) 18 0) (part (head r) 32 416))) _ entries-of)
       (sym (sums-tail (head r) z) ∙ c .sum-zero) in
@@ -714,15 +714,15 @@ module _ (r : List ℕ) (z : Sized r) (g : Good (formOf r) (readRow r)) (h : hea
   unfolding placeSums
   sum-at k w =
       let fm : ℕ = formOf r in
-      let lb : length (firstBlock (place r k)) ≡ 512 = first-size fm (place r k) (z .form) (long k w) in
-      let lc : fm ≡ 2 → length (secondBlock (place r k)) ≡ 512 = second-size fm (place r k) (z .form) (long k w) in
+      let lb : length (firstBlock (place r k)) ≡ blockLength = first-size fm (place r k) (z .form) (long k w) in
+      let lc : fm ≡ 2 → length (secondBlock (place r k)) ≡ blockLength = second-size fm (place r k) (z .form) (long k w) in
       both-of fm _ _
       (sums-tail (firstBlock (place r k)) lb ∙ by-test (isOn (orderLine r) k)
       (λ o. blocks-at k w o .first-sum)
-      (λ o. sums-zero (firstBlock (place r k)) lb (zero-take 512 (place r k) (zero-at k w o))))
+      (λ o. sums-zero (firstBlock (place r k)) lb (zero-take blockLength (place r k) (zero-at k w o))))
       (λ e. sums-tail (secondBlock (place r k)) (lc e) ∙ by-test (isOn (orderLine r) k)
       (λ o. blocks-at k w o .second-sum e)
-      (λ o. sums-zero (secondBlock (place r k)) (lc e) (zero-drop 512 (place r k) (zero-at k w o))))
+      (λ o. sums-zero (secondBlock (place r k)) (lc e) (zero-drop blockLength (place r k) (zero-at k w o))))
 
   marked-at : (k : ℕ) → isOn (orderLine r) k ≡ true → policyMarked r k ≡ true
   unfolding policyMarked
@@ -741,7 +741,7 @@ module _ (r : List ℕ) (z : Sized r) (g : Good (formOf r) (readRow r)) (h : hea
   unfolding readRow sumsAgree
   holds =
       let b : List ℕ = head r in
-      let lb : length b ≡ 512 = length-head-of r z in
+      let lb : length b ≡ blockLength = length-head-of r z in
       let e : entriesTests (getD b 18 0) (part b 32 416) ≡ true = tests-head b (g .operator-good) h .2 in
       record {
         row = z;

@@ -14,6 +14,7 @@ use Rattle.octets.specs.Lists.{every, distinct, upTo0}
 use Rattle.octets.specs.Texts.{part, same, allZero}
 use Rattle.octets.proofs.Lists.{by-test, and-left, and-right, both, within-high}
 use Rattle.octets.proofs.Texts.{length-part}
+use Rattle.table.specs.TheTable.{blockLength}
 use Rattle.table.proofs.Sound.{Headed, head-of, text-within}
 use Rattle.table.specs.Soundness.{zeroBehind, accessForm, isName, isDigit, headForm, secondForm}
 
@@ -30,7 +31,7 @@ unfolding zeroBehind
 behind room n h = rw (take-all (length room - n) (drop n room) (rw length-drop (omega arith)))
 
 -- the last two bytes of a block
-pub two-bytes : (b : List ℕ) (x y : ℕ) → length b ≡ 512 → same (part b 510 2) (x ∷ y ∷ []) ≡ eqb (getD b 510 0) x && eqb (getD b 511 0) y
+pub two-bytes : (b : List ℕ) (x y : ℕ) → length b ≡ blockLength → same (part b 510 2) (x ∷ y ∷ []) ≡ eqb (getD b 510 0) x && eqb (getD b 511 0) y
 unfolding same
 two-bytes b x y h =
     rw (drop-cons b 510 0 (omega arith), drop-cons b 511 0 (omega arith))
@@ -79,7 +80,7 @@ both-fail false b c e = refl
 
 -- BLOCK 0
 
-pub name-is : (b : List ℕ) (n : ℕ) → length b ≡ 512 → isName (part b 2 n) ≡ within 1 15 n && every isDigit (part b 2 n)
+pub name-is : (b : List ℕ) (n : ℕ) → length b ≡ blockLength → isName (part b 2 n) ≡ within 1 15 n && every isDigit (part b 2 n)
 unfolding isName
 name-is b n h = rw (text-within b 2 n 1 15 (omega arith))
 

@@ -25,20 +25,23 @@ sealed s = s ++ sums s
 
 -- THE FORMS
 
+abbrev pub blockLength : ℕ
+blockLength = 512
+
 -- A table has form 1 or form 2 (W5), and the caller says which. In form f a place has f blocks of 512 bytes. A row is block 0 and eight
 -- places: 4,608 bytes in form 1, 8,704 in form 2.
 unfoldable pub isForm : ℕ → Bool
 isForm f = within 1 2 f
 
 abbrev pub placeLength : (form : ℕ) → ℕ
-placeLength f = 512 * f
+placeLength f = blockLength * f
 
 unfoldable pub rowLength : (form : ℕ) → ℕ
-rowLength f = 512 + 8 * placeLength f
+rowLength f = blockLength + 8 * placeLength f
 
 -- The form of a row is told by its length.
 unfoldable pub formOf : List ℕ → ℕ
-formOf r = (length r - 512) / 4096
+formOf r = (length r - blockLength) / 4096
 
 -- WHAT A ROW SAYS
 
@@ -156,20 +159,20 @@ rowBytes f s = headBytes s ++ placesBytes f (s .accesses) places
 
 -- Block 0, and place k behind it.
 abbrev pub head : List ℕ → List ℕ
-head r = take 512 r
+head r = take blockLength r
 
 abbrev pub placeStart : (form k : ℕ) → ℕ
-placeStart f k = 512 + placeLength f * (k - 1)
+placeStart f k = blockLength + placeLength f * (k - 1)
 
 unfoldable pub place : List ℕ → ℕ → List ℕ
 place r k = part r (placeStart (formOf r) k) (placeLength (formOf r))
 
 -- The first block of a place; and the second, of which form 1 has no byte.
 abbrev pub firstBlock : List ℕ → List ℕ
-firstBlock p = take 512 p
+firstBlock p = take blockLength p
 
 abbrev pub secondBlock : List ℕ → List ℕ
-secondBlock p = drop 512 p
+secondBlock p = drop blockLength p
 
 unfoldable pub readEntry : List ℕ → Entry
 readEntry b = record { label = part b 1 (getD b 0 0); flags = getD b 101 0; limit = getD b 102 0 }

@@ -6,7 +6,7 @@ ghost use Prim.Native.Nat.{ℕ, _+_, _*_, _/_, _%_, _<_, _≤_};
 ghost use lib.ListN.{length, take};
 ghost use Rattle.octets.specs.Numbers.{low64};
 ghost use Rattle.octets.specs.Texts.{allZero};
-ghost use Rattle.table.specs.TheTable.{firstNumber, firstRow, hasName, isOwn, isRowOf, lookup, ownRows, rowAt, rowLength, rows, sums, tableNumber};
+ghost use Rattle.table.specs.TheTable.{blockLength, firstNumber, firstRow, hasName, isOwn, isRowOf, lookup, ownRows, rowAt, rowLength, rows, sums, tableNumber};
 ghost use Rattle.table.specs.Columns.{columnFirst, columnBefore};
 ghost use Rattle.table.specs.Answers.{found, lent, rowEnd};
 
@@ -101,7 +101,7 @@ struct Plain {
 
 // Column j, where the 512 bytes of a block stand in 16 rows of 32.
 fn column(s: &[u8], j: usize) -> Plain
-    requires { ⌜ (length (now s) ≡ 512) × (j < 32) ⌝ }
+    requires { ⌜ (length (now s) ≡ blockLength) × (j < 32) ⌝ }
     ensures { λ r. ⌜ (r .first ≡ columnFirst 16 (now (s .entry)) j) × (r .before ≡ columnBefore 16 (now (s .entry)) j) × (r .first ≤ 4080) × (r .before ≤ 65280) ⌝ }
 {
     let mut a: u16 = 0;
@@ -131,7 +131,7 @@ fn folded(x: u16) -> u16
 // whole block byte j of row k counts 512 - (32 k + j) = 32 (15 - k) + (32 - j) times in the second sum. Columns do not depend on each other,
 // and all numbers stay within 16 bits, so that the compiler takes eight columns at a time; one remainder each is enough.
 pub fn sums_of(s: &[u8]) -> Sums
-    requires { ⌜ length (now s) ≡ 512 ⌝ }
+    requires { ⌜ length (now s) ≡ blockLength ⌝ }
     ensures { λ r. ⌜ (r .second ∷ r .first ∷ [] ≡ sums (take 510 (now (s .entry)))) × (r .first < 255) × (r .second < 255) ⌝ }
 {
     let mut a: u16 = 0;

@@ -7,6 +7,7 @@ ghost use mathlib.Core.Bool.{true};
 ghost use Prim.Native.Nat.{_≤_};
 ghost use lib.ListN.{length};
 ghost use Rattle.table.specs.Soundness.{isRow};
+ghost use Rattle.table.specs.TheTable.{blockLength};
 
 // THE ROW THAT CAN NOT BE MOVED
 
@@ -23,7 +24,7 @@ fn begin(out: &mut [u8; 4096], n: u32, i: usize) -> usize {
 
 // Row i, where it is unsound and not wholly zero; whether it is. Which clause it breaks is said.
 fn is_unsound(i: usize, row: &[u8]) -> bool
-    requires { ⌜ (isRow (now row) ≡ true) × (512 ≤ length (now row)) ⌝ }
+    requires { ⌜ (isRow (now row) ≡ true) × (blockLength ≤ length (now row)) ⌝ }
 {
     if octets::all_zero(row) {
         return false;

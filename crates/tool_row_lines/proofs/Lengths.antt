@@ -9,17 +9,17 @@ use lib.ListN.{length}
 use borrow.Author.Tests.{eqb-true}
 use Rattle.octets.specs.Choice.{within}
 use Rattle.table.specs.Soundness.{isRow}
-use Rattle.table.specs.TheTable.{formOf, isForm, rowLength}
+use Rattle.table.specs.TheTable.{blockLength, formOf, isForm, rowLength}
 use Rattle.table.proofs.Form.{is-sized}
 use Rattle.row.proofs.Places.{row-sizes}
 
-pub row-of-1 : (r : List ℕ) → length r ≡ rowLength 1 → (true ≡ isRow r) × (true ≡ true → 512 ≤ length r)
+pub row-of-1 : (r : List ℕ) → length r ≡ rowLength 1 → (true ≡ isRow r) × (true ≡ true → blockLength ≤ length r)
 unfolding rowLength isForm formOf within
 row-of-1 r e =
     let f : formOf r ≡ 1 = omega (arith, e) in
     (sym (is-sized r (record { form = ap isForm f; size = e ∙ ap rowLength (sym f) })), λ t. omega (arith, e))
 
-pub row-of-2 : (r : List ℕ) → length r ≡ rowLength 2 → (true ≡ isRow r) × (true ≡ true → 512 ≤ length r)
+pub row-of-2 : (r : List ℕ) → length r ≡ rowLength 2 → (true ≡ isRow r) × (true ≡ true → blockLength ≤ length r)
 unfolding rowLength isForm formOf within
 row-of-2 r e =
     let f : formOf r ≡ 2 = omega (arith, e) in
@@ -32,6 +32,6 @@ no : (b : Bool) → (b ≡ true → ⊥) → false ≡ b
 no false h = refl
 no true h = absurd (h refl)
 
-pub no-row : (r : List ℕ) → (length r ≡ rowLength 1 → ⊥) → (length r ≡ rowLength 2 → ⊥) → (false ≡ isRow r) × (false ≡ true → 512 ≤ length r)
+pub no-row : (r : List ℕ) → (length r ≡ rowLength 1 → ⊥) → (length r ≡ rowLength 2 → ⊥) → (false ≡ isRow r) × (false ≡ true → blockLength ≤ length r)
 unfolding rowLength
 no-row r a b = (no (isRow r) (λ h. omega (arith, row-sizes r h, a, b)), λ t. false-true t)

@@ -7,10 +7,11 @@ ghost use mathlib.Core.Bool.{true};
 ghost use Prim.Native.Nat.{_≤_};
 ghost use lib.ListN.{length};
 ghost use Rattle.table.specs.Soundness.{isRow};
+ghost use Rattle.table.specs.TheTable.{blockLength};
 
 // Whether so many bytes are a row, of form 1 or 2.
 pub fn is_row(row: &[u8]) -> bool
-    ensures { λ r. ⌜ (r ≡ isRow (now (row .entry))) × (r ≡ true → 512 ≤ length (now (row .entry))) ⌝ }
+    ensures { λ r. ⌜ (r ≡ isRow (now (row .entry))) × (r ≡ true → blockLength ≤ length (now (row .entry))) ⌝ }
 {
     if row.len() == table::row_length(1) {
         return true;
@@ -23,7 +24,7 @@ pub fn is_row(row: &[u8]) -> bool
 
 // The name in a row, nothing where byte 1 is no length of a name.
 fn name(out: &mut [u8; 4096], at: usize, row: &[u8]) -> usize
-    requires { ⌜ 512 ≤ length (now row) ⌝ }
+    requires { ⌜ blockLength ≤ length (now row) ⌝ }
 {
     let n = octets::long(row[1]);
     if table::NAME_MOST < n {
@@ -49,7 +50,7 @@ fn ones(x: u8) -> u32 {
 
 // Whose a row is: the name and the operator.
 fn whose(out: &mut [u8; 4096], at: usize, row: &[u8]) -> usize
-    requires { ⌜ 512 ≤ length (now row) ⌝ }
+    requires { ⌜ blockLength ≤ length (now row) ⌝ }
 {
     let a = name(out, at, row);
     let b = say(out, a, b", operator ");
@@ -58,7 +59,7 @@ fn whose(out: &mut [u8; 4096], at: usize, row: &[u8]) -> usize
 
 // The first line of row i: whose it is, and how many accesses stand.
 pub fn head(out: &mut [u8; 4096], i: usize, row: &[u8]) -> usize
-    requires { ⌜ 512 ≤ length (now row) ⌝ }
+    requires { ⌜ blockLength ≤ length (now row) ⌝ }
 {
     let a = which(out, i);
     let b = say(out, a, b": ");
@@ -70,7 +71,7 @@ pub fn head(out: &mut [u8; 4096], i: usize, row: &[u8]) -> usize
 
 // The start of the line of row i, which is not sound.
 pub fn unsound(out: &mut [u8; 4096], i: usize, row: &[u8]) -> usize
-    requires { ⌜ 512 ≤ length (now row) ⌝ }
+    requires { ⌜ blockLength ≤ length (now row) ⌝ }
 {
     let a = which(out, i);
     let b = say(out, a, b": ");
@@ -112,7 +113,7 @@ fn flags(out: &mut [u8; 4096], at: usize, x: u8) -> usize {
 
 // The label of entry e.
 fn label(out: &mut [u8; 4096], at: usize, row: &[u8], e: usize) -> usize
-    requires { ⌜ 512 ≤ length (now row) ⌝ }
+    requires { ⌜ blockLength ≤ length (now row) ⌝ }
 {
     if e < 1 {
         return at;
@@ -129,7 +130,7 @@ fn label(out: &mut [u8; 4096], at: usize, row: &[u8], e: usize) -> usize
 
 // The line of entry e: its label, limit and flags, and how many accesses stand on it.
 pub fn entry(out: &mut [u8; 4096], row: &[u8], e: usize) -> usize
-    requires { ⌜ (isRow (now row) ≡ true) × (512 ≤ length (now row)) ⌝ }
+    requires { ⌜ (isRow (now row) ≡ true) × (blockLength ≤ length (now row)) ⌝ }
 {
     if e < 1 {
         return 0;
@@ -176,7 +177,7 @@ fn first_policy(out: &mut [u8; 4096], at: usize, row: &[u8], k: usize) -> usize
 
 // The other two, in its second block.
 fn other_policies(out: &mut [u8; 4096], at: usize, more: &[u8]) -> usize
-    requires { ⌜ length (now more) ≡ 512 ⌝ }
+    requires { ⌜ length (now more) ≡ blockLength ⌝ }
 {
     let a = policy(out, at, b", second policy ", row::second_policy(more));
     if 128 < more[4] {
@@ -187,7 +188,7 @@ fn other_policies(out: &mut [u8; 4096], at: usize, more: &[u8]) -> usize
 
 // The realm of its gateway, in its second block.
 fn realm(out: &mut [u8; 4096], at: usize, more: &[u8]) -> usize
-    requires { ⌜ length (now more) ≡ 512 ⌝ }
+    requires { ⌜ length (now more) ≡ blockLength ⌝ }
 {
     if more[1] == 0 {
         return say(out, at, b", no realm");
@@ -211,7 +212,7 @@ fn rest(out: &mut [u8; 4096], at: usize, row: &[u8], k: usize) -> usize
 
 // The access at place k.
 fn access_at(out: &mut [u8; 4096], at: usize, row: &[u8], k: usize) -> usize
-    requires { ⌜ (isRow (now row) ≡ true) × (512 ≤ length (now row)) × (1 ≤ k) × (k ≤ 8) ⌝ }
+    requires { ⌜ (isRow (now row) ≡ true) × (blockLength ≤ length (now row)) × (1 ≤ k) × (k ≤ 8) ⌝ }
 {
     let a = text(out, at, row::session(row, k));
     let b = say(out, a, b" on ");
@@ -226,7 +227,7 @@ fn access_at(out: &mut [u8; 4096], at: usize, row: &[u8], k: usize) -> usize
 
 // The line of the i-th access by age, the oldest being the first.
 pub fn access(out: &mut [u8; 4096], row: &[u8], i: usize) -> usize
-    requires { ⌜ (isRow (now row) ≡ true) × (512 ≤ length (now row)) ⌝ }
+    requires { ⌜ (isRow (now row) ≡ true) × (blockLength ≤ length (now row)) ⌝ }
 {
     if i < 1 {
         return 0;

@@ -7,10 +7,11 @@ ghost use mathlib.Core.Bool.{true};
 ghost use Prim.Native.Nat.{_≤_};
 ghost use lib.ListN.{length};
 ghost use Rattle.table.specs.Soundness.{isRow};
+ghost use Rattle.table.specs.TheTable.{blockLength};
 
 // The labels of a sound row.
 fn entries(row: &[u8], out: &mut [u8; 4096])
-    requires { ⌜ (isRow (now row) ≡ true) × (512 ≤ length (now row)) ⌝ }
+    requires { ⌜ (isRow (now row) ≡ true) × (blockLength ≤ length (now row)) ⌝ }
 {
     let mut e: usize = 1;
     while e < 5 {
@@ -22,7 +23,7 @@ fn entries(row: &[u8], out: &mut [u8; 4096])
 
 // The accesses of a sound row, from the oldest on.
 fn accesses(row: &[u8], out: &mut [u8; 4096])
-    requires { ⌜ (isRow (now row) ≡ true) × (512 ≤ length (now row)) ⌝ }
+    requires { ⌜ (isRow (now row) ≡ true) × (blockLength ≤ length (now row)) ⌝ }
 {
     let mut i: usize = 1;
     while i < 9 {
@@ -34,7 +35,7 @@ fn accesses(row: &[u8], out: &mut [u8; 4096])
 
 // The line below a row that no lookup finds.
 fn say_hidden(table: &[u8], form: u32, i: usize, row: &[u8], out: &mut [u8; 4096])
-    requires { ⌜ 512 ≤ length (now row) ⌝ }
+    requires { ⌜ blockLength ≤ length (now row) ⌝ }
 {
     let n = tool_faults::hidden(out, table, form, i, row);
     tool_files::print(out, n);
@@ -42,7 +43,7 @@ fn say_hidden(table: &[u8], form: u32, i: usize, row: &[u8], out: &mut [u8; 4096
 
 // A row that is not free.
 fn show_row(table: &[u8], form: u32, i: usize, row: &[u8], out: &mut [u8; 4096])
-    requires { ⌜ (isRow (now row) ≡ true) × (512 ≤ length (now row)) ⌝ }
+    requires { ⌜ (isRow (now row) ≡ true) × (blockLength ≤ length (now row)) ⌝ }
 {
     if !soundness::row_sound(row) {
         let n = tool_row_lines::unsound(out, i, row);

@@ -9,6 +9,7 @@ use borrow.Author.Needs.{needs}
 use Rattle.changes.proofs.Rows.{count-of, entry-law, row-size}
 use Rattle.changes.proofs.append_entry.Statement.{statement}
 use Rattle.changes.proofs.append_entry.Tie as tie
+use Rattle.table.specs.TheTable.{blockLength}
 
 slice-read-n : tie.Need-slice-read-n
 slice-read-n c =
@@ -29,7 +30,7 @@ part-write-more-end c =
 write-more-requires : tie.Need-write-more-requires
 write-more-requires c κs = let start = c .before .before .before .before in
     let r = start .args .row .now in
-    (length-take-le 512 r (omega (arith, row-size r (start .pre .0))), omega (arith, count-of r (start .pre .0), start .pre .1), start .pre .2)
+    (length-take-le blockLength r (omega (arith, row-size r (start .pre .0))), omega (arith, count-of r (start .pre .0), start .pre .1), start .pre .2)
 
 same-length : tie.Need-same-length
 same-length c = search needs
@@ -37,7 +38,7 @@ same-length c = search needs
 returns : tie.Need-returns
 returns c = let start = c .before .before .before .before .before .before .before in
     let r = start .args .row .now in
-    ap (λ (t : List ℕ). t ++ drop 512 r) (c .before .before .write-more .ensures)
+    ap (λ (t : List ℕ). t ++ drop blockLength r) (c .before .before .write-more .ensures)
     ∙ entry-law r (record { label = start .args .label .now; flags = start .args .flags; limit = start .args .limit }) (start .pre .0) (start .pre .1)
 
 pub append-entry-spec : {M : Type 1} → statement M

@@ -6,7 +6,7 @@ use native.Mathlib.Omega.{arith}
 use lib.Count.{ones}
 use lib.ListN.{length, getD, take, drop, set}
 use Rattle.octets.specs.Texts.{part, put, zeros}
-use Rattle.table.specs.TheTable.{formOf, placeLength, placeStart, readRow}
+use Rattle.table.specs.TheTable.{blockLength, formOf, placeLength, placeStart, readRow}
 use Rattle.table.proofs.Form.{is-sized}
 use Rattle.changes.specs.Changes.{Opening, freed, keptIn, lowestFree}
 use Rattle.changes.specs.Writes.{closedUp, headWith, lowestClear, openedBytes}
@@ -148,7 +148,7 @@ write-line-requires c κs =
     let at = c .before .before .before .before .before .before .before .before .before .before .start2 in
     let cut = c .before .before .before .before .before .before .before .before .before .before .before .before .start in
     let a : ℕ = at .result in
-    let n : ℕ = (length r - 512) / 8 in
+    let n : ℕ = (length r - blockLength) / 8 in
     let q : Opening = record { session = start .args .session .now; host = start .args .host .now; realm = keptIn fm (start .args .realm .now) } in
     let o : List ℕ = openedBytes fm (start .args .entry) q in
     let w = c .before .before .before .before .write-access in
@@ -162,9 +162,9 @@ write-line-requires c κs =
     let place : v ≡ put r (placeStart fm k) (zeros (placeLength fm)) = zeroed .ensures ∙ (λ i. put r (cut .ensures .0 i) (zeros (long i))) in
     let in-8 = place-in r (start .pre .0) k (start .pre .1) in
     head-agrees r z (start .pre .0)
-    (ap (take 512) taken
+    (ap (take blockLength) taken
     ∙ head-stays fm v (lowest .result) o (omega (arith, at .ensures .0, fits))
-    ∙ ap (take 512) place
+    ∙ ap (take blockLength) place
     ∙ head-stays fm r k (zeros (placeLength fm)) (omega (arith, place-inside r k size (in-8 .0) (in-8 .1))))
 
 same-length : tie.Need-same-length
@@ -184,7 +184,7 @@ returns c =
     let at = c .before .before .before .before .before .before .before .before .before .before .before .before .before .start2 in
     let p : ℕ = lowest .result in
     let a : ℕ = at .result in
-    let n : ℕ = (length r - 512) / 8 in
+    let n : ℕ = (length r - blockLength) / 8 in
     let q : Opening = record { session = start .args .session .now; host = start .args .host .now; realm = keptIn fm (start .args .realm .now) } in
     let o : List ℕ = openedBytes fm e q in
     let w = c .before .before .before .before .before .before .before .write-access in
@@ -199,10 +199,10 @@ returns c =
     let taken : z ≡ put (put r (placeStart fm k) (zeros (placeLength fm))) (placeStart fm p) o = came-back v fm p a n e (start .args .session .now) (start .args .host .now) (start .args .realm .now) (w .last .0) (at .ensures .0) long fits (w .ensures) ∙ ap (λ (t : List ℕ). put t (placeStart fm p) o) free in
     let bits : getD r 17 0 - bit .result ≡ getD r 17 0 - 2 ^ (k - 1) = ap (λ (x : ℕ). getD r 17 0 - x) (bit .ensures) in
     let m : ℕ = ones (getD r 17 0 - 2 ^ (k - 1)) in (
-      ap (λ (t : List ℕ). t ++ drop 512 z)
+      ap (λ (t : List ℕ). t ++ drop blockLength z)
           (c .before .before .write-line .ensures
-          ∙ (λ i. headWith (take 512 z) (bits i + c .before .before .before .bit-of2 .ensures i) (set (closed .ensures i) (ones (bits i)) p)))
-          ∙ ap (λ (t : List ℕ). putHead t (headWith (take 512 t) (getD r 17 0 - 2 ^ (k - 1) + 2 ^ (p - 1)) (set (closedUp (part r 20 8) k) m p))) taken
+          ∙ (λ i. headWith (take blockLength z) (bits i + c .before .before .before .bit-of2 .ensures i) (set (closed .ensures i) (ones (bits i)) p)))
+          ∙ ap (λ (t : List ℕ). putHead t (headWith (take blockLength t) (getD r 17 0 - 2 ^ (k - 1) + 2 ^ (p - 1)) (set (closedUp (part r 20 8) k) m p))) taken
           ∙ cut-law r k (start .pre .0) (start .pre .1) e q p m place (cut-ones r k (start .pre .0) (start .pre .1)),
       place,
     )

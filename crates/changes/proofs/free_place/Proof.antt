@@ -5,7 +5,7 @@ use Prim.Native.Nat.{ℕ, _-_, _^_}
 use native.Mathlib.Omega.{arith}
 use lib.ListN.{getD, take, drop}
 use Rattle.octets.specs.Texts.{part, put, zeros}
-use Rattle.table.specs.TheTable.{formOf, placeLength, placeStart}
+use Rattle.table.specs.TheTable.{blockLength, formOf, placeLength, placeStart}
 use Rattle.table.proofs.Form.{is-sized}
 use Rattle.changes.specs.Writes.{closedUp, headWith}
 use Rattle.changes.proofs.Puts.{putHead}
@@ -80,7 +80,7 @@ write-line-requires c κs =
     let at = c .before .before .before .before .before .start in
     let zeroed = c .before .before .before .put-zeros in
     let place : zeroed .last .0 ≡ put r (placeStart (formOf r) k) (zeros (placeLength (formOf r))) = zeroed .ensures ∙ (λ i. put r (at .ensures .0 i) (zeros (place-long r size i))) in
-    head-agrees r (zeroed .last .0) (start .pre .0) (ap (take 512) place ∙ head-stays (formOf r) r k (zeros (placeLength (formOf r))) (omega (arith, place-inside r k size (w .0) (w .1))))
+    head-agrees r (zeroed .last .0) (start .pre .0) (ap (take blockLength) place ∙ head-stays (formOf r) r k (zeros (placeLength (formOf r))) (omega (arith, place-inside r k size (w .0) (w .1))))
 
 same-length : tie.Need-same-length
 same-length c = search needs
@@ -97,11 +97,11 @@ returns c =
     let k = start .args .k in
     let z : List ℕ = zeroed .last .0 in
     let place : z ≡ put r (placeStart (formOf r) k) (zeros (placeLength (formOf r))) = zeroed .ensures ∙ (λ i. put r (at .ensures .0 i) (zeros (place-long r (row-size r (start .pre .0)) i))) in
-    ap (λ (t : List ℕ). t ++ drop 512 z)
+    ap (λ (t : List ℕ). t ++ drop blockLength z)
     (written .ensures
-    ∙ ap (λ (x : ℕ). headWith (take 512 z) (getD r 17 0 - x) (closed .result)) (bit .ensures)
-    ∙ ap (λ (t : List ℕ). headWith (take 512 z) (getD r 17 0 - 2 ^ (k - 1)) t) (closed .ensures))
-    ∙ ap (λ (t : List ℕ). putHead t (headWith (take 512 t) (getD r 17 0 - 2 ^ (k - 1)) (closedUp (part r 20 8) k))) place
+    ∙ ap (λ (x : ℕ). headWith (take blockLength z) (getD r 17 0 - x) (closed .result)) (bit .ensures)
+    ∙ ap (λ (t : List ℕ). headWith (take blockLength z) (getD r 17 0 - 2 ^ (k - 1)) t) (closed .ensures))
+    ∙ ap (λ (t : List ℕ). putHead t (headWith (take blockLength t) (getD r 17 0 - 2 ^ (k - 1)) (closedUp (part r 20 8) k))) place
     ∙ free-law r k (start .pre .0) (start .pre .1)
 
 pub free-place-spec : {M : Type 1} → statement M

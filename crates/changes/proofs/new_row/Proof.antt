@@ -5,7 +5,7 @@ use Prim.Native.Nat.{ℕ, _+_, _-_}
 use native.Mathlib.Omega.{arith}
 use lib.ListN.{length, drop}
 use Rattle.octets.specs.Texts.{put, zeros}
-use Rattle.table.specs.TheTable.{formOf, rowLength}
+use Rattle.table.specs.TheTable.{blockLength, formOf, rowLength}
 use Rattle.table.proofs.Rows.{width-least}
 use Rattle.changes.proofs.Rows.{new-law}
 use borrow.Author.Needs.{needs}
@@ -68,7 +68,7 @@ returns c =
     let name-was = c .before .before .before .before .before .before .put-bytes3 in
     let z : List ℕ = name-was .last .0 in
     let cleared : clear-was .last .0 ≡ zeros (rowLength fm) = clear-was .ensures ∙ ap zeros (start .pre .0) in
-    ap (λ (t : List ℕ). t ++ drop 512 z) (c .before .before .seal .ensures)
+    ap (λ (t : List ℕ). t ++ drop blockLength z) (c .before .before .seal .ensures)
     ∙ new-law fm (given .op) name z (start .pre .1)
     (name-was .ensures
     ∙ ap (λ (t : List ℕ). put t 2 name) (head-was .ensures

@@ -6,7 +6,7 @@ use native.Mathlib.Omega.{arith}
 use lib.Count.{ones}
 use lib.ListN.{length, getD, take, drop, set}
 use Rattle.octets.specs.Texts.{part, put}
-use Rattle.table.specs.TheTable.{formOf, placeStart, readRow}
+use Rattle.table.specs.TheTable.{blockLength, formOf, placeStart, readRow}
 use Rattle.table.proofs.Form.{is-sized}
 use Rattle.changes.specs.Changes.{Opening, keptIn, lowestFree}
 use Rattle.changes.specs.Writes.{headWith, openedBytes}
@@ -87,7 +87,7 @@ enlist-requires c κs =
     let lowest = c .before .before .before .before .before .before .before .before .lowest-free in
     let at = c .before .before .before .before .before .before .start in
     let a : ℕ = at .result in
-    let n : ℕ = (length r - 512) / 8 in
+    let n : ℕ = (length r - blockLength) / 8 in
     let q : Opening = record { session = start .args .session .now; host = start .args .host .now; realm = keptIn (formOf r) (start .args .realm .now) } in
     let o : List ℕ = openedBytes (formOf r) (start .args .entry) q in
     let w = c .before .before .before .before .write-access in
@@ -95,7 +95,7 @@ enlist-requires c κs =
     let fits : a + n ≤ length r = omega (arith, at .ensures .2, long) in
     let z : List ℕ = take a r ++ (w .last .0 ++ drop (a + n - a) (drop a r)) in
     let taken : z ≡ put r (placeStart (formOf r) (lowest .result)) o = came-back r (formOf r) (lowest .result) a n (start .args .entry) (start .args .session .now) (start .args .host .now) (start .args .realm .now) (w .last .0) (at .ensures .0) long fits (w .ensures) in
-    let agrees = head-agrees r z (start .pre .0) (ap (take 512) taken ∙ head-stays (formOf r) r (lowest .result) o (omega (arith, at .ensures .0, at .ensures .2))) in
+    let agrees = head-agrees r z (start .pre .0) (ap (take blockLength) taken ∙ head-stays (formOf r) r (lowest .result) o (omega (arith, at .ensures .0, at .ensures .2))) in
     (agrees .0, agrees .1, omega (arith, ones-byte r (start .pre .0), start .pre .1))
 
 same-length : tie.Need-same-length
@@ -110,7 +110,7 @@ returns c =
     let at = c .before .before .before .before .before .before .before .before .before .start in
     let p : ℕ = lowest .result in
     let a : ℕ = at .result in
-    let n : ℕ = (length r - 512) / 8 in
+    let n : ℕ = (length r - blockLength) / 8 in
     let q : Opening = record { session = start .args .session .now; host = start .args .host .now; realm = keptIn (formOf r) (start .args .realm .now) } in
     let w = c .before .before .before .before .before .before .before .write-access in
     let place : p ≡ lowestFree ((readRow r) .accesses) = lowest .ensures .0 ∙ lowest-is r (start .pre .0) (start .pre .1) in
@@ -119,8 +119,8 @@ returns c =
     let z : List ℕ = take a r ++ (w .last .0 ++ drop (a + n - a) (drop a r)) in
     let taken : z ≡ put r (placeStart (formOf r) p) (openedBytes (formOf r) e q) = came-back r (formOf r) p a n e (start .args .session .now) (start .args .host .now) (start .args .realm .now) (w .last .0) (at .ensures .0) long fits (w .ensures) in
     let m : ℕ = ones (getD r 17 0) in (
-      ap (λ (t : List ℕ). t ++ drop 512 z) (c .before .before .enlist .ensures ∙ ap (λ (x : ℕ). headWith (take 512 z) (getD r 17 0 + x) (set (part (take 512 z) 20 8) m p)) (c .before .before .before .bit-of .ensures))
-          ∙ ap (λ (t : List ℕ). putHead t (headWith (take 512 t) (getD r 17 0 + 2 ^ (p - 1)) (set (part (take 512 t) 20 8) m p))) taken
+      ap (λ (t : List ℕ). t ++ drop blockLength z) (c .before .before .enlist .ensures ∙ ap (λ (x : ℕ). headWith (take blockLength z) (getD r 17 0 + x) (set (part (take blockLength z) 20 8) m p)) (c .before .before .before .bit-of .ensures))
+          ∙ ap (λ (t : List ℕ). putHead t (headWith (take blockLength t) (getD r 17 0 + 2 ^ (p - 1)) (set (part (take blockLength t) 20 8) m p))) taken
           ∙ open-law r (start .pre .0) (start .pre .1) e q p m place (ones-byte r (start .pre .0)),
       place,
     )

@@ -6,7 +6,7 @@ use native.Mathlib.Omega.{arith}
 use lib.ListN.{length}
 use Rattle.octets.specs.Texts.{put}
 use Rattle.octets.proofs.Texts.{back-put}
-use Rattle.table.specs.TheTable.{Policies, formOf, place}
+use Rattle.table.specs.TheTable.{blockLength, Policies, formOf, place}
 use Rattle.table.proofs.Form.{is-sized}
 use Rattle.table.proofs.Rows.{lent-length}
 use Rattle.changes.specs.Writes.{routedBytes}
@@ -42,7 +42,7 @@ write-policies-requires c κs =
     let start = c .before .before .before .before .before .before .before in
     let r = start .args .row .now in
     let at = c .before .start in
-    let n : ℕ = (length r - 512) / 8 in
+    let n : ℕ = (length r - blockLength) / 8 in
     let long = place-long r (row-size r (start .pre .0)) in
     let fits : at .result + n ≤ length r = omega (arith, at .ensures .2, long) in
     let room = room-of r (formOf r) (at .result) n fits long (at .ensures .4) (at .ensures .5) in
@@ -58,7 +58,7 @@ returns c =
     let k = start .args .k in
     let at = c .before .before .before .before .start in
     let a : ℕ = at .result in
-    let n : ℕ = (length r - 512) / 8 in
+    let n : ℕ = (length r - blockLength) / 8 in
     let w = c .before .before .write-policies in
     let policies : Policies = record { first = start .args .first .now; second = start .args .second .now; third = start .args .third .now } in
     let long = place-long r (row-size r (start .pre .0)) in

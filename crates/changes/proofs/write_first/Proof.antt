@@ -5,7 +5,7 @@ use Prim.Native.Nat.{ℕ, _-_}
 use lib.ListN.{length, take}
 use borrow.Author.Needs.{needs}
 use Rattle.octets.specs.Texts.{put, zeros}
-use Rattle.table.specs.TheTable.{sealed}
+use Rattle.table.specs.TheTable.{blockLength, sealed}
 use Rattle.changes.proofs.Blocks.{first-put}
 use Rattle.changes.proofs.write_first.Statement.{statement}
 use Rattle.changes.proofs.write_first.Tie as tie
@@ -47,7 +47,7 @@ returns c = let d = c .before .before in
     let s = start .args .session .now in
     let h = start .args .host .now in
     let head : List ℕ = 2 ∷ start .args .entry ∷ length s ∷ length h ∷ [] in
-    let cleared : z .clear .last .0 ≡ zeros 512 = z .clear .ensures ∙ ap zeros (start .pre .0) in
+    let cleared : z .clear .last .0 ≡ zeros blockLength = z .clear .ensures ∙ ap zeros (start .pre .0) in
     d .seal .ensures
     ∙ ap (λ (t : List ℕ). sealed (take 510 t))
     (w3 .put-text2 .ensures

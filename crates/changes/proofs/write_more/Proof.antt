@@ -8,7 +8,7 @@ use borrow.Author.Needs.{needs}
 use borrow.Rule.Slice.PartMut.{same-len-mid}
 use Rattle.octets.specs.Texts.{put}
 use Rattle.octets.proofs.Texts.{back-put}
-use Rattle.table.specs.TheTable.{Entry, entryBytes, sealed}
+use Rattle.table.specs.TheTable.{blockLength, Entry, entryBytes, sealed}
 use Rattle.table.proofs.Bytes.{length-entry}
 use Rattle.changes.proofs.Blocks.{more-put}
 use Rattle.changes.proofs.write_more.Statement.{statement}
@@ -50,7 +50,7 @@ seal-requires c κs = let w = c .before .before .before in
     let n = w .before .before .long .result in
     let at : ℕ = 32 + 104 * n in
     let room : List ℕ = set (start .args .block .now) 18 (start .args .n + 1) in
-    let size : length room ≡ 512 = length-set (start .args .block .now) 18 (start .args .n + 1) ∙ start .pre .0 in
+    let size : length room ≡ blockLength = length-set (start .args .block .now) 18 (start .args .n + 1) ∙ start .pre .0 in
     same-len-mid at (at + 104 - at) room (w .write-entry .last .0) (w .write-entry .kept .0) ∙ size
 
 same-length : tie.Need-same-length

@@ -4,7 +4,7 @@ use mathlib.Core.List.{List, [], _∷_}
 use Prim.Native.Nat.{ℕ, _-_}
 use lib.ListN.{length, take}
 use Rattle.octets.specs.Texts.{put, zeros}
-use Rattle.table.specs.TheTable.{sealed}
+use Rattle.table.specs.TheTable.{blockLength, sealed}
 use Rattle.changes.proofs.Blocks.{second-put}
 use borrow.Author.Needs.{needs}
 use Rattle.changes.proofs.write_second.Statement.{statement}
@@ -40,7 +40,7 @@ returns c =
     let start = z .before .before .before .before in
     let r = start .args .realm .now in
     let head : List ℕ = 3 ∷ length r ∷ [] in
-    let cleared : z .clear .last .0 ≡ zeros 512 = z .clear .ensures ∙ ap zeros (start .pre .0) in
+    let cleared : z .clear .last .0 ≡ zeros blockLength = z .clear .ensures ∙ ap zeros (start .pre .0) in
     d .seal .ensures
     ∙ ap (λ (t : List ℕ). sealed (take 510 t))
     (w2 .put-text .ensures ∙ ap (λ (t : List ℕ). put t 8 r) (w1 .put-bytes .ensures ∙ ap (λ (t : List ℕ). put t 0 head) cleared))

@@ -9,7 +9,7 @@ use Rattle.octets.specs.Texts.{filled, part, put}
 use Rattle.octets.proofs.Texts.{length-part}
 use Rattle.table.specs.Answers.{lent}
 use Rattle.table.specs.Soundness.{isRow, sound}
-use Rattle.table.specs.TheTable.{accessAt, firstBlock, formOf, orderLine, place, rowAt}
+use Rattle.table.specs.TheTable.{blockLength, accessAt, firstBlock, formOf, orderLine, place, rowAt}
 use Rattle.table.proofs.Form.{length-first-of, sized}
 use Rattle.row.proofs.Entries.{row-of}
 use Rattle.rules.specs.Calls.{noticeRoom}
@@ -39,7 +39,7 @@ put-bytes-requires c κs =
     let pre-was = c .before .before .before .before .before .pre in
     let r = rowAt (lent (given .form) (given .table .now)) (given .i) in
     let b = firstBlock (place (at-was .result .now) (given .k)) in
-    let whole : length b ≡ 512 =
+    let whole : length b ≡ blockLength =
     length-first-of (at-was .result .now) (given .k) (sized (at-was .result .now) (ap isRow (at-was .ensures) ∙ row-of r (pre-was .3)))
     (at-least r (pre-was .3) (given .k) (pre-was .4)) (at-most r (pre-was .3) (given .k) (pre-was .4)) in
     omega (arith, ap length (notice-rooms-was .ensures), length-part b 8 256 (omega (arith, whole)), notice-least (given .form), pre-was .0)

@@ -6,6 +6,7 @@ use Rattle.moving.proofs.Loops.{free-block, one-block, used-block}
 use borrow.Author.Needs.{needs}
 use Rattle.moving.proofs.move_place.Statement.{statement}
 use Rattle.moving.proofs.move_place.Tie as tie
+use Rattle.table.specs.TheTable.{blockLength}
 
 returns-3 : tie.Need-returns-3
 returns-3 c =
@@ -60,7 +61,7 @@ same-length-3 c =
     let given = c .before .before .before .before .before .before .before .before .before .before .before .before .before .args in
     let clear-was = c .before .before .before .before .before .before .before .before .before .clear in
     let q = put-text-was .last .0 in
-    let e : length (set (set q 512 3) 1023 3) ≡ length (given .place .now) = length-set (set q 512 3) 1023 3 ∙ length-set q 512 3 ∙ omega (arith, put-text-was .kept .0, clear-was .kept .0) in
+    let e : length (set (set q blockLength 3) 1023 3) ≡ length (given .place .now) = length-set (set q blockLength 3) 1023 3 ∙ length-set q blockLength 3 ∙ omega (arith, put-text-was .kept .0, clear-was .kept .0) in
     e
 
 pub move-place-spec : {M : Type 1} → statement M

@@ -4,6 +4,7 @@ use Prim.Native.Nat.{ℕ, _+_, _-_, _*_, _/_, _%_, _≤_}
 use native.Mathlib.Omega.{arith}
 use lib.ListN.{length, take}
 use Rattle.octets.proofs.Pieces.{piece-ends}
+use Rattle.table.specs.TheTable.{blockLength}
 use Rattle.table.proofs.Rows.{lent-length}
 use Rattle.moving.proofs.Built.{back-built, back-length, built, built-all, built-start}
 use Rattle.moving.proofs.Steps.{eight-parts, first-size, place-by, placeFrom, places-built}
@@ -67,7 +68,7 @@ move-place-requires c κs =
     let loop-test-was = c .before .before .loop-test in
     let pre-was = c .before .before .before .before .before .before .pre in
     let first-was = c .before .first in
-    let l = (lent-length (loop-was .places) ((length (given .places .now) / 8) * loop-was .k) (length (given .places .now) / 8) (omega (arith, piece-ends (length (given .places .now) / 8) (loop-was .k) 8 (loop-test-was .taken), eight-parts (length (given .places .now)) (pre-was .1) (pre-was .2) (pre-was .3) .0, loop-was .inv .1))) in let z = eight-parts (length (given .places .now)) (pre-was .1) (pre-was .2) (pre-was .3) in (first-size (given .from .now) (loop-was .k) (first-was .result .now) (pre-was .0) (loop-test-was .taken) (first-was .ensures), omega (arith, l, z .1), omega (arith, l, z .2), ap (λ (n : ℕ). n % 512) l ∙ z .3)
+    let l = (lent-length (loop-was .places) ((length (given .places .now) / 8) * loop-was .k) (length (given .places .now) / 8) (omega (arith, piece-ends (length (given .places .now) / 8) (loop-was .k) 8 (loop-test-was .taken), eight-parts (length (given .places .now)) (pre-was .1) (pre-was .2) (pre-was .3) .0, loop-was .inv .1))) in let z = eight-parts (length (given .places .now)) (pre-was .1) (pre-was .2) (pre-was .3) in (first-size (given .from .now) (loop-was .k) (first-was .result .now) (pre-was .0) (loop-test-was .taken) (first-was .ensures), omega (arith, l, z .1), omega (arith, l, z .2), ap (λ (n : ℕ). n % blockLength) l ∙ z .3)
 
 add-k : tie.Need-add-k Inv-loop μ-loop
 add-k c = search needs

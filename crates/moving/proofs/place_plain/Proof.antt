@@ -9,6 +9,7 @@ use Rattle.moving.proofs.Loops.{realm-none, realm-there}
 use borrow.Author.Needs.{needs}
 use Rattle.moving.proofs.place_plain.Statement.{statement}
 use Rattle.moving.proofs.place_plain.Tie as tie
+use Rattle.table.specs.TheTable.{blockLength}
 
 second-requires : tie.Need-second-requires
 second-requires c κs = search needs
@@ -18,7 +19,7 @@ realm-requires c κs =
     let second-was = c .second in
     let given = c .before .before .args in
     let pre-was = c .before .before .pre in
-    ap (λ (c : List ℕ). length c % 512) (second-was .ensures) ∙ second-whole (given .r .now) (given .k) (pre-was .0) (pre-was .1) (pre-was .2)
+    ap (λ (c : List ℕ). length c % blockLength) (second-was .ensures) ∙ second-whole (given .r .now) (given .k) (pre-was .0) (pre-was .1) (pre-was .2)
 
 returns : tie.Need-returns
 returns c =
@@ -33,7 +34,7 @@ second-policy-requires c κs =
     let second-was = c .before .before .second in
     let given = c .before .before .before .before .args in
     let pre-was = c .before .before .before .before .pre in
-    ap (λ (c : List ℕ). length c % 512) (second-was .ensures) ∙ second-whole (given .r .now) (given .k) (pre-was .0) (pre-was .1) (pre-was .2)
+    ap (λ (c : List ℕ). length c % blockLength) (second-was .ensures) ∙ second-whole (given .r .now) (given .k) (pre-was .0) (pre-was .1) (pre-was .2)
 
 returns-2 : tie.Need-returns-2
 returns-2 c =
