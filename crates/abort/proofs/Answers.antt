@@ -14,7 +14,7 @@ use Rattle.octets.specs.Numbers.{net24, net32, up4}
 use Rattle.octets.specs.Texts.{part, same}
 use Rattle.octets.proofs.Lists.{by-test, and-left, eqb-comm}
 use Rattle.octets.proofs.Texts.{length-part}
-use Rattle.message.specs.CallsThatGetNoAnswer.{messageNumber}
+use Rattle.message.specs.CallsThatGetNoAnswer.{messageMost, messageNumber}
 use Rattle.message.specs.ReadingAMessage.{Name, base, vendor, sameName, sessionId, Avp, headLength, avpLength, avpCode, avpOf, Walk, behind, walk, command, having, firstValue, valueOf, startsWith}
 use Rattle.message.proofs.Heads.{number-short, number-long, net24-drop, net32-drop, head-v, head-base, name-v, name-base, code-few, code-none}
 use Rattle.message.proofs.Walks.{Passed, passes, head-least, up4-least, walk-end, walk-bad, walk-one}
@@ -35,11 +35,11 @@ module _ (hop end : ℕ) (m : List ℕ) where
       (λ t. leb-true 20 (length m) t)
       (λ t. let z = number-short m (leb-false 20 (length m) t) in absurd (omega arith))
 
-  pub has-end : messageNumber m ≡ 8 → length m ≤ 4096
+  pub has-end : messageNumber m ≡ 8 → length m ≤ messageMost
   has-end h =
-      by-test (leb (length m) 4096)
-      (λ t. leb-true (length m) 4096 t)
-      (λ t. let z = number-long m (has-header h) (leb-false (length m) 4096 t) in absurd (omega arith))
+      by-test (leb (length m) messageMost)
+      (λ t. leb-true (length m) messageMost t)
+      (λ t. let z = number-long m (has-header h) (leb-false (length m) messageMost t) in absurd (omega arith))
 
   module _ (h : messageNumber m ≡ 8) where
     pub to-command : (command m ≡ 274 → ⊥) → answersTo hop end m ≡ false
@@ -55,7 +55,7 @@ module _ (hop end : ℕ) (m : List ℕ) where
       unfolding answersTo
       to-end p = rw (eq-eqb (messageNumber m) 8 h, eq-eqb (command m) 274 c, eq-eqb (net32 m 12) hop p)
 
-  pub to-size : answersTo hop end m ≡ true → length m ≤ 4096
+  pub to-size : answersTo hop end m ≡ true → length m ≤ messageMost
   unfolding answersTo
   to-size e = has-end (eqb-true (messageNumber m) 8 (and-left (eqb (messageNumber m) 8) _ e))
 
@@ -234,7 +234,7 @@ module _ (m : List ℕ) (at left : ℕ) (h : at + left ≡ length m) where
   pub at-bits : (getD m (at + 4) 0 % 32 ≡ 0 → ⊥) → passedLength (drop at m) ≡ 0
   at-bits f = no-length (drop at m) (λ p. f (rw getD-drop at (p .clear)))
 
-  pub at-high : left ≤ 4096 → (getD m (at + 5) 0 ≡ 0 → ⊥) → passedLength (drop at m) ≡ 0
+  pub at-high : left ≤ messageMost → (getD m (at + 5) 0 ≡ 0 → ⊥) → passedLength (drop at m) ≡ 0
   unfolding net24
   at-high l f =
       no-length (drop at m)

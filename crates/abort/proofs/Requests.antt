@@ -13,10 +13,11 @@ use Rattle.octets.specs.Numbers.{in24, in32}
 use Rattle.octets.proofs.Lists.{and-left, and-right, within-high}
 use Rattle.octets.proofs.Choice.{first-passes, others-pass, passed}
 use Rattle.octets.proofs.Texts.{length-part}
+use Rattle.message.specs.TheRooms.{longNotice}
 use Rattle.message.specs.WritingTheAnswer.{avpBytes}
 use Rattle.answers.specs.Answers.{Written as WrittenTo}
 use Rattle.answers.proofs.Writing.{length-number, avp-most, written-nothing, written-seven, head-put}
-use Rattle.abort.specs.TheDisconnection.{Cut, abortNumber, Abort, abortOf, abortAvps, header, abortRequest, writeAbort}
+use Rattle.abort.specs.TheDisconnection.{abortLeast, Cut, abortNumber, Abort, abortOf, abortAvps, header, abortRequest, writeAbort}
 use Rattle.abort.specs.Code.{cutOf, saying, leaves, Short, Sent}
 
 -- THE NUMBERS
@@ -32,43 +33,43 @@ module _ (host realm : List ℕ) (c : Cut) (room : List ℕ) where
     number-realm r = rw (h, r)
 
     module _ (r : within 1 128 (length realm) ≡ true) where
-      pub number-notice : length (c .notice) < 384 → abortNumber host realm c room ≡ 4
+      pub number-notice : length (c .notice) < longNotice → abortNumber host realm c room ≡ 4
       unfolding abortNumber firstOf require pick
-      number-notice n = rw (h, r, lt-leb 384 (length (c .notice)) n)
+      number-notice n = rw (h, r, lt-leb longNotice (length (c .notice)) n)
 
-      module _ (n : 384 ≤ length (c .notice)) where
+      module _ (n : longNotice ≤ length (c .notice)) where
         pub number-session : within 1 128 (c .cutSession) ≡ false → abortNumber host realm c room ≡ 22
         unfolding abortNumber firstOf require pick
-        number-session s = rw (h, r, le-leb 384 (length (c .notice)) n, s)
+        number-session s = rw (h, r, le-leb longNotice (length (c .notice)) n, s)
 
         module _ (s : within 1 128 (c .cutSession) ≡ true) where
           pub number-gateway : within 1 128 (c .cutHost) ≡ false → abortNumber host realm c room ≡ 22
           unfolding abortNumber firstOf require pick
-          number-gateway g = rw (h, r, le-leb 384 (length (c .notice)) n, s, g)
+          number-gateway g = rw (h, r, le-leb longNotice (length (c .notice)) n, s, g)
 
           module _ (g : within 1 128 (c .cutHost) ≡ true) where
             pub number-gateway-realm : within 1 128 (c .cutRealm) ≡ false → abortNumber host realm c room ≡ 22
             unfolding abortNumber firstOf require pick
-            number-gateway-realm q = rw (h, r, le-leb 384 (length (c .notice)) n, s, g, q)
+            number-gateway-realm q = rw (h, r, le-leb longNotice (length (c .notice)) n, s, g, q)
 
             module _ (q : within 1 128 (c .cutRealm) ≡ true) where
-              pub number-room : length room < 1024 → abortNumber host realm c room ≡ 23
+              pub number-room : length room < abortLeast → abortNumber host realm c room ≡ 23
               unfolding abortNumber firstOf require pick
-              number-room l = rw (h, r, le-leb 384 (length (c .notice)) n, s, g, q, lt-leb 1024 (length room) l)
+              number-room l = rw (h, r, le-leb longNotice (length (c .notice)) n, s, g, q, lt-leb abortLeast (length room) l)
 
-              pub number-none : 1024 ≤ length room → abortNumber host realm c room ≡ 0
+              pub number-none : abortLeast ≤ length room → abortNumber host realm c room ≡ 0
               unfolding abortNumber firstOf require pick
-              number-none l = rw (h, r, le-leb 384 (length (c .notice)) n, s, g, q, le-leb 1024 (length room) l)
+              number-none l = rw (h, r, le-leb longNotice (length (c .notice)) n, s, g, q, le-leb abortLeast (length room) l)
 
 -- what a call that passes has
 pub record Allowed (host realm : List ℕ) (c : Cut) (room : List ℕ) : Type 0 where
   pub host-fits : length host ≤ 128
   pub realm-fits : length realm ≤ 128
-  pub notice-fits : 384 ≤ length (c .notice)
+  pub notice-fits : longNotice ≤ length (c .notice)
   pub session-fits : c .cutSession ≤ 128
   pub gateway-host-fits : c .cutHost ≤ 128
   pub gateway-realm-fits : c .cutRealm ≤ 128
-  pub room-fits : 1024 ≤ length room
+  pub room-fits : abortLeast ≤ length room
 
 pub allowed : (host realm : List ℕ) (c : Cut) (room : List ℕ) → abortNumber host realm c room ≡ 0 → Allowed host realm c room
 unfolding abortNumber
@@ -77,7 +78,7 @@ allowed host realm c room e =
     let cuts = within 1 128 (c .cutHost) && within 1 128 (c .cutRealm) in
     let lengths = within 1 128 (c .cutSession) && cuts in
     let e1 = others-pass (require names 2) _ e in
-    let e2 = others-pass (require (leb 384 (length (c .notice))) 4) _ e1 in
+    let e2 = others-pass (require (leb longNotice (length (c .notice))) 4) _ e1 in
     let e3 = others-pass (require lengths 22) _ e2 in
     let n : names ≡ true = passed names 2 (omega arith) (first-passes (require names 2) _ e) in
     let l : lengths ≡ true = passed lengths 22 (omega arith) (first-passes (require lengths 22) _ e2) in
@@ -85,11 +86,11 @@ allowed host realm c room e =
     record {
       host-fits = within-high 1 128 (length host) (and-left (within 1 128 (length host)) (within 1 128 (length realm)) n);
       realm-fits = within-high 1 128 (length realm) (and-right (within 1 128 (length host)) (within 1 128 (length realm)) n);
-      notice-fits = leb-true 384 (length (c .notice)) (passed (leb 384 (length (c .notice))) 4 (omega arith) (first-passes (require (leb 384 (length (c .notice))) 4) _ e1));
+      notice-fits = leb-true longNotice (length (c .notice)) (passed (leb longNotice (length (c .notice))) 4 (omega arith) (first-passes (require (leb longNotice (length (c .notice))) 4) _ e1));
       session-fits = within-high 1 128 (c .cutSession) (and-left (within 1 128 (c .cutSession)) cuts l);
       gateway-host-fits = within-high 1 128 (c .cutHost) (and-left (within 1 128 (c .cutHost)) (within 1 128 (c .cutRealm)) k);
       gateway-realm-fits = within-high 1 128 (c .cutRealm) (and-right (within 1 128 (c .cutHost)) (within 1 128 (c .cutRealm)) k);
-      room-fits = leb-true 1024 (length room) (passed (leb 1024 (length room)) 23 (omega arith) (first-passes (require (leb 1024 (length room)) 23) _ e3));
+      room-fits = leb-true abortLeast (length room) (passed (leb abortLeast (length room)) 23 (omega arith) (first-passes (require (leb abortLeast (length room)) 23) _ e3));
     }
 
 -- THE TEXTS
@@ -146,7 +147,7 @@ length-request a =
     ∙ rw (length-header (20 + length (abortAvps a)) 192 274 (a .hop) (a .end))
 
 -- six writes, one behind the other
-pub written-six : (a : Abort) (d0 d1 d2 d3 d4 d5 d6 : List ℕ) (p1 p2 p3 p4 p5 p6 : ℕ) → Short a → 1024 ≤ length d0
+pub written-six : (a : Abort) (d0 d1 d2 d3 d4 d5 d6 : List ℕ) (p1 p2 p3 p4 p5 p6 : ℕ) → Short a → abortLeast ≤ length d0
     → WrittenTo d0 d1 20 p1 (avpBytes 263 (a .session)) → WrittenTo d1 d2 p1 p2 (avpBytes 264 (a .host)) → WrittenTo d2 d3 p2 p3 (avpBytes 296 (a .realm))
     → WrittenTo d3 d4 p3 p4 (avpBytes 283 (a .gatewayRealm)) → WrittenTo d4 d5 p4 p5 (avpBytes 293 (a .gatewayHost)) → WrittenTo d5 d6 p5 p6 (avpBytes 258 (in32 1))
     → WrittenTo d0 d6 20 p6 (abortAvps a)
@@ -160,7 +161,7 @@ written-six a d0 d1 d2 d3 d4 d5 d6 p1 p2 p3 p4 p5 p6 s h w1 w2 w3 w4 w5 w6 =
     rw (append-nil (avpBytes 258 (in32 1))) at all
 
 -- the header in front of them
-pub request-put : (a : Abort) (before after last : List ℕ) (size : ℕ) → Short a → 1024 ≤ length before → WrittenTo before after 20 size (abortAvps a)
+pub request-put : (a : Abort) (before after last : List ℕ) (size : ℕ) → Short a → abortLeast ≤ length before → WrittenTo before after 20 size (abortAvps a)
     → last ≡ put after 0 (header size 192 274 (a .hop) (a .end)) → Sent a size before last
 unfolding abortRequest
 request-put a before after last size s h w e =

@@ -7,6 +7,7 @@ use lib.ListN.{length, drop}
 use Rattle.octets.specs.Choice.{pick, require, firstOf, within}
 use Rattle.octets.specs.Texts.{part, same}
 use Rattle.octets.specs.Numbers.{in24, in32, net32}
+use Rattle.message.specs.TheRooms.{longNotice}
 use Rattle.message.specs.CallsThatGetNoAnswer.{messageNumber}
 use Rattle.message.specs.ReadingAMessage.{Name, base, sessionId, Avp, Walk, walk, body, command, having, valueOf, startsWith}
 use Rattle.message.specs.WritingTheAnswer.{avpBytes}
@@ -21,15 +22,19 @@ pub record Cut : Type 0 where
   pub cutHost : ℕ
   pub cutRealm : ℕ
 
+-- A room for the request.
+abbrev pub abortLeast : ℕ
+abortLeast = 1024
+
 -- In order: the own host and realm have 1 to 128 bytes each, else 2; the notice has 384 bytes or more, else 4; each of the three
 -- lengths is 1 to 128, else 22; the room has 1,024 bytes or more, else 23. The number of the first that fails, 0 where none does.
 unfoldable pub abortNumber : (host realm : List ℕ) → Cut → (room : List ℕ) → ℕ
 abortNumber host realm c room =
     firstOf
     (require (within 1 128 (length host) && within 1 128 (length realm)) 2
-    ∷ require (leb 384 (length (c .notice))) 4
+    ∷ require (leb longNotice (length (c .notice))) 4
     ∷ require (within 1 128 (c .cutSession) && (within 1 128 (c .cutHost) && within 1 128 (c .cutRealm))) 22
-    ∷ require (leb 1024 (length room)) 23
+    ∷ require (leb abortLeast (length room)) 23
     ∷ [])
 
 -- What a request says: the own host and realm, the Session-Id, the gateway's host and realm, and the two identifiers, hop-by-hop and

@@ -9,13 +9,14 @@ ghost use lib.ListN.{length, drop};
 ghost use Rattle.octets.specs.Choice.{within};
 ghost use Rattle.octets.specs.Texts.{put};
 ghost use Rattle.message.specs.ReadingAMessage.{command, walk};
-ghost use Rattle.abort.specs.TheDisconnection.{abortNumber, header, writeAbort, answersTo, answersFor, belongs};
+ghost use Rattle.message.specs.CallsThatGetNoAnswer.{messageMost};
+ghost use Rattle.abort.specs.TheDisconnection.{abortLeast, abortNumber, header, writeAbort, answersTo, answersFor, belongs};
 ghost use Rattle.abort.specs.Code.{cutOf, saying, leaves, Short, Sent, passedLength, plainCode, firstLength, restAnswers, spoilt};
 
 // WRITING THE REQUEST
 
 // The room that a request asks for.
-const ROOM_LEAST: usize = 1024;
+pub const ROOM_LEAST: usize = 1024;
 
 // A number, 0 where the request was written, and its length.
 pub struct Written {
@@ -109,7 +110,7 @@ fn put_request(
     end: u32,
     room: &mut [u8],
 ) -> usize
-    requires { ⌜ Short (saying (now host) (now realm) (now session) (now «gateway_host») (now «gateway_realm») hop end) × (1024 ≤ length (now room)) ⌝ }
+    requires { ⌜ Short (saying (now host) (now realm) (now session) (now «gateway_host») (now «gateway_realm») hop end) × (abortLeast ≤ length (now room)) ⌝ }
     ensures { λ r. ⌜ Sent (saying (now (host .entry)) (now (realm .entry)) (now (session .entry)) (now («gateway_host» .entry)) (now («gateway_realm» .entry)) hop end) r (now (room .entry)) (now (room .exit)) ⌝ }
 {
     let a = answers::put_avp(room, message::HEADER_LENGTH, 263, session);
@@ -202,7 +203,7 @@ fn answers_to(answer: &[u8], hop: u32, end: u32) -> bool
 // The length of the AVP at a place, with so many bytes left from there on; 0 where it fails one of the four tests. Where the first of
 // its three bytes is not zero it is past every answer, so that the other two are read at once.
 fn length_at(m: &[u8], at: usize, left: usize) -> usize
-    requires { ⌜ (at + left ≡ length (now m)) × (left ≤ 4096) ⌝ }
+    requires { ⌜ (at + left ≡ length (now m)) × (left ≤ messageMost) ⌝ }
     ensures { λ r. ⌜ r ≡ passedLength (drop at (now (m .entry))) ⌝ }
 {
     if left < 8 {
@@ -271,7 +272,7 @@ fn is_found(found: bool, code: u32) -> bool
 // The AVPs behind the Session-Id, to the end or to the first for which the answer does not belong. The number of bytes left goes along:
 // the answer's length is then not looked up at each of them.
 fn rest_answers(answer: &[u8], from: usize) -> bool
-    requires { ⌜ (from ≤ length (now answer)) × (length (now answer) ≤ 4096) ⌝ }
+    requires { ⌜ (from ≤ length (now answer)) × (length (now answer) ≤ messageMost) ⌝ }
     ensures { λ r. ⌜ r ≡ restAnswers false (walk (drop from (now (answer .entry)))) ⌝ }
 {
     let mut at: usize = from;
@@ -296,7 +297,7 @@ fn rest_answers(answer: &[u8], from: usize) -> bool
 
 // The length of the first AVP; 0 where it is no Session-Id or fails one of the four tests.
 fn first_length(answer: &[u8]) -> usize
-    requires { ⌜ (28 ≤ length (now answer)) × (length (now answer) ≤ 4096) ⌝ }
+    requires { ⌜ (28 ≤ length (now answer)) × (length (now answer) ≤ messageMost) ⌝ }
     ensures { λ r. ⌜ r ≡ firstLength (drop 20 (now (answer .entry))) ⌝ }
 {
     if octets::read32(answer, message::HEADER_LENGTH) != 263 {
@@ -324,7 +325,7 @@ fn first_length(answer: &[u8]) -> usize
 
 // An answer by its AVPs: for this Session-Id.
 fn answers_for(answer: &[u8], session: &[u8]) -> bool
-    requires { ⌜ (28 ≤ length (now answer)) × (length (now answer) ≤ 4096) ⌝ }
+    requires { ⌜ (28 ≤ length (now answer)) × (length (now answer) ≤ messageMost) ⌝ }
     ensures { λ r. ⌜ r ≡ answersFor (now (session .entry)) (walk (drop 20 (now (answer .entry)))) ⌝ }
 {
     let n = first_length(answer);

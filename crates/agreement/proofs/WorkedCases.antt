@@ -5,6 +5,7 @@ use Rattle.octets.specs.Choice.{pick, require, firstOf, within}
 use Rattle.octets.specs.Lists.{every, keep, distinct, firstOr, sumOf, counted, isOn, upTo0}
 use Rattle.octets.specs.Numbers.{net24, net32, in24, in32, up4}
 use Rattle.octets.specs.Texts.{allZero, filled, pieces, put, same, zeros}
+use Rattle.message.specs.TheRooms.{noticeLength}
 use Rattle.message.specs.CallsThatGetNoAnswer.{messageNumber}
 use Rattle.message.specs.Codes.{numberOf, kindOf}
 use Rattle.message.specs.ReadingAMessage.{headerCode, sameName, headLength, namedIn01, codesOfAARequest, codesOfTermination, knownAvps, isOneOf, known, avpCode, avpOf, supported, requestCode, behind, walkOne, walkUpTo, walkBy, avps, walkCode, having, firstValue, valueOf, present, anything, numberIn, textField, labelField, numberField, testedAs, fieldCode, startsWith, forBoth, for265, for275, fields, listCode, readingCode, askOf, requestOf, read, eachCode, textsField, valueAt}
@@ -13,7 +14,7 @@ use Rattle.message.specs.WritingTheAnswer.{avpBytes, sessionAvp, is3xxx, authAv
 use Rattle.table.specs.Soundness.{zeroBehind, isDigit, isName, headForm, entryForm, entriesForm, inUse, accessForm, secondForm, ofBlocks, placeForm, isRow, hasForm, sumsAgree, placeSums, lineExact, lowerCase, sameLabel, labels, limits, sessions, onEntry, underLimits, policyMarked, sound, policiesInOrder, onlyBehind}
 use Rattle.table.specs.TheTable.{isForm, rowLength, formOf, place, accessAt, sumsFrom, sealed, barred, mayRoam, places, line, entryBytes, entriesBytes, fromBits, usedBits, headBytes, held, firstBytes, secondBytes, accessBytes, placeBytes, placesBytes, rowBytes, readEntry, readEntries, readAccess, orderLine, readRow, tableNumber, rows, rowAt, withRow, hasName, isRowOf, later, firstRow, lookup, isFound}
 use Rattle.changes.specs.Changes.{leave, freed, vacant, lowestFree, newAccess, opened, hold, keptIn, routed, noPolicies}
-use Rattle.rules.specs.Calls.{callNumber, mostPolicies, silent, noticeLength, noticeBytes, noticeRoom, resultOf, reply, refusal, tableAfter, settled, onRow, account, onReading, handle}
+use Rattle.rules.specs.Calls.{callNumber, mostPolicies, silent, noticeBytes, noticeRoom, resultOf, reply, refusal, tableAfter, settled, onRow, account, onReading, handle}
 use Rattle.rules.specs.Deciding.{refuse, grant, entryFrom, entryNamed, noEntry, entryAt, withSession, placeOf, none, atPlace, openOn, firstOn, atLimit, admit, standsOn, heldAlready, type0, type1, terminate, decide}
 use Rattle.order.specs.Demand2.{requestIn}
 use Rattle.order.specs.OpenedAgain.{calling}

@@ -14,6 +14,7 @@ use Rattle.octets.specs.Texts.{part, zeros, put}
 use Rattle.octets.specs.Numbers.{in24, in32, up4}
 use Rattle.octets.proofs.Lists.{by-test, and-left, and-right, within-high}
 use Rattle.octets.proofs.Texts.{length-zeros, length-part, length-put, put-then, put-nothing}
+use Rattle.message.specs.TheRooms.{answerLeast}
 use Rattle.message.specs.Codes.{Code, none, plain, experimental, numberOf}
 use Rattle.message.specs.ReadingAMessage.{command, headerCode, Name, sameName, behind, walkOne, walkUpTo, walkBy, avpLength, avpCode, avpOf, requestCode, avps, walkCode, having, valueOf, sessionId, userName, proxyInfo}
 use Rattle.message.specs.WritingTheAnswer.{avpBytes, sessionAvp, is3xxx, authAvps, resultAvp, subscriptionAvp, allBytes, proxyAvps, answerBody, answerFlags, answer, answerRoom}
@@ -22,6 +23,7 @@ use Rattle.message.specs.declared.Kind.{Kind}
 use Rattle.message.specs.declared.Kind.the-variants.{NoAnswer, Plain, Experimental}
 use Rattle.message.specs.Spans.{Holds}
 use Rattle.message.specs.Kinds.{codeFrom}
+use Rattle.message.specs.CallsThatGetNoAnswer.{messageMost}
 use Rattle.answers.specs.Answers.{headBytes, answerHead, copied, Written, Answerable, Answered}
 use Rattle.message.proofs.Walks.{Passed, passes, up4-least, request-four}
 
@@ -251,8 +253,8 @@ pub length-body : (m host realm : List ℕ) (c : Code)
 unfolding answerBody
 length-body m host realm c = simp length-append
 
-pub body-fits : (m host realm : List ℕ) (c : Code) → 20 ≤ length m → length m ≤ 4096 → length host ≤ 128 → length realm ≤ 128
-    → (command m ≡ 265 → numberOf c ≡ 2001 → length (valueOf userName (avps m)) ≤ 128) → 20 + length (answerBody m host realm c) ≤ 5120
+pub body-fits : (m host realm : List ℕ) (c : Code) → 20 ≤ length m → length m ≤ messageMost → length host ≤ 128 → length realm ≤ 128
+    → (command m ≡ 265 → numberOf c ≡ 2001 → length (valueOf userName (avps m)) ≤ 128) → 20 + length (answerBody m host realm c) ≤ answerLeast
 body-fits m host realm c h k p q u =
     omega
     (arith, length-body m host realm c, session-most m, auth-most m c, result-most c, avp-most 264 host p, avp-most 296 realm q, subscription-most m c u, proxies-most m h)
@@ -264,8 +266,8 @@ length-answer m host realm c h =
     rw (length-append (part m 5 15) (answerBody m host realm c), l) (omega arith)
 
 -- every answer fits the room that a call must bring
-pub answer-fits : (m host realm : List ℕ) (c : Code) → 20 ≤ length m → length m ≤ 4096 → length host ≤ 128 → length realm ≤ 128
-    → (command m ≡ 265 → numberOf c ≡ 2001 → length (valueOf userName (avps m)) ≤ 128) → length (answer m host realm c) ≤ 5120
+pub answer-fits : (m host realm : List ℕ) (c : Code) → 20 ≤ length m → length m ≤ messageMost → length host ≤ 128 → length realm ≤ 128
+    → (command m ≡ 265 → numberOf c ≡ 2001 → length (valueOf userName (avps m)) ≤ 128) → length (answer m host realm c) ≤ answerLeast
 answer-fits m host realm c h k p q u = omega (arith, length-answer m host realm c h, body-fits m host realm c h k p q u)
 
 -- THE WHOLE ANSWER

@@ -7,11 +7,13 @@ use lib.ListN.{length}
 use Rattle.octets.specs.Choice.{pick}
 use Rattle.octets.specs.Texts.{part, put}
 use Rattle.octets.specs.Numbers.{in24, in32}
+use Rattle.message.specs.TheRooms.{answerLeast}
 use Rattle.message.specs.Codes.{Code}
 use Rattle.message.specs.ReadingAMessage.{command, avps, having, userName, proxyInfo}
 use Rattle.message.specs.WritingTheAnswer.{avpBytes, sessionAvp, allBytes, answerFlags, answer, answerRoom}
 use Rattle.message.specs.declared.Span.{Span}
 use Rattle.message.specs.Spans.{Holds, hasProxies}
+use Rattle.message.specs.CallsThatGetNoAnswer.{messageMost}
 
 -- The first eight bytes of an AVP of ours of n bytes.
 unfoldable pub headBytes : ℕ → ℕ → List ℕ
@@ -42,10 +44,10 @@ pub record SessionOf (m : List ℕ) (n : ℕ) : Type 0 where
 -- large enough, the User-Name where the answer repeats it, whether there is a Proxy-Info to copy, and a code that two bytes hold.
 pub record Answerable (m host realm : List ℕ) (code : ℕ) (user : Span) (proxies : Bool) (room : List ℕ) : Type 0 where
   pub least : 20 ≤ length m
-  pub most : length m ≤ 4096
+  pub most : length m ≤ messageMost
   pub host-fits : length host ≤ 128
   pub realm-fits : length realm ≤ 128
-  pub room-fits : 5120 ≤ length room
+  pub room-fits : answerLeast ≤ length room
   pub named : command m ≡ 265 → code ≡ 2001 → Holds m userName user
   pub short : command m ≡ 265 → code ≡ 2001 → user .len ≤ 128
   pub to-copy : proxies ≡ hasProxies m

@@ -12,9 +12,10 @@ use lib.Seq.{getD-drop, length-take-le, take-all}
 use Rattle.octets.specs.Choice.{pick, require, firstOf, within}
 use Rattle.octets.proofs.Choice.{by-pick, first-passes, others-pass, passed}
 use Rattle.octets.proofs.Lists.{and-left, and-right}
+use Rattle.message.specs.TheRooms.{answerLeast, noticeLength}
 use Rattle.table.specs.Answers.{lent}
 use Rattle.table.specs.TheTable.{Table, firstNumber}
-use Rattle.rules.specs.Calls.{Call, Left, Result, answerLeast, handle, noticeLength}
+use Rattle.rules.specs.Calls.{Call, Left, Result, handle}
 use Rattle.decision.specs.declared.Outcome.{Outcome}
 use Rattle.decision.specs.Outcomes.{callOf, cutMade, leaves as callLeaves, resultSaid}
 use Rattle.burst.specs.TheBurst.{Burst, Bursted, burst, burstNumber, nextLength, refusedBurst, wholeMessages}

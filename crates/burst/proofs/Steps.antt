@@ -13,8 +13,9 @@ use Rattle.octets.specs.Choice.{pick}
 use Rattle.octets.specs.Lists.{sumOf}
 use Rattle.octets.specs.Texts.{put, zeros}
 use Rattle.octets.proofs.Texts.{length-zeros, put-nothing}
+use Rattle.message.specs.TheRooms.{answerLeast, noticeLength}
 use Rattle.table.specs.TheTable.{Table}
-use Rattle.rules.specs.Calls.{Call, Left, Ran, Reply, Result, answerLeast, handle, noticeLength, ranFirst, run}
+use Rattle.rules.specs.Calls.{Call, Left, Ran, Reply, Result, handle, ranFirst, run}
 use Rattle.order.specs.Demand3.{SameLeft, Told, brought, told}
 use Rattle.order.proofs.Lists.{form-stays}
 use Rattle.order.proofs.Rooms.{brought-decides, rooms-after}

@@ -14,8 +14,9 @@ use Rattle.octets.specs.Lists.{sumOf}
 use Rattle.octets.specs.Texts.{put}
 use Rattle.octets.proofs.Lists.{by-test}
 use Rattle.octets.proofs.Texts.{put-nothing}
+use Rattle.message.specs.TheRooms.{answerLeast, noticeLength}
 use Rattle.table.specs.TheTable.{Table}
-use Rattle.rules.specs.Calls.{Left, Result, answerLeast, handle, noticeLength, run}
+use Rattle.rules.specs.Calls.{Left, Result, handle, run}
 use Rattle.order.specs.Demand3.{Told, told}
 use Rattle.order.proofs.Rooms.{rooms-after}
 use Rattle.burst.specs.TheBurst.{Burst, Bursted, Taken, allTold, bursted, callsFor, callsOf, howMany, joined, nextLength, refusedBurst, wholeMessages}

@@ -3,7 +3,7 @@
 use mathlib.Core.List.{List, _++_}
 use Prim.Native.Nat.{ℕ, _+_, _*_}
 use lib.ListN.{take, drop}
-use Rattle.rules.specs.Calls.{noticeLength}
+use Rattle.message.specs.TheRooms.{noticeLength}
 use Rattle.burst.specs.TheBurst.{Burst, Bursted, Taken}
 
 -- The next call is lent all that the first did not use.

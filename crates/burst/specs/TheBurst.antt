@@ -8,8 +8,9 @@ use Rattle.octets.specs.Choice.{pick, require, firstOf, within}
 use Rattle.octets.specs.Lists.{sumOf}
 use Rattle.octets.specs.Numbers.{net24}
 use Rattle.octets.specs.Texts.{put, zeros}
+use Rattle.message.specs.TheRooms.{answerLeast, noticeLength}
 use Rattle.table.specs.TheTable.{Table, firstNumber}
-use Rattle.rules.specs.Calls.{Call, Result, Reply, Ran, run, answerLeast, noticeLength}
+use Rattle.rules.specs.Calls.{Call, Result, Reply, Ran, run}
 use Rattle.order.specs.Demand3.{Told, told}
 
 -- WHAT IS LENT WITH THE TABLE

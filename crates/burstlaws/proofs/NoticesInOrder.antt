@@ -13,9 +13,10 @@ use Rattle.octets.specs.Choice.{pick}
 use Rattle.octets.specs.Lists.{every, keep, sumOf}
 use Rattle.octets.specs.Texts.{pieces, put}
 use Rattle.octets.proofs.Lists.{and-left, and-right, by-test}
+use Rattle.message.specs.TheRooms.{noticeLength}
 use Rattle.changes.proofs.Steps.{keep-map}
 use Rattle.table.specs.TheTable.{Table}
-use Rattle.rules.specs.Calls.{Call, Result, noticeLength}
+use Rattle.rules.specs.Calls.{Call, Result}
 use Rattle.order.specs.Demand3.{Told, brought}
 use Rattle.burst.specs.TheBurst.{Burst, Bursted, bursted, joined}
 use Rattle.burst.proofs.Loop.{burst-goes}

@@ -10,8 +10,9 @@ use lib.Dec.{eqb}
 use lib.ListN.{length, take, drop, getD, take-append-drop}
 use lib.Seq.{length-take-le}
 use Rattle.octets.proofs.Lists.{by-test}
+use Rattle.message.specs.TheRooms.{answerLeast, noticeLength}
 use Rattle.table.specs.TheTable.{Table}
-use Rattle.rules.specs.Calls.{Call, Left, answerLeast, handle, noticeLength}
+use Rattle.rules.specs.Calls.{Call, Left, handle}
 use Rattle.order.specs.Demand3.{told}
 use Rattle.order.proofs.Rooms.{rooms-after}
 use Rattle.burst.specs.TheBurst.{Burst, Bursted, burst, burstNumber, nextLength, refusedBurst, wholeMessages}

@@ -11,8 +11,8 @@ use lib.ListN.{length, take, drop, length-take}
 use lib.Seq.{drop-drop, drop-nil, getD-take, take-nil, take-take}
 use Rattle.octets.specs.Numbers.{net24}
 use Rattle.octets.proofs.Lists.{by-test}
+use Rattle.message.specs.TheRooms.{noticeLength}
 use Rattle.table.specs.TheTable.{Table}
-use Rattle.rules.specs.Calls.{noticeLength}
 use Rattle.burst.specs.TheBurst.{Burst, Bursted, Taken, nextLength, refusedBurst}
 use Rattle.burst.specs.GoingOn.{rest, together}
 use Rattle.burst.proofs.Boundaries.{next-fits, next-is, next-past, next-short, next-under}

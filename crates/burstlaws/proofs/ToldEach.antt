@@ -15,6 +15,7 @@ use Rattle.octets.specs.Lists.{every}
 use Rattle.octets.specs.Texts.{put}
 use Rattle.octets.proofs.Choice.{by-pick}
 use Rattle.octets.proofs.Lists.{and-left, and-right, both, by-test, within-high}
+use Rattle.message.specs.TheRooms.{answerLeast, noticeLength}
 use Rattle.message.specs.Codes.{Code, plain, numberOf, userUnknown}
 use Rattle.message.specs.ReadingAMessage.{Reading, refused, request, Request, avps, command, read, requestOf, userName, valueOf}
 use Rattle.message.specs.WritingTheAnswer.{answer}
@@ -24,7 +25,7 @@ use Rattle.answers.proofs.Writing.{answer-fits}
 use Rattle.table.specs.TheTable.{Access, Found, Table, row, nothing, lookup, readRow, rowAt}
 use Rattle.table.specs.Soundness.{sound}
 use Rattle.rules.specs.Deciding.{Verdict, decide}
-use Rattle.rules.specs.Calls.{account, Call, Left, Reply, Result, answerLeast, callNumber, handle, mostPolicies, noticeBytes, noticeLength, noticeRoom, onReading, onRow, ranFirst, refusal, reply, resultOf, run, settled, silent}
+use Rattle.rules.specs.Calls.{account, Call, Left, Reply, Result, callNumber, handle, mostPolicies, noticeBytes, noticeRoom, onReading, onRow, ranFirst, refusal, reply, resultOf, run, settled, silent}
 use Rattle.decision.specs.Outcomes.{callOf}
 use Rattle.decision.proofs.Numbers.{Ready, handled, is-ready, unanswered}
 use Rattle.order.specs.Demand3.{Told, told}

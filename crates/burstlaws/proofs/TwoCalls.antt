@@ -12,8 +12,9 @@ use lib.Seq.{getD-take}
 use Rattle.octets.specs.Choice.{require, firstOf, within}
 use Rattle.octets.proofs.Choice.{first-passes, others-pass, passed}
 use Rattle.octets.proofs.Lists.{and-left, and-right, by-test}
+use Rattle.message.specs.TheRooms.{answerLeast, noticeLength}
 use Rattle.table.specs.TheTable.{Table, firstNumber, tableNumber}
-use Rattle.rules.specs.Calls.{Call, Left, Result, answerLeast, handle, noticeLength, run}
+use Rattle.rules.specs.Calls.{Call, Left, Result, handle, run}
 use Rattle.order.specs.Demand3.{SameLeft, Told, brought, told}
 use Rattle.order.proofs.Lists.{Runs, ran}
 use Rattle.order.proofs.Rooms.{brought-decides, rooms-after}

@@ -8,8 +8,9 @@ use native.Mathlib.Omega.{arith}
 use lib.Dec.{eqb, leb}
 use lib.ListN.{length, take, length-append, length-map}
 use Rattle.octets.proofs.Choice.{by-pick}
+use Rattle.message.specs.TheRooms.{answerLeast, noticeLength}
 use Rattle.table.specs.TheTable.{Table}
-use Rattle.rules.specs.Calls.{Call, Reply, answerLeast, handle, noticeLength, ranFirst, run}
+use Rattle.rules.specs.Calls.{Call, Reply, handle, ranFirst, run}
 use Rattle.order.specs.Demand3.{Told, told}
 use Rattle.burst.specs.TheBurst.{Burst, Bursted, allTold, burst, burstNumber, bursted, callsOf, howMany, joined, wholeMessages}
 use Rattle.burst.proofs.Loop.{burst-goes}

@@ -15,8 +15,9 @@ use Rattle.octets.specs.Texts.{put}
 use Rattle.octets.proofs.Choice.{by-pick}
 use Rattle.octets.proofs.Lists.{and-left, and-right, by-test}
 use Rattle.octets.proofs.Texts.{length-put}
+use Rattle.message.specs.TheRooms.{answerLeast, noticeLength}
 use Rattle.table.specs.TheTable.{Table}
-use Rattle.rules.specs.Calls.{Result, answerLeast, noticeLength}
+use Rattle.rules.specs.Calls.{Result}
 use Rattle.order.specs.Demand3.{Told}
 use Rattle.burst.specs.TheBurst.{Burst, allTold, burst, burstNumber, bursted, callsOf, howMany, joined, nextLength, refusedBurst, wholeMessages, wholeUpTo}
 use Rattle.burst.proofs.Boundaries.{next-fits}

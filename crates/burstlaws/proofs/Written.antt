@@ -12,8 +12,9 @@ use lib.Seq.{length-take-le}
 use Rattle.octets.specs.Lists.{every, sumOf}
 use Rattle.octets.proofs.Choice.{by-pick}
 use Rattle.octets.proofs.Lists.{and-left, and-right, both, by-test}
+use Rattle.message.specs.TheRooms.{answerLeast, noticeLength}
 use Rattle.table.specs.TheTable.{Table}
-use Rattle.rules.specs.Calls.{Call, Reply, answerLeast, handle, noticeLength, ranFirst, run}
+use Rattle.rules.specs.Calls.{Call, Reply, handle, ranFirst, run}
 use Rattle.order.specs.Demand3.{Told, told}
 use Rattle.order.proofs.Lists.{one-reply-each}
 use Rattle.burst.specs.TheBurst.{Burst, Bursted, allTold, burst, burstNumber, callsOf, howMany, joined, refusedBurst}

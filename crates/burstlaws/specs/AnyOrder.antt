@@ -6,8 +6,9 @@ use Prim.Native.Nat.{ℕ, _*_, _≤_, _<_}
 use lib.Dec.{eqb}
 use lib.ListN.{length, take, drop}
 use Rattle.octets.specs.Choice.{pick}
+use Rattle.message.specs.TheRooms.{answerLeast, noticeLength}
 use Rattle.table.specs.TheTable.{Account, Table}
-use Rattle.rules.specs.Calls.{Call, Result, answerLeast, noticeLength}
+use Rattle.rules.specs.Calls.{Call, Result}
 use Rattle.order.specs.Demand3.{Subject, subscriber, subject, isOf, callsOf as callsBy, Told}
 use Rattle.burst.specs.TheBurst.{Burst, Bursted, burst, callsOf, wholeMessages}
 use Rattle.burstlaws.specs.BurstsRules.{takenCalls, toldAll}

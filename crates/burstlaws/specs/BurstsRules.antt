@@ -9,8 +9,9 @@ use lib.Dec.{eqb, leb}
 use lib.ListN.{length, take, drop, getD}
 use Rattle.octets.specs.Lists.{keep}
 use Rattle.octets.specs.Texts.{pieces}
+use Rattle.message.specs.TheRooms.{answerLeast, noticeLength}
 use Rattle.table.specs.TheTable.{Table}
-use Rattle.rules.specs.Calls.{Call, Left, Result, answerLeast, handle, noticeLength, run}
+use Rattle.rules.specs.Calls.{Call, Left, Result, handle, run}
 use Rattle.order.specs.Demand3.{Told, brought, told}
 use Rattle.burst.specs.TheBurst.{Burst, Bursted, burst, burstNumber, callsOf, joined, refusedBurst, wholeMessages}
 use Rattle.burst.specs.GoingOn.{rest, together}

@@ -14,6 +14,7 @@ use Rattle.octets.specs.Texts.{filled}
 use Rattle.octets.proofs.Lists.{and-left, and-right, by-test}
 use Rattle.octets.proofs.Pieces.{drop-past}
 use Rattle.octets.proofs.Texts.{length-filled}
+use Rattle.message.specs.TheRooms.{longNotice, shortNotice, noticeLength}
 use Rattle.message.specs.Codes.{Code, plain, userUnknown, numberOf, kindOf}
 use Rattle.message.specs.ReadingAMessage.{Reading, Request, refused, request}
 use Rattle.message.specs.WritingTheAnswer.{answer, answerRoom}
@@ -22,7 +23,7 @@ use Rattle.table.proofs.Bytes.{read-row}
 use Rattle.table.proofs.Good.{Good}
 use Rattle.table.proofs.Sound.{sound-row}
 use Rattle.table.proofs.Tests.{clash}
-use Rattle.rules.specs.Calls.{Call, Reply, mostPolicies, noticeBytes, noticeLength, noticeRoom, reply, resultOf}
+use Rattle.rules.specs.Calls.{Call, Reply, mostPolicies, noticeBytes, noticeRoom, reply, resultOf}
 use Rattle.rules.specs.Deciding.{Verdict, decide}
 use Rattle.plans.specs.Plans.{fitting}
 use Rattle.plans.proofs.Stay.{stays}
@@ -40,21 +41,21 @@ use Rattle.changeover.proofs.Pairs.{Pair, Pairs, Said, free, free-found
 -- A REPLY says a realm only where a reply of form 1 says nothing
 
 -- the two texts at the head of a notice, whatever stands behind them
-both-first : (s h r x : List ℕ) → take 256 ((filled s 128 ++ (filled h 128 ++ r)) ++ x) ≡ filled s 128 ++ filled h 128
+both-first : (s h r x : List ℕ) → take shortNotice ((filled s 128 ++ (filled h 128 ++ r)) ++ x) ≡ filled s 128 ++ filled h 128
 both-first s h r x =
-    ap (take 256) (append-assoc (filled s 128) (filled h 128 ++ r) x ∙ ap (λ (l : List ℕ). filled s 128 ++ l) (append-assoc (filled h 128) r x) ∙ sym (append-assoc (filled s 128) (filled h 128) (r ++ x)))
-    ∙ take-at (filled s 128 ++ filled h 128) (r ++ x) 256 (simp (length-append, length-filled))
+    ap (take shortNotice) (append-assoc (filled s 128) (filled h 128 ++ r) x ∙ ap (λ (l : List ℕ). filled s 128 ++ l) (append-assoc (filled h 128) r x) ∙ sym (append-assoc (filled s 128) (filled h 128) (r ++ x)))
+    ∙ take-at (filled s 128 ++ filled h 128) (r ++ x) shortNotice (simp (length-append, length-filled))
 
 module _ (a : Access) (room : List ℕ) where
-  notice-first : take 256 (noticeBytes 2 a ++ drop 384 room) ≡ take 256 (noticeBytes 1 (withoutRealm a) ++ drop 256 room)
+  notice-first : take shortNotice (noticeBytes 2 a ++ drop longNotice room) ≡ take shortNotice (noticeBytes 1 (withoutRealm a) ++ drop shortNotice room)
   unfolding noticeBytes withoutRealm pick
-  notice-first = both-first (a .session) (a .host) (filled (a .realm) 128) (drop 384 room) ∙ sym (both-first (a .session) (a .host) [] (drop 256 room))
+  notice-first = both-first (a .session) (a .host) (filled (a .realm) 128) (drop longNotice room) ∙ sym (both-first (a .session) (a .host) [] (drop shortNotice room))
 
-  notice-behind : drop 384 (noticeBytes 2 a ++ drop 384 room) ≡ drop 384 (noticeBytes 1 (withoutRealm a) ++ drop 256 room)
+  notice-behind : drop longNotice (noticeBytes 2 a ++ drop longNotice room) ≡ drop longNotice (noticeBytes 1 (withoutRealm a) ++ drop shortNotice room)
   unfolding noticeLength pick
   notice-behind =
-      drop-at (noticeBytes 2 a) (drop 384 room) 384 (length-cut 2 a)
-      ∙ sym (drop-past 256 128 (noticeBytes 1 (withoutRealm a)) (drop 256 room) (length-cut 1 (withoutRealm a)) ∙ drop-drop 128 256 room)
+      drop-at (noticeBytes 2 a) (drop longNotice room) longNotice (length-cut 2 a)
+      ∙ sym (drop-past shortNotice 128 (noticeBytes 1 (withoutRealm a)) (drop shortNotice room) (length-cut 1 (withoutRealm a)) ∙ drop-drop 128 shortNotice room)
 
 reply-alike : (c : Call) (code : Code) (place : ℕ) (cut : List Access) → toldInBoth (reply 2 c code place cut) ≡ toldInBoth (reply 1 c code place (map withoutRealm cut))
 unfolding toldInBoth reply resultOf noticeRoom noticeLength withoutRealm pick
@@ -140,8 +141,8 @@ module _ (c : Call) (few : onePolicy c ≡ true) (large : roomForBoth c ≡ true
   numbers : ownNumber 2 c ≡ ownNumber 1 c
   unfolding ownNumber roomForBoth noticeLength pick
   numbers =
-      let two : leb 384 (length (c .notice)) ≡ true = large in
-      let one : leb 256 (length (c .notice)) ≡ true = le-leb 256 (length (c .notice)) (omega (arith, leb-true 384 (length (c .notice)) two)) in
+      let two : leb longNotice (length (c .notice)) ≡ true = large in
+      let one : leb shortNotice (length (c .notice)) ≡ true = le-leb shortNotice (length (c .notice)) (omega (arith, leb-true longNotice (length (c .notice)) two)) in
       rw (two, one)
 
   pub subjects : subject 2 c ≡ subject 1 c

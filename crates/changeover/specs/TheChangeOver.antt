@@ -10,12 +10,13 @@ use lib.ListN.{length, take, drop}
 use Rattle.octets.specs.Choice.{pick}
 use Rattle.octets.specs.Lists.{every}
 use Rattle.octets.specs.Texts.{allZero}
+use Rattle.message.specs.TheRooms.{noticeLength}
 use Rattle.message.specs.ReadingAMessage.{Ask, avps, having, read, routingPolicy}
 use Rattle.table.specs.Answers.{lent}
 use Rattle.table.specs.TheTable.{Access, Subscriber, Table, readRow, rowAt, rows}
 use Rattle.changes.specs.Changes.{withAccesses}
 use Rattle.moving.specs.Moving.{move}
-use Rattle.rules.specs.Calls.{Call, Reply, noticeLength, run}
+use Rattle.rules.specs.Calls.{Call, Reply, run}
 use Rattle.rules.specs.Deciding.{Verdict, decide}
 
 -- READING

@@ -79,7 +79,7 @@ row-sized r h = (clauses r h) .row
 
 -- the size of a row as the code counts it
 pub record Measured (r : List ℕ) : Type 0 where
-  pub size : length r ≡ blockLength + 4096 * formOf r
+  pub size : length r ≡ blockLength + 8 * placeLength (formOf r)
   pub least : 1 ≤ formOf r
   pub most : formOf r ≤ 2
 
@@ -307,14 +307,14 @@ opened-one f n s h r p q e l w =
     rw (e, w, drop-of-length-le p {i = blockLength} (omega arith))
     (append-nil (firstBytes (fresh n (record { session = s; host = h; realm = [] }))) ∙ sym (access-one (fresh n (record { session = s; host = h; realm = [] }))))
 
-pub opened-two : (f n : ℕ) (s h r p q c : List ℕ) → f ≡ 2 → length p ≡ 1024 → q ≡ firstBytes (fresh n (record { session = s; host = h; realm = [] }))
+pub opened-two : (f n : ℕ) (s h r p q c : List ℕ) → f ≡ 2 → length p ≡ placeLength 2 → q ≡ firstBytes (fresh n (record { session = s; host = h; realm = [] }))
     → c ≡ secondBytes (fresh 0 (record { session = []; host = []; realm = r }))
     → take blockLength (q ++ drop blockLength p) ++ (c ++ drop blockLength (drop blockLength (q ++ drop blockLength p))) ≡ openedBytes f n (record { session = s; host = h; realm = keptIn f r })
 unfolding openedBytes keptIn pick fresh firstBytes secondBytes
 opened-two f n s h r p q c e l w v =
     let a : Access = fresh n (record { session = s; host = h; realm = r }) in
     let lq : length q ≡ blockLength = ap length w ∙ length-first a in
-    let d : drop blockLength (drop blockLength p) ≡ [] = drop-drop blockLength blockLength p ∙ drop-of-length-le p {i = 1024} (omega arith) in
+    let d : drop blockLength (drop blockLength p) ≡ [] = drop-drop blockLength blockLength p ∙ drop-of-length-le p {i = placeLength 2} (omega arith) in
     rw (e, take-at q (drop blockLength p) blockLength lq, drop-at q (drop blockLength p) blockLength lq, d)
     (ap (λ (t : List ℕ). q ++ t) (append-nil c) ∙ (λ i. w i ++ v i) ∙ sym (access-two a))
 
@@ -334,13 +334,13 @@ routed-short p q pol l w =
     let t : ltb blockLength (length p) ≡ false = rw l refl in
     rw (t, w, drop-of-length-le p {i = blockLength} (omega arith))
 
-pub routed-long : (p q c : List ℕ) (pol : Policies) → length p ≡ 1024 → length q ≡ blockLength → q ≡ policyWith (take blockLength p) (pol .first)
+pub routed-long : (p q c : List ℕ) (pol : Policies) → length p ≡ placeLength 2 → length q ≡ blockLength → q ≡ policyWith (take blockLength p) (pol .first)
     → c ≡ othersWith (take blockLength (drop blockLength (q ++ drop blockLength p))) (pol .second) (pol .third)
     → take blockLength (q ++ drop blockLength p) ++ (c ++ drop blockLength (drop blockLength (q ++ drop blockLength p))) ≡ routedBytes p pol
 unfolding routedBytes pick
 routed-long p q c pol l lq w v =
     let t : ltb blockLength (length p) ≡ true = rw l refl in
-    let d : drop blockLength (drop blockLength p) ≡ [] = drop-drop blockLength blockLength p ∙ drop-of-length-le p {i = 1024} (omega arith) in
+    let d : drop blockLength (drop blockLength p) ≡ [] = drop-drop blockLength blockLength p ∙ drop-of-length-le p {i = placeLength 2} (omega arith) in
     let y : drop blockLength (q ++ drop blockLength p) ≡ drop blockLength p = drop-at q (drop blockLength p) blockLength lq in
     let x : take blockLength (drop blockLength p) ≡ drop blockLength p = take-all blockLength (drop blockLength p) (rw length-drop (omega arith)) in
     rw (t, take-at q (drop blockLength p) blockLength lq, y, d)

@@ -10,16 +10,17 @@ use lib.ListN.{length}
 use Rattle.octets.specs.Choice.{pick, require, firstOf, within}
 use Rattle.octets.proofs.Lists.{and-left, and-right, by-test, within-high}
 use Rattle.octets.proofs.Choice.{first-passes, others-pass, passed}
+use Rattle.message.specs.TheRooms.{answerLeast, noticeLength}
 use Rattle.message.specs.Codes.{kindOf}
 use Rattle.message.specs.Kinds.{codeFrom}
 use Rattle.message.specs.ReadingAMessage.{read}
 use Rattle.message.specs.declared.Kind.the-variants.{NoAnswer}
 use Rattle.message.proofs.Callers.{message-length}
 use Rattle.effects.specs.declared.Cut.the-variants.{NoCut}
-use Rattle.message.specs.CallsThatGetNoAnswer.{messageNumber}
+use Rattle.message.specs.CallsThatGetNoAnswer.{messageMost, messageNumber}
 use Rattle.table.specs.TheTable.{Table, firstNumber, tableNumber}
 use Rattle.table.proofs.Rows.{first-operator, first-table}
-use Rattle.rules.specs.Calls.{Call, callNumber, handle, mostPolicies, noticeLength, onReading, silent}
+use Rattle.rules.specs.Calls.{Call, callNumber, handle, mostPolicies, onReading, silent}
 use Rattle.decision.specs.Outcomes.{callOf, cutHost, cutMade, cutRealm, cutSession, leaves, resultSaid}
 
 module _ (t : Table) (c : Call) where
@@ -49,19 +50,19 @@ module _ (t : Table) (c : Call) where
       number-realm h = rw (y, o, hh, h)
 
       module _ (hr : within 1 128 (length (c .realm)) ≡ true) where
-        pub number-answer : length (c .answer) < 5120 → callNumber t c ≡ 3
+        pub number-answer : length (c .answer) < answerLeast → callNumber t c ≡ 3
         unfolding callNumber firstOf require pick
-        number-answer h = rw (y, o, hh, hr, lt-leb 5120 (length (c .answer)) h)
+        number-answer h = rw (y, o, hh, hr, lt-leb answerLeast (length (c .answer)) h)
 
-        module _ (ha : 5120 ≤ length (c .answer)) where
+        module _ (ha : answerLeast ≤ length (c .answer)) where
           pub number-notice : length (c .notice) < noticeLength (t .form) → callNumber t c ≡ 4
           unfolding callNumber firstOf require pick
-          number-notice h = rw (y, o, hh, hr, le-leb 5120 (length (c .answer)) ha, lt-leb (noticeLength (t .form)) (length (c .notice)) h)
+          number-notice h = rw (y, o, hh, hr, le-leb answerLeast (length (c .answer)) ha, lt-leb (noticeLength (t .form)) (length (c .notice)) h)
 
           pub number-message : noticeLength (t .form) ≤ length (c .notice) → callNumber t c ≡ messageNumber (c .message)
           unfolding callNumber firstOf require pick
           number-message h =
-              rw (y, o, hh, hr, le-leb 5120 (length (c .answer)) ha, le-leb (noticeLength (t .form)) (length (c .notice)) h)
+              rw (y, o, hh, hr, le-leb answerLeast (length (c .answer)) ha, le-leb (noticeLength (t .form)) (length (c .notice)) h)
               (by-test (eqb (messageNumber (c .message)) 0)
               (λ e. rw e (sym (eqb-true (messageNumber (c .message)) 0 e)))
               (λ e. rw e))
@@ -71,10 +72,10 @@ module _ (t : Table) (c : Call) where
 -- A call that gets an answer: the message has 20 to 4,096 bytes, the own names at most 128, and the answer room 5,120 or more.
 pub record Ready (m host realm room : List ℕ) : Type 0 where
   pub least : 20 ≤ length m
-  pub most : length m ≤ 4096
+  pub most : length m ≤ messageMost
   pub host-fits : length host ≤ 128
   pub realm-fits : length realm ≤ 128
-  pub room-fits : 5120 ≤ length room
+  pub room-fits : answerLeast ≤ length room
 
 -- what lent things are like where no number is given
 module _ (t : Table) (o : ℕ) (m host realm room notice : List ℕ) (wag : Bool) (z : callNumber t (callOf o m host realm room notice wag) ≡ 0) where
@@ -82,7 +83,7 @@ module _ (t : Table) (o : ℕ) (m host realm room notice : List ℕ) (wag : Bool
   names = within 1 128 (length host) && within 1 128 (length realm)
 
   others : List ℕ
-  others = require (leb 5120 (length room)) 3 ∷ require (leb (noticeLength (t .form)) (length notice)) 4 ∷ messageNumber m ∷ []
+  others = require (leb answerLeast (length room)) 3 ∷ require (leb (noticeLength (t .form)) (length notice)) 4 ∷ messageNumber m ∷ []
 
   pub table-right : tableNumber t ≡ 0
   unfolding callNumber callOf
@@ -100,11 +101,11 @@ module _ (t : Table) (o : ℕ) (m host realm room notice : List ℕ) (wag : Bool
 
   pub notice-fits : noticeLength (t .form) ≤ length notice
   unfolding others
-  notice-fits = leb-true (noticeLength (t .form)) (length notice) (passed (leb (noticeLength (t .form)) (length notice)) 4 (omega arith) (first-passes _ _ (others-pass (require (leb 5120 (length room)) 3) _ after-names)))
+  notice-fits = leb-true (noticeLength (t .form)) (length notice) (passed (leb (noticeLength (t .form)) (length notice)) 4 (omega arith) (first-passes _ _ (others-pass (require (leb answerLeast (length room)) 3) _ after-names)))
 
   pub message-right : messageNumber m ≡ 0
   unfolding others
-  message-right = first-passes (messageNumber m) [] (others-pass (require (leb (noticeLength (t .form)) (length notice)) 4) _ (others-pass (require (leb 5120 (length room)) 3) _ after-names))
+  message-right = first-passes (messageNumber m) [] (others-pass (require (leb (noticeLength (t .form)) (length notice)) 4) _ (others-pass (require (leb answerLeast (length room)) 3) _ after-names))
 
   pub is-ready : Ready m host realm room
   unfolding names others
@@ -114,7 +115,7 @@ module _ (t : Table) (o : ℕ) (m host realm room notice : List ℕ) (wag : Bool
         most = message-length m message-right .1;
         host-fits = within-high 1 128 (length host) (and-left (within 1 128 (length host)) (within 1 128 (length realm)) names-fit);
         realm-fits = within-high 1 128 (length realm) (and-right (within 1 128 (length host)) (within 1 128 (length realm)) names-fit);
-        room-fits = leb-true 5120 (length room) (passed (leb 5120 (length room)) 3 (omega arith) (first-passes (require (leb 5120 (length room)) 3) _ after-names));
+        room-fits = leb-true answerLeast (length room) (passed (leb answerLeast (length room)) 3 (omega arith) (first-passes (require (leb answerLeast (length room)) 3) _ after-names));
       }
 
 module _ (t : Table) (c : Call) where

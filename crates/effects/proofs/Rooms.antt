@@ -11,12 +11,13 @@ use lib.Seq.{drop-drop, take-all, take-at}
 use Rattle.octets.specs.Choice.{pick, within}
 use Rattle.octets.specs.Lists.{distinct, every, isOn, keep}
 use Rattle.octets.specs.Texts.{filled, part, put, zeros}
+use Rattle.message.specs.TheRooms.{shortNotice, longNotice, noticeLength}
 use Rattle.message.specs.Codes.{numberOf}
 use Rattle.table.specs.Answers.{lent}
 use Rattle.table.specs.Soundness.{sound}
 use Rattle.table.specs.TheTable.{blockLength, Access, Table, accessAt, accessBytes, firstBlock, firstBytes, formOf, held, orderLine, place, placeLength, readAccess, readRow, rowAt, rowBytes, sealed, secondBlock, secondBytes, sumsFrom, width, withRow}
 use Rattle.changes.proofs.Steps.{keep-map}
-use Rattle.rules.specs.Calls.{noticeBytes, noticeLength, noticeRoom, tableAfter}
+use Rattle.rules.specs.Calls.{noticeBytes, noticeRoom, tableAfter}
 use Rattle.rules.specs.Deciding.{atPlace, grant}
 use Rattle.octets.proofs.Lists.{and-left, and-right, by-test, eqb-comm, every-imp, on-cons, on-none, within-high, within-low}
 use Rattle.octets.proofs.Texts.{length-filled, length-part, put-then}
@@ -134,11 +135,11 @@ module _ (r : List ℕ) (h : sound r ≡ true) (k : ℕ) (o : isOn (orderLine r)
 
 -- THE NOTICE
 
-pub notice-least : (f : ℕ) → 256 ≤ noticeLength f
+pub notice-least : (f : ℕ) → shortNotice ≤ noticeLength f
 unfolding noticeLength pick
 notice-least f = by-test (eqb f 2) (λ e. rw e (omega arith)) (λ e. rw e (omega arith))
 
-pub notice-long : (f : ℕ) → f ≡ 2 → noticeLength f ≡ 384
+pub notice-long : (f : ℕ) → f ≡ 2 → noticeLength f ≡ longNotice
 unfolding noticeLength pick
 notice-long f e = rw (eq-eqb f 2 e)
 
@@ -156,7 +157,7 @@ module _ (f : ℕ) (a : Access) (room : List ℕ) where
   both : List ℕ
   both = filled (a .session) 128 ++ filled (a .host) 128
 
-  length-both : length both ≡ 256
+  length-both : length both ≡ shortNotice
   unfolding both
   length-both = simp (length-append, length-filled)
 
@@ -172,7 +173,7 @@ module _ (f : ℕ) (a : Access) (room : List ℕ) where
   unfolding both
   notice-one e = ap (put room 0) (bytes-one (ne-eqb f 2 e)) ∙ all-put f a room
 
-  pub notice-two : f ≡ 2 → 256 ≤ length room
+  pub notice-two : f ≡ 2 → shortNotice ≤ length room
       → put (put room 0 (filled (a .session) 128 ++ filled (a .host) 128)) 256 (filled (a .realm) 128) ≡ noticeRoom f (a ∷ []) room
   unfolding both
   notice-two e h =

@@ -6,12 +6,13 @@ ghost use Prim.Native.Nat.{ℕ, _+_, _*_, _≤_};
 ghost use lib.ListN.{length};
 ghost use Rattle.octets.specs.Lists.{isOn};
 ghost use Rattle.octets.specs.Texts.{filled, put};
+ghost use Rattle.message.specs.TheRooms.{longNotice, noticeLength};
 ghost use Rattle.table.specs.Answers.{lent};
 ghost use Rattle.table.specs.TheTable.{accessAt, formOf, orderLine, readRow, rowAt, rowBytes, rowLength, withRow};
 ghost use Rattle.table.specs.Soundness.{sound};
 ghost use Rattle.changes.specs.Changes.{freed, keptIn, lowestFree, opened};
 ghost use Rattle.rules.specs.Deciding.{atPlace};
-ghost use Rattle.rules.specs.Calls.{noticeLength, noticeRoom, tableAfter};
+ghost use Rattle.rules.specs.Calls.{noticeRoom, tableAfter};
 ghost use Rattle.plans.specs.Plans.{planned, fitPlan};
 ghost use Rattle.effects.specs.Carrying.{broughtIn, cutFor, doneFor};
 
@@ -29,7 +30,7 @@ pub struct Done {
 
 // The realm in the notice of the access at place k, for form 2 alone: in a sound row it stands in its room as it does in the notice.
 fn write_realm(notice: &mut [u8], row: &[u8], k: usize) -> usize
-    requires { ⌜ (384 ≤ length (now notice)) × (sound (now row) ≡ true) × (isOn (orderLine (now row)) k ≡ true) × (formOf (now row) ≡ 2) ⌝ }
+    requires { ⌜ (longNotice ≤ length (now notice)) × (sound (now row) ≡ true) × (isOn (orderLine (now row)) k ≡ true) × (formOf (now row) ≡ 2) ⌝ }
     ensures { λ r. ⌜ (now (notice .exit) ≡ put (now (notice .entry)) 256 (filled ((accessAt (now (row .entry)) k) .realm) 128))
         × (r ≡ length ((accessAt (now (row .entry)) k) .realm)) ⌝ }
 {

@@ -10,7 +10,8 @@ use lib.ListN.{length}
 use Rattle.octets.specs.Choice.{pick, require, firstOf, within}
 use Rattle.octets.proofs.Lists.{and-left, and-right, within-high}
 use Rattle.octets.proofs.Choice.{first-passes, others-pass, passed}
-use Rattle.message.specs.CallsThatGetNoAnswer.{messageNumber}
+use Rattle.message.specs.TheRooms.{answerLeast}
+use Rattle.message.specs.CallsThatGetNoAnswer.{messageMost, messageNumber}
 use Rattle.message.specs.Codes.{kindOf}
 use Rattle.message.specs.Kinds.{codeFrom}
 use Rattle.message.specs.declared.Kind.the-variants.{NoAnswer}
@@ -30,25 +31,25 @@ module _ (host realm answer request : ℕ) (fits : Bool) (m : List ℕ) where
     number-realm r = rw (h, r)
 
     module _ (r : within 1 128 realm ≡ true) where
-      pub number-answer : answer < 5120 → numberBy host realm answer request fits m ≡ 3
+      pub number-answer : answer < answerLeast → numberBy host realm answer request fits m ≡ 3
       unfolding numberBy firstOf require pick
-      number-answer a = rw (h, r, lt-leb 5120 answer a)
+      number-answer a = rw (h, r, lt-leb answerLeast answer a)
 
-      module _ (a : 5120 ≤ answer) where
-        pub number-request : request < 5120 → numberBy host realm answer request fits m ≡ 3
+      module _ (a : answerLeast ≤ answer) where
+        pub number-request : request < answerLeast → numberBy host realm answer request fits m ≡ 3
         unfolding numberBy firstOf require pick
-        number-request q = rw (h, r, le-leb 5120 answer a, lt-leb 5120 request q)
+        number-request q = rw (h, r, le-leb answerLeast answer a, lt-leb answerLeast request q)
 
-        module _ (q : 5120 ≤ request) where
+        module _ (q : answerLeast ≤ request) where
           pub number-access : fits ≡ false → numberBy host realm answer request fits m ≡ 22
           unfolding numberBy firstOf require pick
-          number-access f = rw (h, r, le-leb 5120 answer a, le-leb 5120 request q, f)
+          number-access f = rw (h, r, le-leb answerLeast answer a, le-leb answerLeast request q, f)
 
           pub number-message : fits ≡ true → numberBy host realm answer request fits m ≡ messageNumber m
           unfolding numberBy require
           number-message f =
               first-go (require (within 1 128 host && within 1 128 realm) 2) _ (rw (h, r))
-              ∙ first-go (require (leb 5120 answer && leb 5120 request) 3) _ (rw (le-leb 5120 answer a, le-leb 5120 request q))
+              ∙ first-go (require (leb answerLeast answer && leb answerLeast request) 3) _ (rw (le-leb answerLeast answer a, le-leb answerLeast request q))
               ∙ first-go (require fits 22) _ (rw f)
               ∙ first-one (messageNumber m)
 
@@ -66,20 +67,20 @@ fits-is a = refl
 pub record Allowed (c : Call) : Type 0 where
   pub host-fits : length (c .host) ≤ 128
   pub realm-fits : length (c .realm) ≤ 128
-  pub answer-fits : 5120 ≤ length (c .answer)
-  pub request-fits : 5120 ≤ length (c .request)
+  pub answer-fits : answerLeast ≤ length (c .answer)
+  pub request-fits : answerLeast ≤ length (c .request)
   pub session-fits : length (c .access .session) ≤ 128
   pub user-fits : length (c .access .user) ≤ 128
   pub label-fits : length (c .access .label) ≤ 100
   pub visited-fits : length (c .access .visited) ≤ 128
   pub least : 20 ≤ length (c .message)
-  pub most : length (c .message) ≤ 4096
+  pub most : length (c .message) ≤ messageMost
 
 pub allowed : (c : Call) → callNumber c ≡ 0 → Allowed c
 unfolding callNumber accessFits
 allowed c e =
     let names = within 1 128 (length (c .host)) && within 1 128 (length (c .realm)) in
-    let rooms = leb 5120 (length (c .answer)) && leb 5120 (length (c .request)) in
+    let rooms = leb answerLeast (length (c .answer)) && leb answerLeast (length (c .request)) in
     let last = within 1 100 (length (c .access .label)) && leb (length (c .access .visited)) 128 in
     let behind = within 1 128 (length (c .access .user)) && last in
     let fits = within 1 128 (length (c .access .session)) && behind in
@@ -96,8 +97,8 @@ allowed c e =
     record {
       host-fits = within-high 1 128 (length (c .host)) (and-left (within 1 128 (length (c .host))) (within 1 128 (length (c .realm))) n);
       realm-fits = within-high 1 128 (length (c .realm)) (and-right (within 1 128 (length (c .host))) (within 1 128 (length (c .realm))) n);
-      answer-fits = leb-true 5120 (length (c .answer)) (and-left (leb 5120 (length (c .answer))) (leb 5120 (length (c .request))) r);
-      request-fits = leb-true 5120 (length (c .request)) (and-right (leb 5120 (length (c .answer))) (leb 5120 (length (c .request))) r);
+      answer-fits = leb-true answerLeast (length (c .answer)) (and-left (leb answerLeast (length (c .answer))) (leb answerLeast (length (c .request))) r);
+      request-fits = leb-true answerLeast (length (c .request)) (and-right (leb answerLeast (length (c .answer))) (leb answerLeast (length (c .request))) r);
       session-fits = within-high 1 128 (length (c .access .session)) (and-left (within 1 128 (length (c .access .session))) behind f);
       user-fits = within-high 1 128 (length (c .access .user)) (and-left (within 1 128 (length (c .access .user))) last b);
       label-fits =

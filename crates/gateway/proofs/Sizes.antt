@@ -9,6 +9,7 @@ use lib.Dec.{eqb}
 use lib.ListN.{length, length-append}
 use Rattle.octets.specs.Choice.{pick}
 use Rattle.octets.proofs.Lists.{by-test}
+use Rattle.message.specs.TheRooms.{answerLeast}
 use Rattle.message.specs.Codes.{plain}
 use Rattle.message.specs.ReadingAMessage.{avps}
 use Rattle.gateway.specs.TheGateway.{Access, Call, Left, Texts, answer, callNumber, readingCode, reauthorize, replied, request, requestAvps, silent, textsOf}
@@ -17,7 +18,7 @@ use Rattle.gateway.proofs.Calls.{Allowed, allowed}
 use Rattle.gateway.proofs.Reading.{origins-short}
 use Rattle.gateway.proofs.Writing.{access-most, body-fits, halves, length-answer, length-request, names-most}
 
-answer-most : (c : Call) (code : ℕ) → Allowed c → length (answer (c .message) (c .host) (c .realm) (plain code)) ≤ 5120
+answer-most : (c : Call) (code : ℕ) → Allowed c → length (answer (c .message) (c .host) (c .realm) (plain code)) ≤ answerLeast
 answer-most c code k =
     omega
     (arith, length-answer (c .message) (c .host) (c .realm) (plain code) (k .least), body-fits (c .message) (c .host) (c .realm) code (hasProxies (c .message)) refl (k .least) (k .most) (k .host-fits) (k .realm-fits))
@@ -35,7 +36,7 @@ request-most c k e =
     omega (arith, l, length-request (c .host) (c .realm) from a (c .hop) (c .end))
 
 abbrev Fits : Left → Type 0
-Fits l = (l .size ≤ 5120) × (l .requestSize ≤ 1280)
+Fits l = (l .size ≤ answerLeast) × (l .requestSize ≤ 1280)
 
 pub sizes : (c : Call) → Fits (reauthorize c)
 unfolding reauthorize replied silent pick

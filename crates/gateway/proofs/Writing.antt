@@ -12,11 +12,13 @@ use Rattle.octets.specs.Texts.{part, put, zeros}
 use Rattle.octets.specs.Numbers.{in24, in32, up4}
 use Rattle.octets.proofs.Lists.{by-test}
 use Rattle.octets.proofs.Texts.{length-zeros, length-part, length-put, put-then, put-nothing}
+use Rattle.message.specs.TheRooms.{answerLeast}
 use Rattle.message.specs.Codes.{Code, plain, kindOf, numberOf}
 use Rattle.message.specs.Kinds.{codeFrom}
 use Rattle.message.specs.declared.Kind.the-variants.{Plain}
 use Rattle.message.specs.ReadingAMessage.{avps, originHost, originRealm, valueOf, walkCode}
 use Rattle.message.specs.WritingTheAnswer.{avpBytes, resultAvp, sessionAvp}
+use Rattle.message.specs.CallsThatGetNoAnswer.{messageMost}
 use Rattle.message.proofs.Walks.{up4-least}
 use Rattle.answers.specs.Answers.{Written, answerHead, copied}
 use Rattle.answers.proofs.Proxies.{copied-is, copied-walked}
@@ -85,7 +87,7 @@ length-answer m host realm c h =
 
 -- five writes, one behind the other
 pub written-answer : (m host realm : List ℕ) (code : ℕ) (p : Bool) (d0 d1 d2 d3 d4 d5 : List ℕ) (p1 p2 p3 p4 p5 : ℕ) → p ≡ hasProxies m
-    → 20 ≤ length m → length m ≤ 4096 → length host ≤ 128 → length realm ≤ 128 → 5120 ≤ length d0
+    → 20 ≤ length m → length m ≤ messageMost → length host ≤ 128 → length realm ≤ 128 → answerLeast ≤ length d0
     → Written d0 d1 20 p1 (sessionAvp m) → Written d1 d2 p1 p2 (resultAvp (plain code)) → Written d2 d3 p2 p3 (avpBytes 264 host)
     → Written d3 d4 p3 p4 (avpBytes 296 realm) → Written d4 d5 p4 p5 (copied p m)
     → Written d0 d5 20 p5 (answerAvps m host realm (plain code))
@@ -98,8 +100,8 @@ written-answer m host realm code p d0 d1 d2 d3 d4 d5 p1 p2 p3 p4 p5 e k l h r f 
     (omega (arith, session-most m, result-most (plain code), avp-most 264 host h, avp-most 296 realm r, copied-most m p k)) in
     rw (append-nil (copied p m), copied-own m p e) at all
 
-pub body-fits : (m host realm : List ℕ) (code : ℕ) (p : Bool) → p ≡ hasProxies m → 20 ≤ length m → length m ≤ 4096 → length host ≤ 128 → length realm ≤ 128
-    → 20 + length (answerAvps m host realm (plain code)) ≤ 5120
+pub body-fits : (m host realm : List ℕ) (code : ℕ) (p : Bool) → p ≡ hasProxies m → 20 ≤ length m → length m ≤ messageMost → length host ≤ 128 → length realm ≤ 128
+    → 20 + length (answerAvps m host realm (plain code)) ≤ answerLeast
 unfolding answerAvps
 body-fits m host realm code p e k l h r =
     let q : length (proxyAvps m) ≡ length (copied p m) = ap length (sym (copied-own m p e)) in

@@ -8,7 +8,8 @@ use lib.ListN.{length}
 use Rattle.octets.specs.Choice.{require, firstOf, within}
 use Rattle.octets.specs.Texts.{put, same}
 use Rattle.octets.specs.Numbers.{in24, in32}
-use Rattle.message.specs.CallsThatGetNoAnswer.{messageNumber}
+use Rattle.message.specs.TheRooms.{answerLeast}
+use Rattle.message.specs.CallsThatGetNoAnswer.{messageMost, messageNumber}
 use Rattle.message.specs.Codes.{plain, kindOf}
 use Rattle.message.specs.Kinds.{codeFrom}
 use Rattle.message.specs.ReadingAMessage.{Avp, avps, destinationHost, fieldCode, numberField, originHost, originRealm, present, proxyInfo, sessionId, textField, valueOf, walkCode, reAuthRequestType}
@@ -17,7 +18,7 @@ use Rattle.message.specs.declared.Span.{Span}
 use Rattle.message.specs.declared.Both.{Both}
 use Rattle.message.specs.declared.Both.the-variants.{Held, Failed}
 use Rattle.message.specs.Spans.{Holds, failedWith}
-use Rattle.gateway.specs.TheGateway.{Access, Call, Left, Texts, answer, headerCode, listCode, readingCode, request, roomLeast, vendorAvp, visitedAvp}
+use Rattle.gateway.specs.TheGateway.{Access, Call, Left, Texts, answer, headerCode, listCode, readingCode, request, vendorAvp, visitedAvp}
 use Rattle.gateway.specs.declared.Heard.{Heard}
 use Rattle.gateway.specs.declared.Reauthorized.{Reauthorized}
 
@@ -46,7 +47,7 @@ unfoldable pub numberBy : (host realm answer request : ℕ) → (fits : Bool) �
 numberBy host realm answer request fits m =
     firstOf
     (require (within 1 128 host && within 1 128 realm) 2
-    ∷ require (leb roomLeast answer && leb roomLeast request) 3
+    ∷ require (leb answerLeast answer && leb answerLeast request) 3
     ∷ require fits 22
     ∷ messageNumber m
     ∷ [])
@@ -83,10 +84,10 @@ pub record HeardOf (session m : List ℕ) (h : Heard) : Type 0 where
 -- whether there is a Proxy-Info to copy.
 pub record Answerable (m host realm : List ℕ) (proxies : Bool) (room : List ℕ) : Type 0 where
   pub least : 20 ≤ length m
-  pub most : length m ≤ 4096
+  pub most : length m ≤ messageMost
   pub host-fits : length host ≤ 128
   pub realm-fits : length realm ≤ 128
-  pub room-fits : 5120 ≤ length room
+  pub room-fits : answerLeast ≤ length room
   pub to-copy : proxies ≡ hasProxies m
 
 -- The answer: its length, and the room with it.
@@ -125,7 +126,7 @@ pub record Sendable (host realm : List ℕ) (from : Texts) (a : Access) (room : 
   pub user-fits : length (a .user) ≤ 128
   pub label-fits : length (a .label) ≤ 128
   pub visited-fits : length (a .visited) ≤ 128
-  pub room-fits : 5120 ≤ length room
+  pub room-fits : answerLeast ≤ length room
 
 -- The AA-Request: its length, and the room with it.
 pub record Sent (host realm : List ℕ) (from : Texts) (a : Access) (hop end size : ℕ) (before after : List ℕ) : Type 0 where

@@ -8,6 +8,7 @@ use lib.ListN.{length}
 use Rattle.octets.specs.Choice.{pick, require, firstOf, within}
 use Rattle.octets.specs.Texts.{part, put, same, zeros}
 use Rattle.octets.specs.Numbers.{in24, in32, up4}
+use Rattle.message.specs.TheRooms.{answerLeast}
 use Rattle.message.specs.CallsThatGetNoAnswer.{messageNumber}
 use Rattle.message.specs.Codes.{Code, plain, kindOf, numberOf}
 use Rattle.message.specs.ReadingAMessage.{Avp, Field, Name, application, avps, base, command, destinationHost, destinationRealm, fieldCode, flags, forBoth, having, numberField, originHost, originRealm, proxyInfo, sessionId, startsWith, textField, valueOf, walkCode, reAuthRequestType}
@@ -41,17 +42,13 @@ unfoldable pub accessFits : Access → Bool
 accessFits a =
     within 1 128 (length (a .session)) && (within 1 128 (length (a .user)) && (within 1 100 (length (a .label)) && leb (length (a .visited)) 128))
 
--- How many bytes each room has at least.
-abbrev pub roomLeast : ℕ
-roomLeast = 5120
-
--- In order: 2, an own name is not 1 to 128 bytes; 3, a room is too small; 22, a text of the access does not fit; then the message's own, 5 to 8. The
+-- In order: 2, an own name is not 1 to 128 bytes; 3, a room is under 5,120 bytes; 22, a text of the access does not fit; then the message's own, 5 to 8. The
 -- number of the first that fails, 0 where none does.
 unfoldable pub callNumber : Call → ℕ
 callNumber c =
     firstOf
     (require (within 1 128 (length (c .host)) && within 1 128 (length (c .realm))) 2
-    ∷ require (leb roomLeast (length (c .answer)) && leb roomLeast (length (c .request))) 3
+    ∷ require (leb answerLeast (length (c .answer)) && leb answerLeast (length (c .request))) 3
     ∷ require (accessFits (c .access)) 22
     ∷ messageNumber (c .message)
     ∷ [])

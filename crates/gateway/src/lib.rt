@@ -10,6 +10,7 @@ ghost use lib.Dec.{leb};
 ghost use lib.ListN.{length};
 ghost use Rattle.octets.specs.Choice.{within};
 ghost use Rattle.octets.specs.Texts.{put};
+ghost use Rattle.message.specs.TheRooms.{answerLeast};
 ghost use Rattle.message.specs.Codes.{plain};
 ghost use Rattle.message.specs.ReadingAMessage.{avps, present, proxyInfo, walkCode};
 ghost use Rattle.message.specs.Positions.{Gathered};
@@ -296,7 +297,7 @@ fn put_names(
     from_realm: &[u8],
     room: &mut [u8],
 ) -> usize
-    requires { ⌜ (length (now session) ≤ 128) × (length (now host) ≤ 128) × (length (now realm) ≤ 128) × (length (now «from_host») ≤ 128) × (length (now «from_realm») ≤ 128) × (5120 ≤ length (now room)) ⌝ }
+    requires { ⌜ (length (now session) ≤ 128) × (length (now host) ≤ 128) × (length (now realm) ≤ 128) × (length (now «from_host») ≤ 128) × (length (now «from_realm») ≤ 128) × (answerLeast ≤ length (now room)) ⌝ }
     ensures { λ r. ⌜ Written (now (room .entry)) (now (room .exit)) 20 r (nameAvps (now (session .entry)) (now (host .entry)) (now (realm .entry)) (now («from_host» .entry)) (now («from_realm» .entry))) ⌝ }
 {
     let a = answers::put_avp(room, message::HEADER_LENGTH, 263, session);

@@ -13,12 +13,13 @@ use Rattle.octets.specs.Lists.{every}
 use Rattle.octets.proofs.Choice.{by-pick}
 use Rattle.octets.proofs.Lists.{and-left, every-keep, every-one, within-high}
 use Rattle.octets.proofs.Pieces.{part-take}
+use Rattle.message.specs.TheRooms.{noticeLength}
 use Rattle.message.specs.Codes.{Code}
 use Rattle.message.specs.ReadingAMessage.{Ask, tunnel, policy, termination}
 use Rattle.table.specs.TheTable.{Access, Subscriber, isForm}
 use Rattle.table.specs.Soundness.{onEntry}
 use Rattle.table.proofs.Good.{Good, Standing, by-form, goodAccess, spare, standing}
-use Rattle.rules.specs.Calls.{Call, Reply, noticeLength, reply, resultOf}
+use Rattle.rules.specs.Calls.{Call, Reply, reply, resultOf}
 use Rattle.order.specs.Demand2.{cutFor, exceeds, firstAlone, onAsked}
 use Rattle.order.specs.Demand3.{told}
 use Rattle.order.specs.OpenedFirst as O

@@ -14,7 +14,7 @@ use Rattle.octets.proofs.Choice.{by-pick}
 use Rattle.octets.proofs.Lists.{and-left, and-right, both, by-test}
 use Rattle.octets.proofs.Texts.{length-zeros}
 use Rattle.table.specs.Answers.{lent}
-use Rattle.table.specs.TheTable.{Account, Entry, Found, Table, firstNumber, firstRow, isForm, isOwn, lookup, nothing, ownRows, row, rowBytes, rowLength, rows, tableNumber}
+use Rattle.table.specs.TheTable.{mostRows, Account, Entry, Found, Table, firstNumber, firstRow, isForm, isOwn, lookup, nothing, ownRows, row, rowBytes, rowLength, rows, tableNumber}
 use Rattle.table.proofs.Rows.{first-table, form-in, form-with, rows-count, whole-rows}
 use Rattle.table.proofs.Widths.{split}
 use Rattle.changes.specs.Changes.{named}
@@ -75,7 +75,7 @@ module _ (fm n count total mine : ℕ) where
 
 -- A TABLE OF 1 TO 1,024 ROWS
 
-module _ (fm n : ℕ) (some : isForm fm && within 1 1024 n ≡ true) (o : ℕ) (shares : List ℕ) where
+module _ (fm n : ℕ) (some : isForm fm && within 1 mostRows n ≡ true) (o : ℕ) (shares : List ℕ) where
   pub record Modelled (xs : List Operation) (own : List (List ℕ)) (t : Table) : Type 0 where
     pub reached : Reached fm n shares ((past shares t xs) .table .bytes)
     pub told : toldTo o xs ((past shares t xs) .words) ≡ wordsFor fm n (length shares) (sumOf shares) (share o shares) (operationsOf o xs) own
@@ -159,10 +159,10 @@ module _ (fm size : ℕ) (good : tableNumber (zeroTable fm size) ≡ 0) where
   whole : size ≡ rowLength fm * (size / rowLength fm)
   whole = sym (length-zeros size) ∙ whole-rows (zeroTable fm size) good ∙ ap (λ (k : ℕ). rowLength fm * (k / rowLength fm)) (length-zeros size)
 
-  some : isForm fm && within 1 1024 (size / rowLength fm) ≡ true
+  some : isForm fm && within 1 mostRows (size / rowLength fm) ≡ true
   some =
       both (form-in (zeroTable fm size) good)
-      (ap (λ (k : ℕ). within 1 1024 (k / rowLength fm)) (sym (length-zeros size)) ∙ rows-count (zeroTable fm size) good)
+      (ap (λ (k : ℕ). within 1 mostRows (k / rowLength fm)) (sym (length-zeros size)) ∙ rows-count (zeroTable fm size) good)
 
   start : (shares : List ℕ) → Reached fm (size / rowLength fm) shares (zeros size)
   start shares = subst (λ (k : ℕ). Reached fm (size / rowLength fm) shares (zeros k)) (sym whole) (cleared fm (size / rowLength fm) shares)

@@ -15,7 +15,7 @@ use Rattle.octets.proofs.Lists.{and-left, and-right, both, by-test, every-imp, 
 use Rattle.octets.proofs.Pieces.{drop-zeros, length-pieces, one-more, take-zeros}
 use Rattle.octets.proofs.Texts.{length-zeros}
 use Rattle.table.specs.Answers.{lent}
-use Rattle.table.specs.TheTable.{isForm, isOwn, ownRows, rowLength, rows, tableNumber}
+use Rattle.table.specs.TheTable.{mostRows, isForm, isOwn, ownRows, rowLength, rows, tableNumber}
 use Rattle.table.proofs.Rows.{width-least}
 use Rattle.table.proofs.Widths.{quotient-is, rest-is}
 use Rattle.setup.specs.SetUp.{share}
@@ -98,7 +98,7 @@ cleared fm n shares =
     }
 
 -- n rows of a form, of which a table has 1 to 1,024
-module _ (fm n : ℕ) (some : isForm fm && within 1 1024 n ≡ true) (shares t : List ℕ) (R : Reached fm n shares t) where
+module _ (fm n : ℕ) (some : isForm fm && within 1 mostRows n ≡ true) (shares t : List ℕ) (R : Reached fm n shares t) where
   pub count-is : length t / rowLength fm ≡ n
   count-is = quotient-is (rowLength fm) (length t) n 0 (omega (arith, R .size)) (omega (arith, width-least fm))
 

@@ -18,7 +18,7 @@ use Rattle.octets.proofs.Pieces.{length-pieces}
 use Rattle.message.specs.ReadingAMessage.{Reading, refused, request, read}
 use Rattle.table.specs.Answers.{lent}
 use Rattle.table.specs.Soundness.{isName, sound}
-use Rattle.table.specs.TheTable.{Account, Entry, Found, Subscriber, Table, firstNumber, firstRow, foundBy, hasName, isForm, isFound, isOwn, isRowOf, lookup, nothing, ownRows, readRow, row, rowAt, rowBytes, rowLength, rows, tableNumber, withRow}
+use Rattle.table.specs.TheTable.{mostRows, Account, Entry, Found, Subscriber, Table, firstNumber, firstRow, foundBy, hasName, isForm, isFound, isOwn, isRowOf, lookup, nothing, ownRows, readRow, row, rowAt, rowBytes, rowLength, rows, tableNumber, withRow}
 use Rattle.table.proofs.Bytes.{length-row}
 use Rattle.table.proofs.Rows.{first-operator, length-rowAt, length-withRow, not-zero, nth-row, row-same, rows-with}
 use Rattle.changes.specs.Changes.{named, withEntry}
@@ -171,7 +171,7 @@ unfolding A.ans asked pick
 ans-is fm c [] = refl
 ans-is fm c (r ∷ rs) = by-test (finds (subject fm c) r) (λ e. rw e) (λ e. rw e (ans-is fm c rs))
 
-module _ (fm n : ℕ) (some : isForm fm && within 1 1024 n ≡ true) (shares t : List ℕ) (R : Reached fm n shares t) where
+module _ (fm n : ℕ) (some : isForm fm && within 1 mostRows n ≡ true) (shares t : List ℕ) (R : Reached fm n shares t) where
   pub asking-step : (c : Call) → Stepped fm n shares t R (asking c)
   unfolding done answered operatorOf wordFor rowsFor
   asking-step c =
@@ -212,7 +212,7 @@ entry-kept fm e r =
     (λ z. written fm r (withEntry e (readRow r)) ((entry-passed r e (eqb-true (entryNumber r e) 0 z)) .is-sound) refl)
     (λ z. self fm r)
 
-module _ (fm n : ℕ) (some : isForm fm && within 1 1024 n ≡ true) (shares t : List ℕ) (R : Reached fm n shares t) where
+module _ (fm n : ℕ) (some : isForm fm && within 1 mostRows n ≡ true) (shares t : List ℕ) (R : Reached fm n shares t) where
   first-is : (o : ℕ) → firstNumber (lent fm t) o ≡ require (leb o 15) 33
   unfolding firstNumber firstOf pick require
   first-is o = rw (good-table fm n some shares t R) (by-test (leb o 15) (λ e. rw e) (λ e. rw e))
@@ -308,7 +308,7 @@ unfolding blank
 blank-next fm zero h = absurd (omega arith)
 blank-next fm (suc k) h = let q : suc k - 1 ≡ k = omega arith in rw q
 
-module _ (fm n : ℕ) (some : isForm fm && within 1 1024 n ≡ true) (shares t : List ℕ) (R : Reached fm n shares t) (a : Account) where
+module _ (fm n : ℕ) (some : isForm fm && within 1 mostRows n ≡ true) (shares t : List ℕ) (R : Reached fm n shares t) (a : Account) where
   abbrev mineNow : List (List ℕ)
   mineNow = keep (isOwn (a .operator)) (R .used)
 
@@ -436,7 +436,7 @@ module _ (fm n : ℕ) (some : isForm fm && within 1 1024 n ≡ true) (shares t :
 
 -- ANY OPERATION
 
-pub step : (fm n : ℕ) → isForm fm && within 1 1024 n ≡ true → (shares t : List ℕ) (R : Reached fm n shares t) (x : Operation) → Stepped fm n shares t R x
+pub step : (fm n : ℕ) → isForm fm && within 1 mostRows n ≡ true → (shares t : List ℕ) (R : Reached fm n shares t) (x : Operation) → Stepped fm n shares t R x
 step fm n some shares t R (entering a) = entering-step fm n some shares t R a
 step fm n some shares t R (adding a e) = adding-step fm n some shares t R a e
 step fm n some shares t R (asking c) = asking-step fm n some shares t R c

@@ -9,8 +9,8 @@ use lib.Dec.{eqb, leb}
 use lib.ListN.{length}
 use Rattle.octets.specs.Choice.{pick, require, firstOf, within}
 use Rattle.octets.proofs.Choice.{first-passes, others-pass, passed}
+use Rattle.message.specs.TheRooms.{answerLeast, noticeLength}
 use Rattle.table.specs.TheTable.{isForm, rowLength}
-use Rattle.rules.specs.Calls.{answerLeast, noticeLength}
 use Rattle.likeness.specs.TheSameAnswer.{Finding, orElse, compared, answerFinding}
 use Rattle.judge.specs.TheJudge.{Case, isOneRow, caseNumber}
 use Rattle.judge.specs.Code.{between}
@@ -18,11 +18,11 @@ use Rattle.judge.specs.Code.{between}
 -- ONE ROW
 
 module _ (f : ℕ) (row : List ℕ) where
-  pub row-1 : f ≡ 1 → isOneRow f row ≡ eqb (length row) 4608
+  pub row-1 : f ≡ 1 → isOneRow f row ≡ eqb (length row) (rowLength 1)
   unfolding isOneRow isForm within rowLength
   row-1 e = rw e
 
-  pub row-2 : f ≡ 2 → isOneRow f row ≡ eqb (length row) 8704
+  pub row-2 : f ≡ 2 → isOneRow f row ≡ eqb (length row) (rowLength 2)
   unfolding isOneRow isForm within rowLength
   row-2 e = rw e
 
@@ -65,20 +65,20 @@ module _ (j : Case) where
           case-realm e = simp (b, a, le-leb (j .call .operator) 15 o, h, e)
 
           module _ (r : within 1 128 (length (j .call .realm)) ≡ true) where
-            pub case-answer : length (j .call .answer) < 5120 → caseNumber j ≡ 3
+            pub case-answer : length (j .call .answer) < answerLeast → caseNumber j ≡ 3
             unfolding caseNumber firstOf require pick
-            case-answer e = simp (b, a, le-leb (j .call .operator) 15 o, h, r, lt-leb 5120 (length (j .call .answer)) e)
+            case-answer e = simp (b, a, le-leb (j .call .operator) 15 o, h, r, lt-leb answerLeast (length (j .call .answer)) e)
 
-            module _ (l : 5120 ≤ length (j .call .answer)) where
+            module _ (l : answerLeast ≤ length (j .call .answer)) where
               pub case-notice : length (j .call .notice) < noticeLength (j .form) → caseNumber j ≡ 4
               unfolding caseNumber firstOf require pick
               case-notice e =
-                  simp (b, a, le-leb (j .call .operator) 15 o, h, r, le-leb 5120 (length (j .call .answer)) l, lt-leb (noticeLength (j .form)) (length (j .call .notice)) e)
+                  simp (b, a, le-leb (j .call .operator) 15 o, h, r, le-leb answerLeast (length (j .call .answer)) l, lt-leb (noticeLength (j .form)) (length (j .call .notice)) e)
 
               pub case-none : noticeLength (j .form) ≤ length (j .call .notice) → caseNumber j ≡ 0
               unfolding caseNumber firstOf require pick
               case-none e =
-                  simp (b, a, le-leb (j .call .operator) 15 o, h, r, le-leb 5120 (length (j .call .answer)) l, le-leb (noticeLength (j .form)) (length (j .call .notice)) e)
+                  simp (b, a, le-leb (j .call .operator) 15 o, h, r, le-leb answerLeast (length (j .call .answer)) l, le-leb (noticeLength (j .form)) (length (j .call .notice)) e)
 
   -- where no test fails, a notice has room
   pub notice-fits : caseNumber j ≡ 0 → noticeLength (j .form) ≤ length (j .call .notice)

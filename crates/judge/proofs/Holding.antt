@@ -8,9 +8,10 @@ use lib.Dec.{eqb}
 use lib.ListN.{length, take, drop}
 use Rattle.octets.specs.Choice.{pick}
 use Rattle.octets.specs.Texts.{put}
+use Rattle.message.specs.TheRooms.{noticeLength}
 use Rattle.table.specs.TheTable.{Table}
 use Rattle.table.specs.Answers.{lent}
-use Rattle.rules.specs.Calls.{Left, noticeLength}
+use Rattle.rules.specs.Calls.{Left}
 use Rattle.decision.specs.Outcomes.{cutMade, leaves as callLeaves, resultSaid}
 use Rattle.decision.specs.declared.Outcome.{Outcome}
 use Rattle.order.specs.Demand3.{told}

@@ -7,8 +7,9 @@ use lib.Dec.{eqb, leb}
 use lib.ListN.{length}
 use Rattle.octets.specs.Choice.{pick, require, firstOf, within}
 use Rattle.octets.specs.Texts.{same}
+use Rattle.message.specs.TheRooms.{answerLeast, noticeLength}
 use Rattle.table.specs.TheTable.{isForm, rowLength}
-use Rattle.rules.specs.Calls.{Call, Left, answerLeast, noticeLength, handle}
+use Rattle.rules.specs.Calls.{Call, Left, handle}
 use Rattle.order.specs.Demand3.{Told, told}
 use Rattle.likeness.specs.TheSameAnswer.{Finding, orElse, compared, answerFinding, sameAnswer}
 

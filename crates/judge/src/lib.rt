@@ -7,7 +7,7 @@ ghost use mathlib.Core.Bool.{Bool};
 ghost use mathlib.Core.List.{List};
 ghost use Prim.Native.Nat.{ℕ, _*_, _≤_};
 ghost use lib.ListN.{length};
-ghost use Rattle.rules.specs.Calls.{noticeLength};
+ghost use Rattle.message.specs.TheRooms.{noticeLength};
 ghost use Rattle.decision.specs.Outcomes.{callOf, cutMade};
 ghost use Rattle.likeness.specs.Code.{said};
 ghost use Rattle.judge.specs.TheJudge.{caseNumber, isOneRow, judge};

@@ -18,6 +18,7 @@ use Rattle.octets.proofs.Texts.{length-part}
 use Rattle.message.specs.Codes.{Code, none, plain, experimental, numberOf, kindOf}
 use Rattle.message.specs.ReadingAMessage.{Name, base, sameName, sessionId, userName, Avp, headLength, avpLength, avpCode, avpOf, requestCode, behind, walkOne, walkUpTo, walkBy, walk, avps, having, firstValue, valueOf, headerCode, walkCode, command}
 use Rattle.message.specs.WritingTheAnswer.{avpBytes, sessionAvp, is3xxx, authAvps, resultAvp, subscriptionAvp, proxyAvps, answerBody, answer}
+use Rattle.message.specs.CallsThatGetNoAnswer.{messageMost}
 use Rattle.message.proofs.Walks.{Passed, passes, up4-least, request-four}
 use Rattle.answers.proofs.Writing.{length-number, up4-most, subscription-length}
 use Rattle.decision.proofs.Numbers.{Ready}
@@ -109,7 +110,7 @@ pub user-most : (m : List ℕ) → length (valueOf userName (avps m)) ≤ length
 unfolding valueOf avps walkBy
 user-most m = let r = value-walk (suc (length (drop 20 m))) userName (drop 20 m) in omega (arith, r, length-drop 20 m)
 
-over-subscription : (m : List ℕ) (c : Code) → length m ≤ 4096 → Over (inner 4) other (subscriptionAvp m c)
+over-subscription : (m : List ℕ) (c : Code) → length m ≤ messageMost → Over (inner 4) other (subscriptionAvp m c)
 unfolding subscriptionAvp other noFailed isResult isGroup sameName
 over-subscription m c h =
     let v : List ℕ = valueOf userName (avps m) in

@@ -13,17 +13,17 @@ use Rattle.octets.specs.Lists.{every}
 use Rattle.octets.specs.Numbers.{up4}
 use Rattle.octets.proofs.Lists.{by-test, and-left, and-right, both, within-low, within-high, every-map, every-of}
 use Rattle.octets.proofs.Choice.{first-passes, passed}
-use Rattle.message.specs.CallsThatGetNoAnswer.{messageNumber}
+use Rattle.message.specs.CallsThatGetNoAnswer.{messageMost, messageNumber}
 use Rattle.message.specs.ReadingAMessage.{headerCode, Avp, Field, behind, walkOne, walkUpTo, walkBy, avpLength, avpCode, requestCode, avps, walkCode, having, eachCode, testedAs, fieldCode, startsWith, fields, listCode, readingCode, sessionId, command, refused, read}
 
 -- THE MESSAGE
 
 -- a message with no number of its own has 20 to 4,096 bytes
-pub message-length : (m : List ℕ) → messageNumber m ≡ 0 → (20 ≤ length m) × (length m ≤ 4096)
+pub message-length : (m : List ℕ) → messageNumber m ≡ 0 → (20 ≤ length m) × (length m ≤ messageMost)
 unfolding messageNumber
 message-length m e =
-    let w : within 20 4096 (length m) ≡ true = passed (within 20 4096 (length m)) 5 (omega arith) (first-passes (require (within 20 4096 (length m)) 5) _ e) in
-    (within-low 20 4096 (length m) w, within-high 20 4096 (length m) w)
+    let w : within 20 messageMost (length m) ≡ true = passed (within 20 messageMost (length m)) 5 (omega arith) (first-passes (require (within 20 messageMost (length m)) 5) _ e) in
+    (within-low 20 messageMost (length m) w, within-high 20 messageMost (length m) w)
 
 -- REFUSALS
 

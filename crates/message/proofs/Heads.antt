@@ -11,7 +11,7 @@ use lib.Seq.{getD-drop}
 use Rattle.octets.specs.Choice.{pick, require, firstOf, within}
 use Rattle.octets.specs.Numbers.{net24, net32, up4}
 use Rattle.octets.proofs.Lists.{by-test}
-use Rattle.message.specs.CallsThatGetNoAnswer.{messageNumber}
+use Rattle.message.specs.CallsThatGetNoAnswer.{messageMost, messageNumber}
 use Rattle.message.specs.ReadingAMessage.{base, vendor, flags, command, application, headerCode, headLength, avpLength, avpCode, avpOf}
 use Rattle.message.specs.declared.Head.the-variants.{One, Bad}
 use Rattle.message.specs.Positions.{slotOf, spotAt, headAt, FlagsAndLength}
@@ -23,36 +23,36 @@ module _ (m : List ℕ) where
   unfolding messageNumber firstOf require pick within
   number-short h = simp (lt-leb 20 (length m) h)
 
-  pub number-long : 20 ≤ length m → 4096 < length m → messageNumber m ≡ 5
+  pub number-long : 20 ≤ length m → messageMost < length m → messageNumber m ≡ 5
   unfolding messageNumber firstOf require pick within
-  number-long h k = simp (le-leb 20 (length m) h, lt-leb (length m) 4096 k)
+  number-long h k = simp (le-leb 20 (length m) h, lt-leb (length m) messageMost k)
 
-  module _ (h : 20 ≤ length m) (k : length m ≤ 4096) where
+  module _ (h : 20 ≤ length m) (k : length m ≤ messageMost) where
     pub number-version : (getD m 0 0 ≡ 1 → ⊥) → messageNumber m ≡ 6
     unfolding messageNumber firstOf require pick within
-    number-version v = simp (le-leb 20 (length m) h, le-leb (length m) 4096 k, ne-eqb (getD m 0 0) 1 v)
+    number-version v = simp (le-leb 20 (length m) h, le-leb (length m) messageMost k, ne-eqb (getD m 0 0) 1 v)
 
     module _ (v : getD m 0 0 ≡ 1) where
       pub number-length : (net24 m 1 ≡ length m → ⊥) → messageNumber m ≡ 7
       unfolding messageNumber firstOf require pick within
-      number-length l = simp (le-leb 20 (length m) h, le-leb (length m) 4096 k, eq-eqb (getD m 0 0) 1 v, ne-eqb (net24 m 1) (length m) l)
+      number-length l = simp (le-leb 20 (length m) h, le-leb (length m) messageMost k, eq-eqb (getD m 0 0) 1 v, ne-eqb (net24 m 1) (length m) l)
 
       module _ (l : net24 m 1 ≡ length m) where
         pub number-four : (length m % 4 ≡ 0 → ⊥) → messageNumber m ≡ 7
         unfolding messageNumber firstOf require pick within
         number-four f =
-            simp (le-leb 20 (length m) h, le-leb (length m) 4096 k, eq-eqb (getD m 0 0) 1 v, eq-eqb (net24 m 1) (length m) l, ne-eqb (length m % 4) 0 f)
+            simp (le-leb 20 (length m) h, le-leb (length m) messageMost k, eq-eqb (getD m 0 0) 1 v, eq-eqb (net24 m 1) (length m) l, ne-eqb (length m % 4) 0 f)
 
         module _ (f : length m % 4 ≡ 0) where
           pub number-answer : getD m 4 0 < 128 → messageNumber m ≡ 8
           unfolding messageNumber firstOf require pick within
           number-answer r =
-              simp (le-leb 20 (length m) h, le-leb (length m) 4096 k, eq-eqb (getD m 0 0) 1 v, eq-eqb (net24 m 1) (length m) l, eq-eqb (length m % 4) 0 f, lt-leb 128 (getD m 4 0) r)
+              simp (le-leb 20 (length m) h, le-leb (length m) messageMost k, eq-eqb (getD m 0 0) 1 v, eq-eqb (net24 m 1) (length m) l, eq-eqb (length m % 4) 0 f, lt-leb 128 (getD m 4 0) r)
 
           pub number-none : 128 ≤ getD m 4 0 → messageNumber m ≡ 0
           unfolding messageNumber firstOf require pick within
           number-none r =
-              simp (le-leb 20 (length m) h, le-leb (length m) 4096 k, eq-eqb (getD m 0 0) 1 v, eq-eqb (net24 m 1) (length m) l, eq-eqb (length m % 4) 0 f, le-leb 128 (getD m 4 0) r)
+              simp (le-leb 20 (length m) h, le-leb (length m) messageMost k, eq-eqb (getD m 0 0) 1 v, eq-eqb (net24 m 1) (length m) l, eq-eqb (length m % 4) 0 f, le-leb 128 (getD m 4 0) r)
 
 -- THE HEADER
 

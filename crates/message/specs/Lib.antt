@@ -1,4 +1,5 @@
 pub mod Codes
+pub mod TheRooms
 pub mod CallsThatGetNoAnswer
 pub mod ReadingAMessage
 pub mod WritingTheAnswer

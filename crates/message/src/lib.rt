@@ -6,7 +6,7 @@ ghost use lib.Dec.{eqb};
 ghost use lib.ListN.{length, getD, drop};
 ghost use Rattle.octets.specs.Texts.{zeros};
 ghost use Rattle.octets.specs.Numbers.{net24, net32};
-ghost use Rattle.message.specs.CallsThatGetNoAnswer.{messageNumber};
+ghost use Rattle.message.specs.CallsThatGetNoAnswer.{messageMost, messageNumber};
 ghost use Rattle.message.specs.ReadingAMessage.{base, vendor, sameName, routingPolicy, avpCode, avpOf, supported, command, headerCode, requestWalk, avps, walkCode, numberField, textsField, fieldCode};
 ghost use Rattle.message.specs.Positions.{slots, notKnown, routesSlot, slotOf, nameAt, headOf, headAt, FlagsAndLength, Gathered};
 ghost use Rattle.message.specs.Spans.{bytesField, codeOf, Reads, RouteFrom, howMany, isFit, routesCode, RoutesRead};
@@ -76,7 +76,7 @@ pub const INDEX_LENGTH: usize = 30;
 
 // Whether the length in the header is n, which two of its three bytes can hold: they are read at once.
 fn has_length(m: &[u8], n: usize) -> bool
-    requires { ⌜ (20 ≤ length (now m)) × (n ≤ 4096) ⌝ }
+    requires { ⌜ (20 ≤ length (now m)) × (n ≤ messageMost) ⌝ }
     ensures { λ r. ⌜ r ≡ eqb (net24 (now (m .entry)) 1) n ⌝ }
 {
     if m[1] != 0 {

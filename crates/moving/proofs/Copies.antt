@@ -56,7 +56,7 @@ behind-free = refl
 
 free-copied : (w : ℕ) → copiedPlace w (zeros blockLength) ≡ zeros w
 unfolding copiedPlace filled
-free-copied w = rw (behind-free, more-zeros blockLength blockLength, more-zeros 1024 w) (take-zeros w (1024 + w) (omega arith))
+free-copied w = rw (behind-free, more-zeros blockLength blockLength, more-zeros (placeLength 2) w) (take-zeros w (placeLength 2 + w) (omega arith))
 
 behind-used : (a : Access) → behindFirst (firstBytes a) ≡ plainSecond
 unfolding behindFirst firstBytes sealed pick

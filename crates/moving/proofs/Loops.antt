@@ -19,7 +19,7 @@ use Rattle.octets.proofs.Texts.{length-zeros}
 use Rattle.soundness.proofs.Line.{line-at}
 use Rattle.table.specs.Answers.{lent}
 use Rattle.table.specs.Soundness.{isRow, sound}
-use Rattle.table.specs.TheTable.{blockLength, Table, accessAt, isForm, lineRoom, orderLine, place, readAccess, readRow, rowAt, rows, secondBlock, tableNumber, width}
+use Rattle.table.specs.TheTable.{placeLength, blockLength, Table, accessAt, isForm, lineRoom, orderLine, place, readAccess, readRow, rowAt, rows, secondBlock, tableNumber, width}
 use Rattle.table.proofs.Rows.{cut-row, form-in, length-rowAt, number-form, whole-rows}
 use Rattle.moving.specs.Moving.{fitsForm1, movable, moveNumber, otherForm, plainAccess, source}
 use Rattle.moving.specs.Copying.{behindFirst, copiedPlace, plainSecond}
@@ -111,30 +111,30 @@ module _ (b : List ℕ) (size : length b ≡ blockLength) where
       cleared blockLength b size ∙ append-nil b
       ∙ sym (ap (take blockLength) (append-assoc b (behindFirst b) (zeros blockLength)) ∙ take-at b (behindFirst b ++ zeros blockLength) blockLength size)
 
-  pub copied-free : (getD b 0 0 ≡ 2 → ⊥) → put (zeros 1024) 0 b ≡ copiedPlace 1024 b
+  pub copied-free : (getD b 0 0 ≡ 2 → ⊥) → put (zeros (placeLength 2)) 0 b ≡ copiedPlace (placeLength 2) b
   unfolding copiedPlace filled behindFirst pick
   copied-free n =
       rw (ne-eqb (getD b 0 0) 2 n)
-      (cleared 1024 b size ∙ sym (take-at (b ++ zeros blockLength) (zeros 1024) 1024 (rw (length-append, size, length-zeros))))
+      (cleared (placeLength 2) b size ∙ sym (take-at (b ++ zeros blockLength) (zeros (placeLength 2)) (placeLength 2) (rw (length-append, size, length-zeros))))
 
   two-parts : zeros blockLength ≡ 0 ∷ zeros 510 ++ (0 ∷ [])
   unfolding zeros
   two-parts = refl
 
-  pub copied-used : getD b 0 0 ≡ 2 → set (set (put (zeros 1024) 0 b) blockLength 3) 1023 3 ≡ copiedPlace 1024 b
+  pub copied-used : getD b 0 0 ≡ 2 → set (set (put (zeros (placeLength 2)) 0 b) blockLength 3) 1023 3 ≡ copiedPlace (placeLength 2) b
   unfolding copiedPlace filled behindFirst pick plainSecond
   copied-used u =
-      let whole : put (zeros 1024) 0 b ≡ b ++ (0 ∷ zeros 510 ++ (0 ∷ [])) = cleared 1024 b size ∙ ap (λ (t : List ℕ). b ++ t) two-parts in
+      let whole : put (zeros (placeLength 2)) 0 b ≡ b ++ (0 ∷ zeros 510 ++ (0 ∷ [])) = cleared (placeLength 2) b size ∙ ap (λ (t : List ℕ). b ++ t) two-parts in
       let one : set (b ++ (0 ∷ zeros 510 ++ (0 ∷ []))) blockLength 3 ≡ (b ++ (3 ∷ zeros 510)) ++ (0 ∷ []) =
       set-at b 0 (zeros 510 ++ (0 ∷ [])) 3 blockLength size ∙ sym (append-assoc b (3 ∷ zeros 510) (0 ∷ [])) in
       let long : length (b ++ (3 ∷ zeros 510)) ≡ 1023 = rw (length-append, size, length-zeros) in
       let two : set ((b ++ (3 ∷ zeros 510)) ++ (0 ∷ [])) 1023 3 ≡ b ++ (3 ∷ zeros 510 ++ (3 ∷ [])) =
       set-at (b ++ (3 ∷ zeros 510)) 0 [] 3 1023 long ∙ append-assoc b (3 ∷ zeros 510) (3 ∷ []) in
-      let full : length (b ++ (3 ∷ zeros 510 ++ (3 ∷ []))) ≡ 1024 = rw (length-append, size, length-append, length-zeros) in
+      let full : length (b ++ (3 ∷ zeros 510 ++ (3 ∷ []))) ≡ placeLength 2 = rw (length-append, size, length-append, length-zeros) in
       ap (λ (t : List ℕ). set (set t blockLength 3) 1023 3) whole
       ∙ ap (λ (t : List ℕ). set t 1023 3) one
       ∙ two
-      ∙ sym (rw (eq-eqb (getD b 0 0) 2 u) (take-at (b ++ (3 ∷ zeros 510 ++ (3 ∷ []))) (zeros 1024) 1024 full))
+      ∙ sym (rw (eq-eqb (getD b 0 0) 2 u) (take-at (b ++ (3 ∷ zeros 510 ++ (3 ∷ []))) (zeros (placeLength 2)) (placeLength 2) full))
 
 -- THE FORM
 
@@ -173,9 +173,9 @@ module _ (b p z q : List ℕ) (size : length b ≡ blockLength) where
   pub one-block : length p ≡ blockLength → z ≡ zeros (length p) → q ≡ put z 0 b → q ≡ copiedPlace (length p) b
   one-block h e d = d ∙ ap (λ (t : List ℕ). put t 0 b) (e ∙ ap zeros h) ∙ copied-one b size ∙ ap (λ (n : ℕ). copiedPlace n b) (sym h)
 
-  pub free-block : length p ≡ 1024 → z ≡ zeros (length p) → q ≡ put z 0 b → (getD b 0 0 ≡ 2 → ⊥) → q ≡ copiedPlace (length p) b
+  pub free-block : length p ≡ placeLength 2 → z ≡ zeros (length p) → q ≡ put z 0 b → (getD b 0 0 ≡ 2 → ⊥) → q ≡ copiedPlace (length p) b
   free-block h e d n = d ∙ ap (λ (t : List ℕ). put t 0 b) (e ∙ ap zeros h) ∙ copied-free b size n ∙ ap (λ (n : ℕ). copiedPlace n b) (sym h)
 
-  pub used-block : length p ≡ 1024 → z ≡ zeros (length p) → q ≡ put z 0 b → getD b 0 0 ≡ 2 → set (set q blockLength 3) 1023 3 ≡ copiedPlace (length p) b
+  pub used-block : length p ≡ placeLength 2 → z ≡ zeros (length p) → q ≡ put z 0 b → getD b 0 0 ≡ 2 → set (set q blockLength 3) 1023 3 ≡ copiedPlace (length p) b
   used-block h e d u =
       ap (λ (t : List ℕ). set (set t blockLength 3) 1023 3) (d ∙ ap (λ (t : List ℕ). put t 0 b) (e ∙ ap zeros h)) ∙ copied-used b size u ∙ ap (λ (n : ℕ). copiedPlace n b) (sym h)

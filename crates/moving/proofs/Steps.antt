@@ -16,9 +16,9 @@ use Rattle.octets.proofs.Pieces.{piece-ends}
 use Rattle.octets.proofs.Texts.{length-put, put-there}
 use Rattle.row.proofs.Entries.{head-size, row-least}
 use Rattle.row.proofs.Places.{row-sizes}
-use Rattle.table.specs.Answers.{lent}
+use Rattle.table.specs.Answers.{tableMost, lent}
 use Rattle.table.specs.Soundness.{isRow, lineExact}
-use Rattle.table.specs.TheTable.{blockLength, Table, firstBlock, formOf, head, isForm, place, placeLength, places, rowAt, rowLength, rows, tableNumber, width}
+use Rattle.table.specs.TheTable.{mostRows, blockLength, Table, firstBlock, formOf, head, isForm, place, placeLength, places, rowAt, rowLength, rows, tableNumber, width}
 use Rattle.table.proofs.Bytes.{form-of}
 use Rattle.table.proofs.Form.{length-first-of, sized}
 use Rattle.table.proofs.Rows.{form-in, form-top, rows-most, width-least, width-most}
@@ -39,7 +39,7 @@ unfolding copiedPlaces places placeFrom
 places-built w r = built-counted (λ (k : ℕ). copiedPlace w (firstBlock (place r k))) 1 8
 
 -- eight of them
-pub eight-parts : (n : ℕ) → 4096 ≤ n → n ≤ 8192 → n % 4096 ≡ 0 → (n ≡ n / 8 * 8) × (blockLength ≤ n / 8) × (n / 8 ≤ 1024) × (n / 8 % blockLength ≡ 0)
+pub eight-parts : (n : ℕ) → 8 * placeLength 1 ≤ n → n ≤ 8 * placeLength 2 → n % (8 * placeLength 1) ≡ 0 → (n ≡ n / 8 * 8) × (blockLength ≤ n / 8) × (n / 8 ≤ placeLength 2) × (n / 8 % blockLength ≡ 0)
 eight-parts n lo hi e = (omega arith, omega arith, omega arith, omega arith)
 
 pub place-by : (w v : ℕ) (r : List ℕ) (k : ℕ) (b s : List ℕ) → b ≡ firstBlock (place r (k + 1)) → v ≡ w → s ≡ copiedPlace v b → s ≡ placeFrom w r k
@@ -62,7 +62,7 @@ module _ (room from h q : List ℕ) (a : isRow room ≡ true) (b : isRow from �
   pub put-long : length q ≡ length room
   put-long = ap length d ∙ length-put room 0 h (omega (arith, head-long, row-least room a))
 
-  pub rest-long : length (take (length q - blockLength) (drop blockLength q)) ≡ 4096 * formOf room
+  pub rest-long : length (take (length q - blockLength) (drop blockLength q)) ≡ 8 * placeLength (formOf room)
   rest-long = ap length (take-all (length q - blockLength) (drop blockLength q) (rw length-drop (omega arith))) ∙ length-drop blockLength q ∙ omega (arith, put-long, row-sizes room a .0)
 
   pub row-back : (s : List ℕ) → s ≡ copiedPlaces (length (take (length q - blockLength) (drop blockLength q)) / 8) from
@@ -111,10 +111,10 @@ module _ (to o : ℕ) (bytes room : List ℕ) (other : o ≡ 3 - to) where
       room-is : v * n ≡ rowLength to * length (rows (source to bytes))
       room-is = λ i. vs i * count-is i
 
-      pub product-fits : v * n ≤ 8912896
+      pub product-fits : v * n ≤ tableMost
       product-fits =
-          let few : n ≤ 1024 = omega (arith, ns ∙ ap (λ (x : ℕ). length bytes / x) ws, rows-most (lent o bytes) right) in
-          omega (arith, ap (λ (x : ℕ). x * n) vs, ap (λ (x : ℕ). x * 1024) vs, rows-order v n 1024 few, width-most to (both-small .2))
+          let few : n ≤ mostRows = omega (arith, ns ∙ ap (λ (x : ℕ). length bytes / x) ws, rows-most (lent o bytes) right) in
+          omega (arith, ap (λ (x : ℕ). x * n) vs, ap (λ (x : ℕ). x * mostRows) vs, rows-order v n mostRows few, width-most to (both-small .2))
 
       pub by-room : (length room ≡ v * n → ⊥) → 19 ≡ moveNumber to bytes room
       by-room k = sym (number-room to bytes room right-source (λ z. k (z ∙ sym room-is)))
@@ -180,9 +180,9 @@ module _ (to : ℕ) (bytes room : List ℕ) (z : moveNumber to bytes room ≡ 0)
       pub row-inside : i < length bytes / rowLength (3 - to)
       row-inside = omega (arith, room-count)
 
-    pub room-most : length room ≤ 8912896
+    pub room-most : length room ≤ tableMost
     room-most =
-        omega (arith, room-whole, rows-order w (length bytes / rowLength (3 - to)) 1024 (rows-most (lent (3 - to) bytes) source-right), ap (λ (x : ℕ). x * 1024) ws, width-most to (to-small .1))
+        omega (arith, room-whole, rows-order w (length bytes / rowLength (3 - to)) mostRows (rows-most (lent (3 - to) bytes) source-right), ap (λ (x : ℕ). x * mostRows) ws, width-most to (to-small .1))
 
     pub row-by : (i : ℕ) (p r s : List ℕ) → length p ≡ w → r ≡ rowAt (lent (3 - to) bytes) i → s ≡ copiedRow (formOf p) r → s ≡ rowFrom to bytes i
     unfolding rowFrom source otherForm

@@ -14,7 +14,7 @@ use Rattle.octets.proofs.Choice.{first-passes, others-pass, passed}
 use Rattle.octets.proofs.Lists.{and-left, and-right, both, by-test, every-both, every-imp, every-map, in-within, within-high, within-low}
 use Rattle.octets.proofs.Pieces.{join-pieces, joined, length-pieces, pieces-at}
 use Rattle.table.specs.Answers.{lent}
-use Rattle.table.specs.TheTable.{Table, isForm, rowAt, rowLength, rows, tableNumber, width}
+use Rattle.table.specs.TheTable.{mostRows, Table, isForm, rowAt, rowLength, rows, tableNumber, width}
 use Rattle.table.proofs.Entries.{map-at}
 use Rattle.table.proofs.Rows.{form-in, number-right, rows-count, whole-rows, width-least}
 use Rattle.table.proofs.Widths.{quotient-is, rest-is, rows-order}
@@ -218,17 +218,17 @@ module _ (to : ℕ) (bytes room : List ℕ) (p : Passes to bytes room) where
   unfolding rows
   out-rows = ap (λ (n : ℕ). pieces (rowLength to) n out) (out-count ∙ sym length-there) ∙ cut-joined (rowLength to) there (all-moved-wide to here)
 
-  here-count : within 1 1024 (length here) ≡ true
-  here-count = ap (within 1 1024) (length-rows (source to bytes)) ∙ rows-count (source to bytes) (p .table-right)
+  here-count : within 1 mostRows (length here) ≡ true
+  here-count = ap (within 1 mostRows) (length-rows (source to bytes)) ∙ rows-count (source to bytes) (p .table-right)
 
   pub out-number : tableNumber (lent to out) ≡ 0
   out-number =
-      let lo : 1 ≤ length here = within-low 1 1024 _ here-count in
-      let hi : length here ≤ 1024 = within-high 1 1024 _ here-count in
+      let lo : 1 ≤ length here = within-low 1 mostRows _ here-count in
+      let hi : length here ≤ mostRows = within-high 1 mostRows _ here-count in
       let rest : length out % rowLength to ≡ 0 = rest-is (rowLength to) (length out) (length here) 0 (omega (arith, out-length)) (omega (arith, width-least to)) in
       number-right (lent to out) (both-forms .to-form) rest
       (omega (arith, out-length, rows-order (rowLength to) 1 (length here) lo, width-least to))
-      (omega (arith, out-length, rows-order (rowLength to) (length here) 1024 hi))
+      (omega (arith, out-length, rows-order (rowLength to) (length here) mostRows hi))
 
   -- row i of it
   pub out-row : (i : ℕ) → i < length here → rowAt (lent to out) i ≡ movedRow to (rowAt (source to bytes) i)

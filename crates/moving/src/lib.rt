@@ -7,7 +7,7 @@ ghost use lib.ListN.{length};
 ghost use Rattle.octets.specs.Lists.{every};
 ghost use Rattle.table.specs.Answers.{lent};
 ghost use Rattle.table.specs.Soundness.{isRow, lineExact};
-ghost use Rattle.table.specs.TheTable.{blockLength, accessAt, formOf, rows, tableNumber};
+ghost use Rattle.table.specs.TheTable.{placeLength, blockLength, accessAt, formOf, rows, tableNumber};
 ghost use Rattle.moving.specs.Moving.{fitsForm1, joinedRows, movable, move, moveNumber, movedRow, plainAccess, source};
 ghost use Rattle.moving.specs.Copying.{copiedPlace, copiedPlaces, copiedRow};
 
@@ -115,7 +115,7 @@ fn move_number(table: &[u8], target: &[u8], form: u32) -> u32
 
 // A place from its first block: that block, and where the form has a second, that of an access without a realm and without further policies, or zeros.
 fn move_place(first: &[u8], place: &mut [u8])
-    requires { ⌜ (length (now first) ≡ blockLength) × (blockLength ≤ length (now place)) × (length (now place) ≤ 1024) × (length (now place) % blockLength ≡ 0) ⌝ }
+    requires { ⌜ (length (now first) ≡ blockLength) × (blockLength ≤ length (now place)) × (length (now place) ≤ placeLength 2) × (length (now place) % blockLength ≡ 0) ⌝ }
     ensures { λ _. ⌜ now (place .exit) ≡ copiedPlace (length (now (place .entry))) (now (first .entry)) ⌝ }
 {
     octets::clear(place);
@@ -132,7 +132,7 @@ fn move_place(first: &[u8], place: &mut [u8])
 
 // The eight places of a row.
 fn move_places(from: &[u8], places: &mut [u8])
-    requires { ⌜ (isRow (now from) ≡ true) × (4096 ≤ length (now places)) × (length (now places) ≤ 8192) × (length (now places) % 4096 ≡ 0) ⌝ }
+    requires { ⌜ (isRow (now from) ≡ true) × (8 * placeLength 1 ≤ length (now places)) × (length (now places) ≤ 8 * placeLength 2) × (length (now places) % (8 * placeLength 1) ≡ 0) ⌝ }
     ensures { λ _. ⌜ now (places .exit) ≡ copiedPlaces (length (now (places .entry)) / 8) (now (from .entry)) ⌝ }
 {
     let width = places.len() / table::PLACES;

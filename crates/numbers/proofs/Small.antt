@@ -11,6 +11,7 @@ use Rattle.octets.specs.Choice.{pick, within}
 use Rattle.octets.specs.Lists.{every, firstOr, keep}
 use Rattle.octets.proofs.Choice.{by-pick}
 use Rattle.octets.proofs.Lists.{and-left, and-right, both, by-test, every-imp, every-keep, within-high}
+use Rattle.message.specs.TheRooms.{answerLeast}
 use Rattle.message.specs.Codes.{Code, plain, numberOf, userUnknown}
 use Rattle.message.specs.ReadingAMessage.{Ask, tunnel, policy, termination, Reading, refused, request, Request, avps, command, read, requestOf, userName, valueOf}
 use Rattle.message.specs.WritingTheAnswer.{answer}
@@ -33,7 +34,7 @@ use Rattle.decision.proofs.Numbers.{Ready, handled, is-ready, unanswered}
 unfoldable short : Access → Bool
 short a = leb (length (a .session)) 128 && (leb (length (a .host)) 128 && leb (length (a .realm)) 128)
 
-result-small : (n place : ℕ) (c : Code) (cut : List Access) → n ≤ 5120 → place ≤ 8 → every short cut ≡ true → In32 (resultOf n place c cut)
+result-small : (n place : ℕ) (c : Code) (cut : List Access) → n ≤ answerLeast → place ≤ 8 → every short cut ≡ true → In32 (resultOf n place c cut)
 unfolding resultOf every short
 result-small n p c [] hn hp hc = record { length-fits = omega arith; place-fits = omega arith; session-fits = omega arith; host-fits = omega arith; realm-fits = omega arith }
 result-small n p c (a ∷ others) hn hp hc =
@@ -100,7 +101,7 @@ decided-small f fm (termination session label) wag s g = by-pick SmallVerdict _ 
 
 module _ (t : Table) (c : Call) (ready : Ready (c .message) (c .host) (c .realm) (c .answer)) where
   answer-small : (code : Code) → (command (c .message) ≡ 265 → numberOf code ≡ 2001 → length (valueOf userName (avps (c .message))) ≤ 128)
-      → length (answer (c .message) (c .host) (c .realm) code) ≤ 5120
+      → length (answer (c .message) (c .host) (c .realm) code) ≤ answerLeast
   answer-small code u = answer-fits (c .message) (c .host) (c .realm) code (ready .least) (ready .most) (ready .host-fits) (ready .realm-fits) u
 
   refusal-small : (code : Code) → (numberOf code ≡ 2001 → ⊥) → In32 ((refusal t c code) .reply .result)

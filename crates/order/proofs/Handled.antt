@@ -13,12 +13,13 @@ use Rattle.octets.specs.Choice.{pick}
 use Rattle.octets.specs.Texts.{put}
 use Rattle.octets.proofs.Choice.{by-pick}
 use Rattle.octets.proofs.Lists.{by-test}
+use Rattle.message.specs.TheRooms.{noticeLength}
 use Rattle.message.specs.Codes.{Code, plain, userUnknown}
 use Rattle.message.specs.ReadingAMessage.{Request, Reading, refused, request, read}
 use Rattle.message.specs.WritingTheAnswer.{answer, answerRoom}
 use Rattle.table.specs.TheTable.{Access, Found, Table, row, nothing, lookup, rowAt}
 use Rattle.table.specs.Soundness.{sound}
-use Rattle.rules.specs.Calls.{account, Call, Left, Reply, callNumber, handle, mostPolicies, noticeLength, onReading, onRow, refusal, reply, resultOf, settled, silent}
+use Rattle.rules.specs.Calls.{account, Call, Left, Reply, callNumber, handle, mostPolicies, onReading, onRow, refusal, reply, resultOf, settled, silent}
 use Rattle.order.specs.Demand3.{RoomsOf, told}
 use Rattle.order.proofs.Rooms.{rooms-after}
 

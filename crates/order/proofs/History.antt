@@ -14,6 +14,7 @@ use Rattle.octets.specs.Texts.{filled, same, zeros}
 use Rattle.octets.proofs.Choice.{by-pick}
 use Rattle.octets.proofs.Lists.{and-left, and-right, by-test, same-eq, within-high, within-low}
 use Rattle.octets.proofs.Texts.{length-filled}
+use Rattle.message.specs.TheRooms.{noticeLength}
 use Rattle.message.specs.Codes.{Code, plain}
 use Rattle.message.specs.ReadingAMessage.{Ask, tunnel, policy, termination}
 use Rattle.table.specs.TheTable.{Access, Policies, Subscriber, isForm, line}
@@ -21,7 +22,7 @@ use Rattle.table.specs.Soundness.{onEntry}
 use Rattle.table.proofs.Good.{Good, Standing, by-form, goodAccess, spare, standing}
 use Rattle.changes.specs.Changes.{Opening, freed, hold, keptIn, lowestFree, newAccess, opened, routed}
 use Rattle.rules.specs.Deciding.{entryAt, entryNamed, none, placeOf, withSession}
-use Rattle.rules.specs.Calls.{Call, Reply, noticeBytes, noticeLength, noticeRoom, reply, resultOf}
+use Rattle.rules.specs.Calls.{Call, Reply, noticeBytes, noticeRoom, reply, resultOf}
 use Rattle.plans.proofs.Stay.{entry-found}
 use Rattle.order.specs.ChecksInOrder.{check, decidingChecks, noneFails}
 use Rattle.order.specs.Demand2.{afterwards, cutFor, exceeds, firstAlone, onAsked, opens, placeTaken, spared}

@@ -16,6 +16,7 @@ use Rattle.octets.specs.Texts.{zeros, put}
 use Rattle.octets.proofs.Choice.{by-pick}
 use Rattle.octets.proofs.Lists.{by-test}
 use Rattle.octets.proofs.Texts.{length-zeros, length-filled, put-nothing}
+use Rattle.message.specs.TheRooms.{answerLeast, noticeLength}
 use Rattle.message.specs.Codes.{Code, plain, userUnknown}
 use Rattle.message.specs.CallsThatGetNoAnswer.{messageNumber}
 use Rattle.message.specs.ReadingAMessage.{Request, Reading, refused, request, read}
@@ -24,7 +25,7 @@ use Rattle.table.specs.TheTable.{Access, Found, Table, row, nothing, lookup, ro
 use Rattle.table.specs.Soundness.{sound}
 use Rattle.changes.proofs.Steps.{keep-map}
 use Rattle.rules.specs.Deciding.{Verdict, decide}
-use Rattle.rules.specs.Calls.{account, Call, Left, Reply, answerLeast, noticeLength, noticeBytes, callNumber, silent, noticeRoom, resultOf, reply, refusal, settled, mostPolicies, onRow, onReading, handle, Ran, ranFirst, run}
+use Rattle.rules.specs.Calls.{account, Call, Left, Reply, noticeBytes, callNumber, silent, noticeRoom, resultOf, reply, refusal, settled, mostPolicies, onRow, onReading, handle, Ran, ranFirst, run}
 use Rattle.order.specs.Demand2.{placeTaken, requestIn, said}
 use Rattle.order.specs.Demand3.{Subject, subscriber, sameSubject, ownNumber, sentBy, nobody, subject, isOf, callsOf, recordOf, Brought, brought, Told, told, SameLeft, RoomsOf}
 use Rattle.order.specs.Demand3.{NoticeTold, SameBrought, SameTable, SameReplies, SameRecord}

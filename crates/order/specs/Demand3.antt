@@ -9,9 +9,10 @@ use lib.ListN.{length, take}
 use Rattle.octets.specs.Choice.{pick, require, firstOf}
 use Rattle.octets.specs.Lists.{keep}
 use Rattle.octets.specs.Texts.{same, put}
+use Rattle.message.specs.TheRooms.{answerLeast, noticeLength}
 use Rattle.message.specs.ReadingAMessage.{Reading, refused, request, read, headerCode, walkCode, command, avps, startsWith, sessionId, userName, valueOf, fieldCode, fields}
 use Rattle.table.specs.TheTable.{Access, Account, Found, Table, row, nothing, lookup, rowAt}
-use Rattle.rules.specs.Calls.{Call, Result, Reply, Left, ownTests, handle, mostPolicies, run, answerLeast, noticeBytes, noticeLength}
+use Rattle.rules.specs.Calls.{Call, Result, Reply, Left, ownTests, handle, mostPolicies, run, noticeBytes}
 use Rattle.order.specs.Demand2.{cutFor, requestIn, said, succeeds}
 
 -- WHOSE A CALL IS

@@ -16,7 +16,7 @@ use Rattle.table.proofs.Rows.{lent-at, lent-part}
 
 -- THE SIZES OF A ROW
 
-pub row-sizes : (r : List ℕ) → isRow r ≡ true → (length r ≡ blockLength + 4096 * formOf r) × (1 ≤ formOf r) × (formOf r ≤ 2)
+pub row-sizes : (r : List ℕ) → isRow r ≡ true → (length r ≡ blockLength + 8 * placeLength (formOf r)) × (1 ≤ formOf r) × (formOf r ≤ 2)
 unfolding rowLength isForm
 row-sizes r h = let s : Sized r = sized r h in (omega (arith, s .size), within-low 1 2 _ (s .form), within-high 1 2 _ (s .form))
 

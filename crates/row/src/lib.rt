@@ -7,7 +7,7 @@ ghost use Rattle.octets.specs.Choice.{within};
 ghost use Rattle.octets.specs.Texts.{part};
 ghost use Rattle.table.specs.Answers.{lent};
 ghost use Rattle.table.specs.Soundness.{isRow};
-ghost use Rattle.table.specs.TheTable.{blockLength, accessAt, entriesRoom, firstBlock, formOf, head, lineRoom, place, placeStart, readEntry, rowAt, rowLength, secondBlock};
+ghost use Rattle.table.specs.TheTable.{placeLength, blockLength, accessAt, entriesRoom, firstBlock, formOf, head, lineRoom, place, placeStart, readEntry, rowAt, rowLength, secondBlock};
 
 // ROW i OF A TABLE, counted from 0
 
@@ -77,7 +77,7 @@ pub fn entries_room(r: &[u8]) -> &[u8]
 pub fn start(r: &[u8], k: usize) -> usize
     requires { ⌜ (isRow (now r) ≡ true) × (1 ≤ k) × (k ≤ 8) ⌝ }
     ensures { λ x. ⌜ (x ≡ placeStart (formOf (now (r .entry))) k) × (blockLength ≤ x) × (x + blockLength * formOf (now (r .entry)) ≤ length (now (r .entry)))
-        × (length (now (r .entry)) ≡ blockLength + 4096 * formOf (now (r .entry))) × (1 ≤ formOf (now (r .entry))) × (formOf (now (r .entry)) ≤ 2) ⌝ }
+        × (length (now (r .entry)) ≡ blockLength + 8 * placeLength (formOf (now (r .entry)))) × (1 ≤ formOf (now (r .entry))) × (formOf (now (r .entry)) ≤ 2) ⌝ }
 {
     let stride = (r.len() - table::BLOCK_LENGTH) / table::PLACES;
     table::BLOCK_LENGTH + stride * (k - 1)

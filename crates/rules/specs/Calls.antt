@@ -6,6 +6,7 @@ use lib.Dec.{eqb, leb}
 use lib.ListN.{length, drop}
 use Rattle.octets.specs.Choice.{pick, require, firstOf, within}
 use Rattle.octets.specs.Texts.{filled}
+use Rattle.message.specs.TheRooms.{answerLeast, noticeLength}
 use Rattle.message.specs.Codes.{Code, none, plain, userUnknown, numberOf, kindOf}
 use Rattle.message.specs.CallsThatGetNoAnswer.{messageNumber}
 use Rattle.message.specs.ReadingAMessage.{Request, Reading, refused, request, read}
@@ -52,13 +53,6 @@ pub record Left : Type 0 where
   pub table : Table
 
 -- CALLS THAT GET NO DIAMETER ANSWER
-
-abbrev pub answerLeast : ℕ
-answerLeast = 5120
-
--- How long a notice is: two texts of 128 bytes in form 1, three in form 2.
-unfoldable pub noticeLength : (form : ℕ) → ℕ
-noticeLength f = pick (eqb f 2) 384 256
 
 -- The tests that do not look at the table, in order: 33, the operator is over 15; 2, the own host or realm is not 1 to 128 bytes; 3, the answer
 -- room is under 5,120 bytes; 4, the notice room is shorter than a notice of the form; then the message's own, 5 to 8.

@@ -153,7 +153,7 @@ access-one a = rw (append-assoc (firstBytes a) (secondBytes a) (zeros blockLengt
 
 pub access-two : (a : Access) → accessBytes 2 a ≡ firstBytes a ++ secondBytes a
 unfolding accessBytes filled
-access-two a = take-at (firstBytes a ++ secondBytes a) (zeros 1024) 1024 (rw (length-append, length-first, length-second))
+access-two a = take-at (firstBytes a ++ secondBytes a) (zeros (placeLength 2)) (placeLength 2) (rw (length-append, length-first, length-second))
 
 pub first-of : (fm : ℕ) (a : Access) → isForm fm ≡ true → firstBlock (accessBytes fm a) ≡ firstBytes a
 first-of fm a h =

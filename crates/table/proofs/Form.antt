@@ -188,7 +188,7 @@ same-one k p h s =
     (ap (λ (b : List ℕ). same b (firstBytes (readPlace k p))) (sym (take-all blockLength p (omega arith)))
     ∙ first-form k (firstBlock p) (secondBlock p) (rw length-take (omega arith)) (s .two) (s .three) (s .five))
 
-same-two : (k : ℕ) (p : List ℕ) → length p ≡ 1024 → Short 2 p → same p (accessBytes 2 (readPlace k p)) ≡ blockTests 2 p
+same-two : (k : ℕ) (p : List ℕ) → length p ≡ placeLength 2 → Short 2 p → same p (accessBytes 2 (readPlace k p)) ≡ blockTests 2 p
 unfolding blockTests ofBlocks pick
 same-two k p h s =
     rw (

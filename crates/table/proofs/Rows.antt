@@ -18,8 +18,8 @@ use Rattle.octets.proofs.Pieces.{joined, join-pieces, length-piece, length-with
 use Rattle.octets.proofs.Texts.{length-part, zero-step}
 use Rattle.octets.proofs.Words.{low-eq}
 use Rattle.octets.proofs.Lists.{and-left, and-right, by-test, in-within, same-eq, within-high, within-low}
-use Rattle.table.specs.TheTable.{blockLength, Account, Found, Table, firstNumber, firstRow, formOf, foundBy, hasName, isForm, isRowOf, later, nothing, row, rowAt, rowLength, tableNumber, width, withRow}
-use Rattle.table.specs.Answers.{lent}
+use Rattle.table.specs.TheTable.{mostRows, blockLength, Account, Found, Table, firstNumber, firstRow, formOf, foundBy, hasName, isForm, isRowOf, later, nothing, row, rowAt, rowLength, tableNumber, width, withRow}
+use Rattle.table.specs.Answers.{rowMost, tableMost, lent}
 use Rattle.table.proofs.Widths.{fewer-rows, rows-order, split}
 
 -- THE FORM AND ITS WIDTH
@@ -28,7 +28,7 @@ pub width-least : (f : ℕ) → blockLength ≤ rowLength f
 unfolding rowLength
 width-least f = omega arith
 
-pub width-most : (f : ℕ) → f ≤ 2 → rowLength f ≤ 8704
+pub width-most : (f : ℕ) → f ≤ 2 → rowLength f ≤ rowMost
 unfolding rowLength
 width-most f h = omega arith
 
@@ -65,18 +65,18 @@ no-rest t h = eqb-true _ 0 (and-left (eqb (length (t .bytes) % width t) 0) _ (an
 pub whole-rows : (t : Table) → tableNumber t ≡ 0 → length (t .bytes) ≡ width t * (length (t .bytes) / width t)
 whole-rows t h = omega (arith, split (width t) (length (t .bytes)), no-rest t h)
 
-pub rows-count : (t : Table) → tableNumber t ≡ 0 → within 1 1024 (length (t .bytes) / width t) ≡ true
+pub rows-count : (t : Table) → tableNumber t ≡ 0 → within 1 mostRows (length (t .bytes) / width t) ≡ true
 unfolding tableNumber
 rows-count t h = and-right (eqb (length (t .bytes) % width t) 0) _ (and-right (isForm (t .form)) _ (passed _ 1 (omega arith) h))
 
-pub rows-most : (t : Table) → tableNumber t ≡ 0 → length (t .bytes) / width t ≤ 1024
-rows-most t h = within-high 1 1024 _ (rows-count t h)
+pub rows-most : (t : Table) → tableNumber t ≡ 0 → length (t .bytes) / width t ≤ mostRows
+rows-most t h = within-high 1 mostRows _ (rows-count t h)
 
 -- no sum of bytes of such a table, and a row, is too large for the machine
-pub bytes-most : (t : Table) → tableNumber t ≡ 0 → (width t ≤ 8704) × (length (t .bytes) ≤ 8912896)
+pub bytes-most : (t : Table) → tableNumber t ≡ 0 → (width t ≤ rowMost) × (length (t .bytes) ≤ tableMost)
 bytes-most t h =
-    let w : width t ≤ 8704 = width-most (t .form) (form-top t h) in
-    let l : width t * (length (t .bytes) / width t) ≤ width t * 1024 = rows-order (width t) _ 1024 (rows-most t h) in
+    let w : width t ≤ rowMost = width-most (t .form) (form-top t h) in
+    let l : width t * (length (t .bytes) / width t) ≤ width t * mostRows = rows-order (width t) _ mostRows (rows-most t h) in
     (w, omega (arith, w, l, whole-rows t h))
 
 module _ (t : Table) (right : tableNumber t ≡ 0) where
@@ -94,18 +94,18 @@ module _ (t : Table) (right : tableNumber t ≡ 0) where
       (λ e. absurd (omega (arith, whole-rows t right, width-least (t .form), piece-ends (width t) i _ (ltb-true i _ e))))
       (λ e. ltb-false i _ e)
 
-  pub rows-fit : (i : ℕ) → i ≤ length (t .bytes) / width t → width t * i ≤ 8912896
+  pub rows-fit : (i : ℕ) → i ≤ length (t .bytes) / width t → width t * i ≤ tableMost
   rows-fit i h = omega (arith, rows-order (width t) i _ h, whole-rows t right, (bytes-most t right) .1)
 
 -- the number by the form and the length
-pub number-right : (t : Table) → isForm (t .form) ≡ true → length (t .bytes) % width t ≡ 0 → 0 < length (t .bytes) → length (t .bytes) ≤ 1024 * width t → tableNumber t ≡ 0
+pub number-right : (t : Table) → isForm (t .form) ≡ true → length (t .bytes) % width t ≡ 0 → 0 < length (t .bytes) → length (t .bytes) ≤ mostRows * width t → tableNumber t ≡ 0
 unfolding tableNumber require
 number-right t f m lo hi =
     let n : ℕ = length (t .bytes) / width t in
     let whole : length (t .bytes) ≡ width t * n = omega (arith, split (width t) (length (t .bytes)), m) in
-    let few : n < 1025 = fewer-rows (width t) n 1025 0 (omega (arith, whole, width-least (t .form))) in
+    let few : n < suc mostRows = fewer-rows (width t) n (suc mostRows) 0 (omega (arith, whole, width-least (t .form))) in
     let some : 0 < n = fewer-rows (width t) 0 n 0 (omega (arith, whole, width-least (t .form))) in
-    rw (f, eq-eqb (length (t .bytes) % width t) 0 m, in-within 1 1024 n some (omega (arith, few)))
+    rw (f, eq-eqb (length (t .bytes) % width t) 0 m, in-within 1 mostRows n some (omega (arith, few)))
 
 pub number-form : (t : Table) → isForm (t .form) ≡ false → tableNumber t ≡ 1
 unfolding tableNumber require
@@ -120,11 +120,11 @@ pub number-rest : (t : Table) → (length (t .bytes) % width t ≡ 0 → ⊥) �
 unfolding tableNumber
 number-rest t m = rw (ne-eqb (length (t .bytes) % width t) 0 m) (wrong (isForm (t .form)))
 
-pub number-few : (t : Table) → (1 ≤ length (t .bytes) / width t → length (t .bytes) / width t ≤ 1024 → ⊥) → tableNumber t ≡ 1
+pub number-few : (t : Table) → (1 ≤ length (t .bytes) / width t → length (t .bytes) / width t ≤ mostRows → ⊥) → tableNumber t ≡ 1
 unfolding tableNumber
 number-few t m =
-    by-test (within 1 1024 (length (t .bytes) / width t))
-    (λ e. absurd (m (within-low 1 1024 _ e) (within-high 1 1024 _ e)))
+    by-test (within 1 mostRows (length (t .bytes) / width t))
+    (λ e. absurd (m (within-low 1 mostRows _ e) (within-high 1 mostRows _ e)))
     (λ e. rw (e, and-false (eqb (length (t .bytes) % width t) 0)) (wrong (isForm (t .form))))
 
 -- a table of less than a row, and of more than 1,024
@@ -132,10 +132,10 @@ pub number-short : (t : Table) → length (t .bytes) < width t → tableNumber t
 number-short t h =
     number-few t (λ lo hi. omega (arith, split (width t) (length (t .bytes)), rows-order (width t) 1 _ lo))
 
-pub number-long : (t : Table) → 1024 * width t < length (t .bytes) → tableNumber t ≡ 1
+pub number-long : (t : Table) → mostRows * width t < length (t .bytes) → tableNumber t ≡ 1
 number-long t h =
     by-test (eqb (length (t .bytes) % width t) 0)
-    (λ e. number-few t (λ lo hi. omega (arith, split (width t) (length (t .bytes)), eqb-true (length (t .bytes) % width t) 0 e, rows-order (width t) _ 1024 hi)))
+    (λ e. number-few t (λ lo hi. omega (arith, split (width t) (length (t .bytes)), eqb-true (length (t .bytes) % width t) 0 e, rows-order (width t) _ mostRows hi)))
     (λ e. number-rest t (eqb-false (length (t .bytes) % width t) 0 e))
 
 -- the first number of a call that brings an operator

@@ -41,7 +41,7 @@ rowLength f = blockLength + 8 * placeLength f
 
 -- The form of a row is told by its length.
 unfoldable pub formOf : List ℕ → ℕ
-formOf r = (length r - blockLength) / 4096
+formOf r = (length r - blockLength) / (8 * placeLength 1)
 
 -- WHAT A ROW SAYS
 
@@ -227,9 +227,12 @@ pub record Table : Type 0 where
 abbrev pub width : Table → ℕ
 width t = rowLength (t .form)
 
+abbrev pub mostRows : ℕ
+mostRows = 1024
+
 -- Number 1: there is no such form, or the table has not 1 to 1,024 rows of it and nothing behind them.
 unfoldable pub tableNumber : Table → ℕ
-tableNumber t = require (isForm (t .form) && (eqb (length (t .bytes) % width t) 0 && within 1 1024 (length (t .bytes) / width t))) 1
+tableNumber t = require (isForm (t .form) && (eqb (length (t .bytes) % width t) 0 && within 1 mostRows (length (t .bytes) / width t))) 1
 
 -- The first numbers of every call that brings an operator: 1, then 33, an operator over 15.
 unfoldable pub firstNumber : Table → (operator : ℕ) → ℕ

@@ -7,7 +7,7 @@ use Rattle.changes.proofs.Rows.{opened-one, opened-two}
 use borrow.Author.Needs.{needs}
 use Rattle.changes.proofs.write_access.Statement.{statement}
 use Rattle.changes.proofs.write_access.Tie as tie
-use Rattle.table.specs.TheTable.{blockLength}
+use Rattle.table.specs.TheTable.{placeLength, blockLength}
 
 sub-write-first : tie.Need-sub-write-first
 sub-write-first c = search needs
@@ -56,7 +56,7 @@ returns-2 c =
     let first = c .before .before .before .before .before .before .before .write-first in
     let second = c .before .before .write-second in
     let p = start .args .place .now in
-    let size : length p ≡ 1024 = omega (arith, c .before .before .before .before .if1 .left, first .kept .0) in
+    let size : length p ≡ placeLength 2 = omega (arith, c .before .before .before .before .if1 .left, first .kept .0) in
     opened-two (length p / blockLength) (start .args .entry) (start .args .session .now) (start .args .host .now) (start .args .realm .now) p (first .last .0) (second .last .0) (omega arith) size (first .ensures) (second .ensures)
 
 pub write-access-spec : {M : Type 1} → statement M

@@ -3,7 +3,7 @@ use mathlib.Core.Path.{_≡_, _∙_}
 use native.Mathlib.Omega.{arith}
 use lib.ListN.{length}
 use lib.Seq.{length-take-le}
-use Rattle.table.specs.TheTable.{blockLength, Policies}
+use Rattle.table.specs.TheTable.{placeLength, blockLength, Policies}
 use Rattle.changes.proofs.Rows.{routed-long, routed-short}
 use borrow.Author.Needs.{needs}
 use Rattle.changes.proofs.write_policies.Statement.{statement}
@@ -57,7 +57,7 @@ returns-2 c =
     let one = c .before .before .before .before .before .before .before .write-policy in
     let two = c .before .before .write-others in
     let p = start .args .place .now in
-    let size : length p ≡ 1024 = omega (arith, c .before .before .before .before .if1 .left, one .kept .0) in
+    let size : length p ≡ placeLength 2 = omega (arith, c .before .before .before .before .if1 .left, one .kept .0) in
     let policies : Policies = record { first = start .args .first .now; second = start .args .second .now; third = start .args .third .now } in
     routed-long p (one .last .0) (two .last .0) policies size (one .kept .0 ∙ length-take-le blockLength p (omega arith)) (one .ensures) (two .ensures)
 

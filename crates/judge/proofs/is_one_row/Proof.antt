@@ -1,16 +1,19 @@
 -- The two forms by their lengths; no other number is a form.
 use mathlib.Core.Path.{sym}
+use Rattle.table.specs.TheTable.{rowLength}
 use Rattle.judge.proofs.Cases.{row-1, row-2, row-none}
 use Rattle.judge.proofs.is_one_row.Statement.{statement}
 use Rattle.judge.proofs.is_one_row.Tie as tie
 
 returns : tie.Need-returns
+unfolding rowLength
 returns c =
     let given = c .before .args in
     let test1 = c .if1 in
     sym (row-1 (given .form) (given .s .now) (test1 .taken))
 
 returns-2 : tie.Need-returns-2
+unfolding rowLength
 returns-2 c =
     let given = c .before .before .args in
     let test2 = c .if2 in

@@ -2,7 +2,7 @@
 use mathlib.Core.Path.{refl}
 use borrow.Author.Tests.{eq-eqb, ne-eqb}
 use Rattle.octets.specs.Choice.{pick}
-use Rattle.rules.specs.Calls.{noticeLength}
+use Rattle.message.specs.TheRooms.{noticeLength}
 use Rattle.decision.proofs.handling.notice_length.Statement.{statement}
 use Rattle.decision.proofs.handling.notice_length.Tie as tie
 
