@@ -24,7 +24,7 @@ pub const ROW_LENGTH_1: usize = 4608;
 pub const ROW_LENGTH_2: usize = 8704;
 
 // A table has at most 1,024 rows.
-const MOST_ROWS: usize = 1024;
+pub const MOST_ROWS: usize = 1024;
 
 // The operators are 0 to 15.
 pub const OPERATORS: usize = 16;

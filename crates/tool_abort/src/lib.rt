@@ -45,7 +45,12 @@ fn identifier(first: u32, before: usize) -> u32 {
 }
 
 // The start of the line of a notice.
-fn begin(out: &mut [u8; 4096], k: usize, notice: &[u8; 384], l: Lengths) -> usize {
+fn begin(
+    out: &mut [u8; 4096],
+    k: usize,
+    notice: &[u8; answers::NOTICE_LENGTH_2],
+    l: Lengths,
+) -> usize {
     let a = number(out, 0, k as u64);
     let b = say(out, a, b". ");
     let c = tool_notice_line::tunnel(out, b, 2, notice, l);
@@ -53,7 +58,7 @@ fn begin(out: &mut [u8; 4096], k: usize, notice: &[u8; 384], l: Lengths) -> usiz
 }
 
 // The line of a notice that no request was made of; whether it could be said.
-fn tell_refused(k: usize, notice: &[u8; 384], l: Lengths, why: u32) -> bool {
+fn tell_refused(k: usize, notice: &[u8; answers::NOTICE_LENGTH_2], l: Lengths, why: u32) -> bool {
     let mut out = [0u8; 4096];
     let a = begin(&mut out, k, notice, l);
     let b = say(&mut out, a, b"no request, number ");
@@ -65,7 +70,13 @@ fn tell_refused(k: usize, notice: &[u8; 384], l: Lengths, why: u32) -> bool {
 }
 
 // The line of one that a request was made of, likewise.
-fn tell_written(k: usize, notice: &[u8; 384], l: Lengths, id: u32, bytes: usize) -> bool {
+fn tell_written(
+    k: usize,
+    notice: &[u8; answers::NOTICE_LENGTH_2],
+    l: Lengths,
+    id: u32,
+    bytes: usize,
+) -> bool {
     let mut out = [0u8; 4096];
     let a = begin(&mut out, k, notice, l);
     let b = say(&mut out, a, b"a request of ");
@@ -77,7 +88,7 @@ fn tell_written(k: usize, notice: &[u8; 384], l: Lengths, id: u32, bytes: usize)
 }
 
 // The first n bytes of the room, written; why not is said of the file.
-fn put(fd: i32, path: &[u8], room: &[u8; 1024], n: usize) -> bool {
+fn put(fd: i32, path: &[u8], room: &[u8; abort::ROOM_LEAST], n: usize) -> bool {
     let all: &[u8] = room;
     if all.len() < n {
         return false;
@@ -105,10 +116,10 @@ fn abort_one(
     path: &[u8],
     host: &[u8],
     realm: &[u8],
-    notice: &[u8; 384],
+    notice: &[u8; answers::NOTICE_LENGTH_2],
     d: Done,
 ) -> Done {
-    let mut room = [0u8; 1024];
+    let mut room = [0u8; abort::ROOM_LEAST];
     let l = tool_notice_line::lengths_of(notice);
     let id = identifier(desk.first, d.requests);
     let w = abort::write(
@@ -140,7 +151,7 @@ fn abort_one(
 
 // The next notice of the file.
 fn step(desk: Desk, from: &[u8], to: &[u8], host: &[u8], realm: &[u8], d: Done) -> Done {
-    let mut notice = [0u8; 384];
+    let mut notice = [0u8; answers::NOTICE_LENGTH_2];
     let got = tool_notices::read(desk.notices, 2, &mut notice);
     if got == 0 {
         return ended(d, true);
@@ -194,8 +205,8 @@ fn abort_all(desk: Desk, from: &[u8], to: &[u8], host: &[u8], realm: &[u8]) {
 
 // Whether the library takes the own names, asked with a notice that has nothing wrong; if not, that is said.
 fn check_names(host: &[u8], realm: &[u8]) -> bool {
-    let notice = [65u8; 384];
-    let mut room = [0u8; 1024];
+    let notice = [65u8; answers::NOTICE_LENGTH_2];
+    let mut room = [0u8; abort::ROOM_LEAST];
     let w = abort::write(host, realm, &notice, 1, 1, 1, 0, 0, &mut room);
     if w.number == 0 {
         return true;

@@ -8,6 +8,7 @@ use tool_streams::Way;
 use tool_words::number;
 use tool_words::say;
 ghost use Prim.Native.Nat.{_≤_};
+ghost use Rattle.message.specs.CallsThatGetNoAnswer.{messageMost};
 
 // ONE REQUEST
 
@@ -90,7 +91,7 @@ fn compare(answer: &[u8], m: &[u8]) -> u8 {
 
 // The bytes of the request at a place of the room, 0 where there is none.
 fn length_at(all: &[u8], at: usize) -> usize
-    ensures { λ r. ⌜ r ≤ 4096 ⌝ }
+    ensures { λ r. ⌜ r ≤ messageMost ⌝ }
 {
     if all.len() < at {
         return 0;

@@ -13,8 +13,8 @@ fn serve_message(
     screens: &mut [[u8; 140]],
     m: &[u8],
 ) -> bool {
-    let mut answer = [0u8; 5120];
-    let mut notice = [0u8; 384];
+    let mut answer = [0u8; answers::ANSWER_LEAST];
+    let mut notice = [0u8; answers::NOTICE_LENGTH_2];
     let o = decision::handle(
         table,
         form,

@@ -64,7 +64,7 @@ fn line(out: &mut [u8; 4096], at: usize, what: u8, row: &[u8]) -> usize {
 }
 
 // A fresh table of form 1 with the subscriber of the cases, who is of operator 0, as its only row is.
-fn fresh(table: &mut [u8; 4608], out: &mut [u8; 4096]) -> usize {
+fn fresh(table: &mut [u8; table::ROW_LENGTH_1], out: &mut [u8; 4096]) -> usize {
     let user = b"001010123456789";
     let shares: [u32; 16] = [1, 0, 0, 0, 0, 0, 0, 0, 0, 0, 0, 0, 0, 0, 0, 0];
     let a = set(out, 0, b"  clear: ", setup::clear(table, 1));
@@ -88,7 +88,7 @@ fn fresh(table: &mut [u8; 4608], out: &mut [u8; 4096]) -> usize {
     )
 }
 
-fn sums(out: &mut [u8; 4096], at: usize, block: &[u8; 512]) -> usize {
+fn sums(out: &mut [u8; 4096], at: usize, block: &[u8; table::BLOCK_LENGTH]) -> usize {
     let sums = table::sums_of(block);
     let a = octet(out, at, (sums.second % 256) as u8);
     let b = say(out, a, b" ");
@@ -98,7 +98,7 @@ fn sums(out: &mut [u8; 4096], at: usize, block: &[u8; 512]) -> usize {
 
 // The zeros in front of a text leave both sums at 0.
 fn both_sums(out: &mut [u8; 4096]) -> usize {
-    let mut block = [0u8; 512];
+    let mut block = [0u8; table::BLOCK_LENGTH];
     let a = say(out, 0, b"  the sums of a zero block: ");
     let b = sums(out, a, &block);
     block[505] = b'a';
@@ -126,11 +126,11 @@ fn result(out: &mut [u8; 4096], answer: &[u8]) -> usize {
 
 // The first n bytes of the room as a message, and what came of it.
 fn send(
-    table: &mut [u8; 4608],
+    table: &mut [u8; table::ROW_LENGTH_1],
     room: &[u8],
     n: usize,
-    answer: &mut [u8; 5120],
-    notice: &mut [u8; 256],
+    answer: &mut [u8; answers::ANSWER_LEAST],
+    notice: &mut [u8; answers::NOTICE_LENGTH],
     out: &mut [u8; 4096],
     at: usize,
 ) -> usize {
@@ -147,10 +147,10 @@ fn send(
 // The step k: what it says stands in `out`, as many bytes as are returned.
 pub fn step(
     k: usize,
-    table: &mut [u8; 4608],
+    table: &mut [u8; table::ROW_LENGTH_1],
     room: &mut [u8; 4100],
-    answer: &mut [u8; 5120],
-    notice: &mut [u8; 256],
+    answer: &mut [u8; answers::ANSWER_LEAST],
+    notice: &mut [u8; answers::NOTICE_LENGTH],
     out: &mut [u8; 4096],
 ) -> usize {
     if 40 < k {

@@ -390,7 +390,7 @@ pub fn hidden(out: &mut [u8; 4096], table: &[u8], form: u32, i: usize, row: &[u8
     if i <= j {
         return 0;
     }
-    if 1024 < j {
+    if table::MOST_ROWS < j {
         return 0;
     }
     thing(

@@ -4,12 +4,15 @@ use tool_operator::Number;
 use tool_words::number;
 use tool_words::say;
 ghost use Prim.Native.Nat.{_≤_};
+ghost use Rattle.message.specs.TheRooms.{longNotice};
+ghost use Rattle.table.specs.TheTable.{mostRows};
+ghost use Rattle.table.specs.Answers.{rowMost, tableMost};
 
 // The most rows of a table.
-pub const MOST_ROWS: usize = 1024;
+pub const MOST_ROWS: usize = table::MOST_ROWS;
 
 // The longest table: as many of form 2.
-pub const MOST: usize = 8912896;
+pub const MOST: usize = table::MOST_ROWS * table::ROW_LENGTH_2;
 
 // THE WORD
 
@@ -70,7 +73,7 @@ pub fn check_both(first: usize, second: usize) -> bool {
 
 // The bytes of a row.
 pub fn row_length(form: u32) -> usize
-    ensures { λ r. ⌜ (1 ≤ r) × (r ≤ 8704) ⌝ }
+    ensures { λ r. ⌜ (1 ≤ r) × (r ≤ rowMost) ⌝ }
 {
     if form == 2 {
         return table::row_length(2);
@@ -80,7 +83,7 @@ pub fn row_length(form: u32) -> usize
 
 // The bytes of a notice.
 pub fn notice_length(form: u32) -> usize
-    ensures { λ r. ⌜ (1 ≤ r) × (r ≤ 384) ⌝ }
+    ensures { λ r. ⌜ (1 ≤ r) × (r ≤ longNotice) ⌝ }
 {
     if form == 2 {
         return answers::NOTICE_LENGTH_2;
@@ -90,8 +93,8 @@ pub fn notice_length(form: u32) -> usize
 
 // The bytes of so many rows.
 pub fn length_of(form: u32, rows: usize) -> usize
-    requires { ⌜ rows ≤ 1024 ⌝ }
-    ensures { λ r. ⌜ r ≤ 8912896 ⌝ }
+    requires { ⌜ rows ≤ mostRows ⌝ }
+    ensures { λ r. ⌜ r ≤ tableMost ⌝ }
 {
     row_length(form) * rows
 }

@@ -70,7 +70,7 @@ fn tell(
 }
 
 // Our answer in its room: as long as its header says, since ours has its true length; no bytes where nothing was written.
-fn our_answer(room: &[u8; 5120]) -> &[u8] {
+fn our_answer(room: &[u8; answers::ANSWER_LEAST]) -> &[u8] {
     let all: &[u8] = room;
     let n = octets::read24(room, 1);
     if all.len() < n {
@@ -80,7 +80,7 @@ fn our_answer(room: &[u8; 5120]) -> &[u8] {
 }
 
 // Our notice in its room: no bytes where nothing was written, since a notice begins with a Session-Id.
-fn our_notice(room: &[u8; 384], form: u32) -> &[u8] {
+fn our_notice(room: &[u8; answers::NOTICE_LENGTH_2], form: u32) -> &[u8] {
     let all: &[u8] = room;
     let n = tool_form::notice_length(form);
     if octets::all_zero(room) {
@@ -102,8 +102,8 @@ fn ask(
     m: &[u8],
     theirs: &[u8],
     their_notice: &[u8],
-    answer: &mut [u8; 5120],
-    notice: &mut [u8; 384],
+    answer: &mut [u8; answers::ANSWER_LEAST],
+    notice: &mut [u8; answers::NOTICE_LENGTH_2],
 ) -> Found {
     let mut host = io::buffer();
     let mut realm = io::buffer();
@@ -157,8 +157,8 @@ pub fn judge_one(
     their_notice: &[u8],
     tally: &mut [usize; 9],
 ) -> bool {
-    let mut answer = [0u8; 5120];
-    let mut notice = [0u8; 384];
+    let mut answer = [0u8; answers::ANSWER_LEAST];
+    let mut notice = [0u8; answers::NOTICE_LENGTH_2];
     let f = ask(
         form,
         op,

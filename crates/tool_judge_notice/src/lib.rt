@@ -7,7 +7,7 @@ use tool_words::say;
 // The tunnel that a notice names, behind a margin. One of another length than a notice has is only said to be so.
 fn tell_tunnel(margin: &[u8], form: u32, notice: &[u8]) -> bool {
     let mut out = [0u8; 4096];
-    let mut room = [0u8; 384];
+    let mut room = [0u8; answers::NOTICE_LENGTH_2];
     let a = say(&mut out, 0, margin);
     if notice.len() != tool_form::notice_length(form) {
         let b = how_many(&mut out, a, notice.len(), b"byte");

@@ -12,7 +12,7 @@ pub struct Lengths {
 }
 
 // How many bytes stand before the zeros at the end of the 128 that begin at `from`.
-fn text_length(notice: &[u8; 384], from: usize) -> usize
+fn text_length(notice: &[u8; answers::NOTICE_LENGTH_2], from: usize) -> usize
     ensures { λ r. ⌜ r ≤ 128 ⌝ }
 {
     if answers::NOTICE_REALM < from {
@@ -29,7 +29,7 @@ fn text_length(notice: &[u8; 384], from: usize) -> usize
 }
 
 // The lengths in a notice that came without them, as one from a file does. A text that itself ends in zero bytes is taken without these.
-pub fn lengths_of(notice: &[u8; 384]) -> Lengths {
+pub fn lengths_of(notice: &[u8; answers::NOTICE_LENGTH_2]) -> Lengths {
     Lengths {
         session: text_length(notice, 0),
         host: text_length(notice, answers::NOTICE_HOST),

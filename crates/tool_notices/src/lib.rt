@@ -148,7 +148,7 @@ pub fn refuse_end(path: &[u8], form: u32, k: usize) {
 // IN WORDS
 
 // The line of notice k; whether it could be said.
-fn tell(k: usize, form: u32, notice: &[u8; 384]) -> bool {
+fn tell(k: usize, form: u32, notice: &[u8; answers::NOTICE_LENGTH_2]) -> bool {
     let mut out = [0u8; 4096];
     let a = say(&mut out, 0, b"notice ");
     let b = number(&mut out, a, k as u64);
@@ -172,7 +172,7 @@ fn pass(fd: i32, path: &[u8], form: u32, k: usize) -> bool {
     if k < 1 {
         return false;
     }
-    let mut notice = [0u8; 384];
+    let mut notice = [0u8; answers::NOTICE_LENGTH_2];
     let got = read(fd, form, &mut notice);
     if got == tool_form::notice_length(form) {
         return tell(k, form, &notice);

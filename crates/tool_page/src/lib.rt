@@ -150,8 +150,8 @@ fn is_of_policy(r: Reason) -> bool {
 
 // Whether a message is a policy that can be refused for no access or by the gateway alone.
 fn is_policy(d: Desk, table: &[u8], host: &[u8], realm: &[u8], m: &[u8]) -> bool {
-    let answer = [0u8; 5120];
-    let notice = [0u8; 384];
+    let answer = [0u8; answers::ANSWER_LEAST];
+    let notice = [0u8; answers::NOTICE_LENGTH_2];
     let why = reasons::first_failed(table, d.form, d.op, host, realm, m, false, &answer, &notice);
     match why {
         Why::Unanswered(_) => false,

@@ -55,8 +55,8 @@ fn ask_from(
     visited: &[u8],
     m: &[u8],
     id: u32,
-    answer: &mut [u8; 5120],
-    request: &mut [u8; 5120],
+    answer: &mut [u8; answers::ANSWER_LEAST],
+    request: &mut [u8; answers::ANSWER_LEAST],
 ) -> Reauthorized {
     let mut host = io::buffer();
     let mut realm = io::buffer();
@@ -84,7 +84,12 @@ fn ask_from(
 }
 
 // The same with the visited network that a word says, or without one.
-fn ask(m: &[u8], id: u32, answer: &mut [u8; 5120], request: &mut [u8; 5120]) -> Reauthorized {
+fn ask(
+    m: &[u8],
+    id: u32,
+    answer: &mut [u8; answers::ANSWER_LEAST],
+    request: &mut [u8; answers::ANSWER_LEAST],
+) -> Reauthorized {
     let i = tool_operator::find(10, b"visited=");
     let mut word = io::buffer();
     let n = os::arg(i, &mut word);
@@ -143,7 +148,7 @@ fn tell(k: usize, m: &[u8], g: Reauthorized, id: u32) -> bool {
 }
 
 // The first n bytes of a room, written; why not is said of the file.
-fn put(fd: i32, path: &[u8], room: &[u8; 5120], n: usize) -> bool {
+fn put(fd: i32, path: &[u8], room: &[u8; answers::ANSWER_LEAST], n: usize) -> bool {
     let all: &[u8] = room;
     if all.len() < n {
         return false;
@@ -157,8 +162,8 @@ fn put(fd: i32, path: &[u8], room: &[u8; 5120], n: usize) -> bool {
 
 // A message answered, what came of it written and said.
 fn serve(desk: Desk, answers: &[u8], requests: &[u8], m: &[u8], t: Told, way: Way) -> Told {
-    let mut answer = [0u8; 5120];
-    let mut request = [0u8; 5120];
+    let mut answer = [0u8; answers::ANSWER_LEAST];
+    let mut request = [0u8; answers::ANSWER_LEAST];
     let id = identifier(desk.first, t.requests);
     let g = ask(m, id, &mut answer, &mut request);
     if !put(desk.answers, answers, &answer, g.length) {
@@ -256,8 +261,8 @@ fn play(desk: Desk, from: &[u8], answers: &[u8], requests: &[u8]) {
 
 // Whether the library takes the own names and the access, asked with a message of no bytes, which has number 5; if not, that is said.
 fn check_access() -> bool {
-    let mut answer = [0u8; 5120];
-    let mut request = [0u8; 5120];
+    let mut answer = [0u8; answers::ANSWER_LEAST];
+    let mut request = [0u8; answers::ANSWER_LEAST];
     let g = ask(b"", 0, &mut answer, &mut request);
     if g.code == 2 {
         tool_files::refuse(

@@ -16,8 +16,8 @@ pub fn call_server(
     table: &mut [u8],
     m: &[u8],
     wag: bool,
-    answer: &mut [u8; 5120],
-    notice: &mut [u8; 256],
+    answer: &mut [u8; answers::ANSWER_LEAST],
+    notice: &mut [u8; answers::NOTICE_LENGTH],
 ) -> Outcome {
     decision::handle(
         table,
@@ -33,7 +33,13 @@ pub fn call_server(
 }
 
 // Why `call_server` answers a request as it does, asked before it.
-pub fn why(table: &[u8], m: &[u8], wag: bool, answer: &[u8; 5120], notice: &[u8; 256]) -> Why {
+pub fn why(
+    table: &[u8],
+    m: &[u8],
+    wag: bool,
+    answer: &[u8; answers::ANSWER_LEAST],
+    notice: &[u8; answers::NOTICE_LENGTH],
+) -> Why {
     reasons::first_failed(
         table,
         1,

@@ -217,8 +217,8 @@ fn count_message(
     report: &mut [u64; 96],
     path: &[u8],
 ) -> bool {
-    let mut answer = [0u8; 5120];
-    let mut notice = [0u8; 384];
+    let mut answer = [0u8; answers::ANSWER_LEAST];
+    let mut notice = [0u8; answers::NOTICE_LENGTH_2];
     let o = decision::handle(
         table,
         d.form,

@@ -37,7 +37,7 @@ fn name(out: &mut [u8; 4096], at: usize, row: &[u8]) -> usize
 // The number of a row in its table, counted from 1.
 fn which(out: &mut [u8; 4096], i: usize) -> usize {
     let a = say(out, 0, b"row ");
-    if i < 1024 {
+    if i < table::MOST_ROWS {
         return number(out, a, (i + 1) as u64);
     }
     a

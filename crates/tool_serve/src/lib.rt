@@ -81,8 +81,8 @@ fn serve_one(
     b: Beside,
     t: Totals,
 ) -> Totals {
-    let mut answer = [0u8; 5120];
-    let mut notice = [0u8; 384];
+    let mut answer = [0u8; answers::ANSWER_LEAST];
+    let mut notice = [0u8; answers::NOTICE_LENGTH_2];
     let wag = b.wag == tool_expected::YES;
     let why = reasons::first_failed(table, d.form, d.op, host, realm, m, wag, &answer, &notice);
     let o = decision::handle(
@@ -173,8 +173,8 @@ fn refused_for(r: Reason, o: Outcome) -> Reason {
 }
 
 fn why_refused(d: Desk, table: &[u8], host: &[u8], realm: &[u8], m: &[u8], o: Outcome) -> Why {
-    let answer = [0u8; 5120];
-    let notice = [0u8; 384];
+    let answer = [0u8; answers::ANSWER_LEAST];
+    let notice = [0u8; answers::NOTICE_LENGTH_2];
     let why = reasons::first_failed(table, d.form, d.op, host, realm, m, false, &answer, &notice);
     match why {
         Why::Unanswered(n) => Why::Unanswered(n),

@@ -1,14 +1,15 @@
 -- The rows are counted up to 1,024.
 use Prim.Native.Nat.{_-_, _≤_}
 use borrow.Author.Needs.{needs}
+use Rattle.table.specs.TheTable.{mostRows}
 use Rattle.tool_move.proofs.tell_row.Statement.{statement}
 use Rattle.tool_move.proofs.tell_row.Tie as tie
 
 abbrev Inv-loop : tie.InvT-loop
-Inv-loop table form number i₀ i = i ≤ 1024
+Inv-loop table form number i₀ i = i ≤ mostRows
 
 abbrev μ-loop : tie.MeasureT-loop
-μ-loop table form number i₀ i = 1024 - i
+μ-loop table form number i₀ i = mostRows - i
 
 loop-holds : tie.Need-loop-holds Inv-loop μ-loop
 loop-holds c = search needs

@@ -1,14 +1,15 @@
 -- The row's number stays within the longest table.
 use Prim.Native.Nat.{_-_, _≤_}
 use borrow.Author.Needs.{needs}
+use Rattle.table.specs.TheTable.{mostRows}
 use Rattle.tool_show.proofs.free_rows.Statement.{statement}
 use Rattle.tool_show.proofs.free_rows.Tie as tie
 
 abbrev Inv-loop : tie.InvT-loop
-Inv-loop table form out₀ free₀ i₀ out free i = i ≤ 1024
+Inv-loop table form out₀ free₀ i₀ out free i = i ≤ mostRows
 
 abbrev μ-loop : tie.MeasureT-loop
-μ-loop table form out₀ free₀ i₀ out free i = 1024 - i
+μ-loop table form out₀ free₀ i₀ out free i = mostRows - i
 
 loop-holds : tie.Need-loop-holds Inv-loop μ-loop
 loop-holds c = search needs
