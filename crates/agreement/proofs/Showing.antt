@@ -8,7 +8,7 @@ use lib.Dec.{eqb, leb}
 use Rattle.octets.specs.Choice.{pick, within}
 use Rattle.octets.specs.Texts.{same}
 use Rattle.octets.proofs.Choice.{by-pick}
-use Rattle.octets.proofs.Lists.{by-test, same-eq, same-refl}
+use Rattle.octets.proofs.Lists.{by-test, same-eq, same-refl, same-comm}
 use Rattle.message.specs.Codes.{plain}
 use Rattle.message.specs.ReadingAMessage.{Ask, tunnel, policy, termination}
 use Rattle.table.specs.TheTable.{Access, Subscriber, Table, formOf, rowAt, readRow}
@@ -18,7 +18,6 @@ use Rattle.rules.specs.Calls.{Call, Reply, reply}
 use Rattle.order.specs.Demand2.{afterwards, cutFor, exceeds, opens as isNew, placeTaken}
 use Rattle.order.specs.OpenedFirst.{sessionCut}
 use Rattle.order.proofs.History.{ended-one, place-told}
-use Rattle.order.proofs.Taken.{same-comm}
 use Rattle.screen.specs.TheBoard.{Screen, sessionOf, Event, nothing, asks, opens, ends, cuts, requestSays, success, resultSays, told}
 use Rattle.agreement.specs.TheBoardAgrees.{some, standsAt, standsOnce, connectedAt, Truthful, kindAsked, sessionAsked, Way, resultFirst, noticeFirst, refusedLeftOut}
 use Rattle.agreement.proofs.Some.{not-both, or-false, some-one}

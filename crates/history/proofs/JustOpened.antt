@@ -10,7 +10,7 @@ use lib.ListN.{take}
 use Rattle.octets.specs.Choice.{pick}
 use Rattle.octets.specs.Lists.{distinct, every, keep}
 use Rattle.octets.specs.Texts.{same}
-use Rattle.octets.proofs.Lists.{and-left, and-right, both, by-test, every-keep, keep-comm, keep-snoc}
+use Rattle.octets.proofs.Lists.{and-left, and-right, both, by-test, every-keep, keep-comm, keep-snoc, same-comm}
 use Rattle.message.specs.ReadingAMessage.{Ask, tunnel, policy, termination}
 use Rattle.table.specs.TheTable.{Account, Table}
 use Rattle.table.specs.Soundness.{sameLabel}
@@ -19,7 +19,6 @@ use Rattle.rules.specs.Calls.{Call, handle}
 use Rattle.order.specs.Demand2.{requestIn}
 use Rattle.order.specs.Demand3.{Told, isOf, subscriber, told}
 use Rattle.order.specs.OpenedFirst.{Tunnel, labelAsked, without}
-use Rattle.order.proofs.Taken.{same-comm}
 use Rattle.history.specs.Histories.{Cleared, Event, Operation, answered, cleared, fromCleared}
 use Rattle.history.specs.OrderOfOpening.{compared, lineAfter, lineFrom, onName, onSuccess, openedInOrder, tunnelCut}
 use Rattle.history.specs.EachCounted.{countFrom, isOn, opens}

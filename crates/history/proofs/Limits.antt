@@ -10,7 +10,7 @@ use lib.ListN.{length, getD, take, length-map}
 use Rattle.octets.specs.Choice.{pick, within}
 use Rattle.octets.specs.Lists.{distinct, every, keep}
 use Rattle.octets.specs.Texts.{same}
-use Rattle.octets.proofs.Lists.{and-left, and-right, by-test, distinct-keep}
+use Rattle.octets.proofs.Lists.{and-left, and-right, by-test, distinct-keep, same-comm}
 use Rattle.message.specs.ReadingAMessage.{Ask, tunnel, policy, termination}
 use Rattle.table.specs.TheTable.{Account, Found, Subscriber, Table, lookup, nothing, readRow, row, rowAt}
 use Rattle.table.specs.Soundness.{limits, onEntry}
@@ -24,7 +24,7 @@ use Rattle.order.specs.Demand3.{Told, isOf, subscriber, told}
 use Rattle.order.specs.OpenedFirst.{Tunnel, labelAsked, tunnelOf, tunnels}
 use Rattle.order.proofs.Checks.{Won, won}
 use Rattle.order.proofs.Opening.{own-found, won-success}
-use Rattle.order.proofs.Taken.{same-comm, same-first}
+use Rattle.order.proofs.Taken.{same-first}
 use Rattle.history.specs.Histories.{Cleared, fromCleared}
 use Rattle.history.specs.OrderOfOpening.{lineAt, listed, onName, standing, tunnelCut}
 use Rattle.history.specs.WhatFollows.{LastOpenedStays, WithinLimit, limitAt, limitOf, limitOn}

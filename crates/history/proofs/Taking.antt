@@ -8,10 +8,10 @@ use lib.ListN.{length, take, length-append}
 use Rattle.octets.specs.Choice.{pick}
 use Rattle.octets.specs.Lists.{distinct, every, keep}
 use Rattle.octets.specs.Texts.{same}
-use Rattle.octets.proofs.Lists.{and-left, and-right, by-test, every-imp, every-map, keep-all, keep-snoc, same-refl}
+use Rattle.octets.proofs.Lists.{and-left, and-right, by-test, every-imp, every-map, keep-all, keep-snoc, same-refl, same-comm}
 use Rattle.order.specs.OpenedFirst.{Tunnel, without}
 use Rattle.order.proofs.Cuts.{keep-no, keep-yes}
-use Rattle.order.proofs.Taken.{no-first, same-comm, same-first}
+use Rattle.order.proofs.Taken.{no-first, same-first}
 use Rattle.history.specs.OrderOfOpening.{compared, onName}
 
 -- ONE OF A LIST

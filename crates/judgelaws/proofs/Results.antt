@@ -11,7 +11,7 @@ use Rattle.octets.specs.Choice.{pick}
 use Rattle.octets.specs.Lists.{every, keep}
 use Rattle.octets.specs.Numbers.{up4}
 use Rattle.octets.specs.Texts.{same}
-use Rattle.octets.proofs.Lists.{by-test, both, and-left, and-right, same-eq, every-append, every-imp, every-keep, every-one, keep-all, kept}
+use Rattle.octets.proofs.Lists.{by-test, both, and-left, and-right, same-eq, every-append, every-imp, every-keep, every-one, keep-all, kept, no-length}
 use Rattle.message.specs.ReadingAMessage.{Name, sameName, Avp, avpLength, avpCode, avpOf, behind, walkOne, walkUpTo, walkBy, having, present}
 use Rattle.message.proofs.Gathering.{same-name-refl, same-name-eq}
 use Rattle.rules.specs.Calls.{handle}
@@ -216,10 +216,6 @@ module _ (j : Case) where
   own-names : answerByNames ((due j) .answer) ((due j) .answer) ≡ true
   own-names = sym (same-answer-by-names ((due j) .answer) ((due j) .answer) (ours-has-no-failed-avp j)) ∙ same-due j
 
-no-bytes : (l : List ℕ) → length l ≡ 0 → l ≡ []
-no-bytes [] e = refl
-no-bytes (x ∷ l) e = absurd (omega arith)
-
 none-due : (theirs : List ℕ) → same (take 20 theirs) (headerDue [] (length theirs)) ≡ true → theirs ≡ []
 unfolding headerDue same pick
 none-due [] e = refl
@@ -230,7 +226,7 @@ result-due j e =
     let ours : List ℕ = (due j) .answer in
     by-test (eqb (length ours) 0)
     (λ z.
-    let d : ours ≡ [] = no-bytes ours (eqb-true (length ours) 0 z) in
+    let d : ours ≡ [] = no-length ours (eqb-true (length ours) 0 z) in
     let h : same (take 20 (j .answer)) (headerDue [] (length (j .answer))) ≡ true =
     ap (λ (l : List ℕ). same (take 20 (j .answer)) (headerDue l (length (j .answer)))) (sym d) ∙ header-is ours (j .answer) (accepted-names j e) in
     ap (λ (l : List ℕ). map comparedOf (results (avpsOf l))) (none-due (j .answer) h ∙ sym d))

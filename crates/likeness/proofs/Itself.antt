@@ -27,9 +27,13 @@ pub having-own : (a : Avp) (xs : List Avp) → having (a .name) (a ∷ xs) ≡ a
 unfolding having keep pick
 having-own a xs = rw (same-name-refl (a .name))
 
+pub same-itself : (a : Avp) → sameAvp a a ≡ true
+unfolding sameAvp
+same-itself a = both (eq-eqb (flagByte a) (flagByte a) refl) (same-refl (a .value))
+
 avp-own : (a : Avp) (xs : List Avp) → firstIs (a ∷ xs) a ≡ true
-unfolding firstIs sameAvp
-avp-own a xs = both (eq-eqb (flagByte a) (flagByte a) refl) (same-refl (a .value))
+unfolding firstIs
+avp-own a xs = same-itself a
 
 module _ (before : List Avp) (a : Avp) where
   split : (xs : List Avp) → having (a .name) (before ++ (a ∷ xs)) ≡ having (a .name) before ++ (a ∷ having (a .name) xs)

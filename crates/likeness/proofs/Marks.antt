@@ -12,7 +12,7 @@ use lib.Seq.{drop-drop, drop-nil, getD-set-same, getD-set-other}
 use Rattle.octets.specs.Choice.{pick}
 use Rattle.octets.specs.Numbers.{net32}
 use Rattle.octets.specs.Texts.{zeros}
-use Rattle.octets.proofs.Lists.{by-test, both, and-left, and-right, same-refl, every-of}
+use Rattle.octets.proofs.Lists.{by-test, both, and-left, and-right, every-of, no-length}
 use Rattle.octets.proofs.Texts.{length-zeros}
 use Rattle.message.specs.ReadingAMessage.{Name, base, vendor, sameName, Avp, having}
 use Rattle.message.proofs.Gathering.{same-name-refl, same-name-eq}
@@ -21,6 +21,7 @@ use Rattle.likeness.specs.Code.{avpAt, avpsFrom, namedFrom, nextAt, mark
 use Rattle.likeness.proofs.Places.{inside, from-none, next-end, named-base, named-vendor}
 use Rattle.likeness.proofs.Named.{having-none, having-other, having-one, count-here, count-none}
 use Rattle.likeness.proofs.Fitting.{fits-failed, fits-lacking, fits-met}
+use Rattle.likeness.proofs.Itself.{same-itself}
 
 -- WHICH MARK
 
@@ -154,14 +155,6 @@ module _ (ours : List ℕ) (at : ℕ) (marks : List ℕ) (w : First ours at mark
 
 -- ONE AVP OF THEIRS
 
-none-of : (xs : List Avp) → length xs ≡ 0 → xs ≡ []
-none-of [] e = refl
-none-of (a ∷ xs) e = absurd (omega arith)
-
-same-itself : (a : Avp) → sameAvp a a ≡ true
-unfolding sameAvp
-same-itself a = both (eq-eqb (flagByte a) (flagByte a) refl) (same-refl (a .value))
-
 module _ (ours theirs : List ℕ) (at : ℕ) where
   abbrev here : Avp
   here = avpAt theirs at
@@ -233,7 +226,7 @@ module _ (ours theirs : List ℕ) (at : ℕ) where
               ⊎-elim
               (λ z. absurd (omega (arith, z, g)))
               (λ z.
-              let e : having named (avpsFrom ours 20) ≡ [] = none-of (having named (avpsFrom ours 20)) z in
+              let e : having named (avpsFrom ours 20) ≡ [] = no-length (having named (avpsFrom ours 20)) z in
               let drops : (i j : ℕ) → drop i (having named (avpsFrom ours 20)) ≡ drop j (having named (avpsFrom ours 20)) = λ i j. rw (e, drop-nil {A = Avp} i, drop-nil {A = Avp} j) in
               k .left g ∙ drops (namedFrom named theirs 20 - namedFrom named theirs at) (namedFrom named theirs 20 - namedFrom named theirs next))
               o;

@@ -53,7 +53,17 @@ same-eq (x ∷ s) (y ∷ t) e =
     let q : s ≡ t = same-eq s t (and-right (eqb x y) (same s t) e) in
     cc
 
+pub same-comm : (s t : List ℕ) → same s t ≡ same t s
+same-comm s t =
+    by-test (same s t)
+    (λ e. let q : s ≡ t = same-eq s t e in rw q)
+    (λ e. by-test (same t s) (λ d. let q : t ≡ s = same-eq t s d in rw q) (λ d. e ∙ sym d))
+
 module _ {A : Type 0} where
+  pub no-length : (xs : List A) → length xs ≡ 0 → xs ≡ []
+  no-length [] e = refl
+  no-length (x ∷ xs) e = absurd (omega arith)
+
   pub every-append : (f : A → Bool) (xs ys : List A) → every f xs ≡ true → every f ys ≡ true → every f (xs ++ ys) ≡ true
   unfolding every
   every-append f [] ys p q = q

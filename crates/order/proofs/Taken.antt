@@ -9,7 +9,7 @@ use lib.Dec.{eqb}
 use Rattle.octets.specs.Choice.{pick}
 use Rattle.octets.specs.Lists.{distinct, every, keep}
 use Rattle.octets.specs.Texts.{same}
-use Rattle.octets.proofs.Lists.{and-left, and-right, by-test, eqb-comm, every-imp, every-keep, every-map, keep-all, kept, same-eq, same-refl}
+use Rattle.octets.proofs.Lists.{and-left, and-right, by-test, eqb-comm, every-imp, every-keep, every-map, keep-all, kept, same-eq, same-refl, same-comm}
 use Rattle.table.specs.TheTable.{Access, Subscriber, line}
 use Rattle.table.specs.Soundness.{sessions}
 use Rattle.changes.specs.Changes.{leave}
@@ -39,12 +39,6 @@ module _ {A : Type 0} where
   pub kept-first : (f : A → Bool) (xs : List A) (a : A) (others : List A) → keep f xs ≡ a ∷ others → f a ≡ true
   unfolding every
   kept-first f xs a others e = and-left (f a) _ (rw e at (kept f xs))
-
-pub same-comm : (a b : List ℕ) → same a b ≡ same b a
-same-comm a b =
-    by-test (same a b)
-    (λ e. let q : a ≡ b = same-eq a b e in rw q)
-    (λ e. by-test (same b a) (λ d. let q : b ≡ a = same-eq b a d in rw q) (λ d. e ∙ sym d))
 
 -- AN ACCESS LEAVES
 

@@ -10,7 +10,7 @@ use lib.ListN.{length, getD, drop, length-drop}
 use lib.Seq.{drop-drop}
 use Rattle.octets.specs.Choice.{pick, require, firstOf, within}
 use Rattle.octets.specs.Numbers.{up4}
-use Rattle.octets.proofs.Lists.{by-test}
+use Rattle.octets.proofs.Lists.{by-test, no-length}
 use Rattle.message.specs.Codes.{plain}
 use Rattle.message.specs.ReadingAMessage.{Name, Avp, Field, flags, command, application, headerCode, headLength, avpLength, avpCode, avpOf, supported, requestCode, avps, walkCode, sessionId, having, startsWith, eachCode, testedAs, fieldCode, forBoth, for265, for275, fields}
 use Rattle.message.proofs.Walks.{Passed, passes as passed, request-four, request-passes, request-refuses}
@@ -99,10 +99,6 @@ gives-first n cs ds z (fails what e o p) = p ∙ sym (first-of cs ds ∙ rw p)
 pub gives-past : (n : ℕ) (cs ds : List Check) → n ≡ 0 → Gives n cs → firstFailed ds ≡ firstFailed (cs ++ ds)
 gives-past n cs ds z g = sym (past cs ds (gives-none n cs z g))
 
-empty : (s : List ℕ) → length s ≡ 0 → s ≡ []
-empty [] e = refl
-empty (b ∷ s) e = absurd (omega arith)
-
 -- checks of bytes of which there are some begin with those of an AVP
 some-first : (at : ℕ) (s : List ℕ) → 0 < length s → (requestCode s ≡ 0 → ⊥) → firstFailed (avpChecks at s) ≡ firstFailed (walkFrom at 0 s)
 unfolding walkFrom
@@ -128,7 +124,7 @@ module _ (m : List ℕ) (at : ℕ) where
   unfolding walkFrom firstFailed
   walk-ends e =
       by-step
-      (λ h f. rw (empty (drop at m) (rw length-drop (omega arith))))
+      (λ h f. rw (no-length (drop at m) (rw length-drop (omega arith))))
       (λ h f. let g : One (seenAt m at) ≡ End = sym f ∙ e in let z : _≡_ {A = ℕ} 0 1 = cc in absurd (omega arith))
       (λ l h f. let g : Bad (faultOf (drop at m)) ≡ End = sym f ∙ e in let z : _≡_ {A = ℕ} 0 1 = cc in absurd (omega arith))
 
