@@ -17,7 +17,8 @@ use Rattle.order.specs.Demand2.{requestIn, succeeds}
 use Rattle.order.specs.OpenedFirst.{sessionCut}
 use Rattle.order.proofs.Checks.{refused-changes-nothing, success-exactly}
 use Rattle.order.proofs.Setting.{cleared-zero}
-use Rattle.screen.specs.TheBoard.{Screen, sessionOf, Event, cuts, right, told, feed, feedRequest, feedResult, feedNotice, isConnected, countConnected}
+use Rattle.screen.specs.declared.Screen.{Screen}
+use Rattle.screen.specs.TheBoard.{sessionOf, Event, cuts, right, told, feed, feedRequest, feedResult, feedNotice, isConnected, countConnected}
 use Rattle.screen.proofs.TheBoardsRules.{fed-is, stays-right}
 use Rattle.agreement.specs.TheBoardAgrees.{Each, stands, standsOnce, connectedAt, Truthful, Agrees, eachOnce, withRequest, withResult, withNotice, inTurn, Way, resultFirst, noticeFirst, refusedLeftOut, withAnswer, fedBy, Fed, Moment, after, afterAll, onceThroughout, AgreesAfterCall, AgreesThroughout, dark, DarkAgrees, ClearedAgrees, CountsWhatStands}
 use Rattle.agreement.proofs.Some.{below}

@@ -10,7 +10,8 @@ use Rattle.octets.specs.Choice.{pick}
 use Rattle.octets.specs.Texts.{same}
 use Rattle.octets.proofs.Choice.{by-pick}
 use Rattle.octets.proofs.Lists.{by-test}
-use Rattle.screen.specs.TheBoard.{Screen, sessionOf, stateOf, shown, numberOf, placeIn, showing, Event, nothing, asks, opens, fails, ends, cuts, line, after, Move, stays, to, State, off, asked, connected, cut, moved, movedBy, isOf, told, isConnected}
+use Rattle.screen.specs.declared.Screen.{Screen}
+use Rattle.screen.specs.TheBoard.{sessionOf, stateOf, shown, numberOf, placeIn, showing, Event, nothing, asks, opens, fails, ends, cuts, line, after, Move, stays, to, State, off, asked, connected, cut, moved, movedBy, isOf, told, isConnected}
 use Rattle.agreement.specs.TheBoardAgrees.{connectedAt}
 use Rattle.agreement.proofs.Some.{not-both}
 

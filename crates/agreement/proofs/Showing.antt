@@ -18,7 +18,8 @@ use Rattle.rules.specs.Calls.{Call, Reply, reply}
 use Rattle.order.specs.Demand2.{afterwards, cutFor, exceeds, opens as isNew, placeTaken}
 use Rattle.order.specs.OpenedFirst.{sessionCut}
 use Rattle.order.proofs.History.{ended-one, place-told}
-use Rattle.screen.specs.TheBoard.{Screen, sessionOf, Event, nothing, asks, opens, ends, cuts, requestSays, success, resultSays, told}
+use Rattle.screen.specs.declared.Screen.{Screen}
+use Rattle.screen.specs.TheBoard.{sessionOf, Event, nothing, asks, opens, ends, cuts, requestSays, success, resultSays, told}
 use Rattle.agreement.specs.TheBoardAgrees.{some, standsAt, standsOnce, connectedAt, Truthful, kindAsked, sessionAsked, Way, resultFirst, noticeFirst, refusedLeftOut}
 use Rattle.agreement.proofs.Some.{not-both, or-false, some-one}
 use Rattle.agreement.proofs.Accesses.{Became, Opened, ended-left, goes-on, has, opens as opens-row, place-taken, routed-stays}

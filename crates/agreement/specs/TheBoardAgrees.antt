@@ -15,7 +15,8 @@ use Rattle.table.specs.Soundness.{sound}
 use Rattle.setup.specs.SetUp.{clear}
 use Rattle.rules.specs.Calls.{Call, Result, Reply, handle, mostPolicies}
 use Rattle.order.specs.OpenedFirst.{sessionCut}
-use Rattle.screen.specs.TheBoard.{Screen, sessionOf, right, isConnected, countConnected, feedRequest, feedResult, feedNotice}
+use Rattle.screen.specs.declared.Screen.{Screen}
+use Rattle.screen.specs.TheBoard.{sessionOf, right, isConnected, countConnected, feedRequest, feedResult, feedNotice}
 
 -- WHAT STANDS IN A TABLE
 

@@ -8,7 +8,7 @@ use Rattle.table.specs.TheTable.{Subscriber, Table, rowBytes}
 use Rattle.rules.specs.Calls.{Call, Left, handle}
 use Rattle.order.specs.Demand2.{requestIn}
 use Rattle.order.specs.OpenedAgain.{calling}
-use Rattle.screen.specs.TheBoard.{Screen}
+use Rattle.screen.specs.declared.Screen.{Screen}
 use Rattle.agreement.specs.TheBoardAgrees.{standsAt, eachOnce, withRequest, withResult, Way, resultFirst, noticeFirst, Fed, Moment, after}
 
 -- THE TABLE, of a form: two subscribers, each with "board", limit 1.

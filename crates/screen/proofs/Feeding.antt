@@ -7,10 +7,9 @@ use native.Mathlib.Omega.{arith}
 use lib.ListN.{length, getD, set}
 use Rattle.octets.specs.Choice.{pick}
 use Rattle.octets.specs.Lists.{every, distinct}
-use Rattle.octets.specs.Texts.{same}
 use Rattle.octets.proofs.Lists.{by-test, and-left, and-right, same-refl, same-eq, every-imp}
-use Rattle.screen.specs.TheBoard.{Screen, Event, sessionOf, sameScreen, isOf, onBoard, movedBy, told}
-use Rattle.screen.specs.Code.{differs}
+use Rattle.screen.specs.TheBoard.{Event, sessionOf, sameScreen, isOf, onBoard, movedBy, told}
+use Rattle.screen.specs.declared.Screen.{Screen}
 use Rattle.screen.proofs.Entries.{every-at}
 
 pub not-true : {b : Bool} → not b ≡ true → b ≡ false
@@ -72,15 +71,6 @@ module _ (session : List ℕ) where
   on-board (x ∷ l) zero d h e = rw e
   on-board (x ∷ l) (suc i) d h e =
       by-test (isOf session x) (λ q. rw q) (λ q. rw q (on-board l i d (omega arith) e))
-
--- what a comparison of two texts says of the screens whose Session-Ids they are
-pub compared : (s t : Screen) (a b : List ℕ) (r : Bool) → a ≡ sessionOf s → b ≡ sessionOf t → r ≡ same a b → differs s t ≡ not r
-unfolding differs sameScreen
-compared s t a b r p q e = rw (e, p, q)
-
-pub compared-of : (session : List ℕ) (s : Screen) (a : List ℕ) (r : Bool) → a ≡ sessionOf s → r ≡ same a session → isOf session s ≡ r
-unfolding isOf
-compared-of session s a r p e = rw (e, p)
 
 pub none-on : (session : List ℕ) (l : List Screen) → every (λ s. not (isOf session s)) l ≡ true → onBoard l session ≡ false
 unfolding onBoard

@@ -1,103 +1,51 @@
--- What a feed leaves, one law for each way out.
+-- What a feed leaves, one law for each way out, and what one look at the list says of it.
 use mathlib.Core.Path.{_≡_, sym, ap, _∙_}
 use mathlib.Core.Bool.{Bool, true, false, _&&_}
-use mathlib.Core.List.{List, [], map}
+use mathlib.Core.List.{List, map}
 use Prim.Native.Nat.{ℕ, _≤_, _<_}
-use borrow.Author.Tests.{le-leb, lt-leb, ltb-true, ltb-false}
-use lib.Dec.{leb, ltb}
+use native.Mathlib.Omega.{arith}
+use borrow.Author.Tests.{ltb-true, ltb-false, lt-leb, eqb-true, eqb-false, eq-eqb}
+use lib.Dec.{eqb, ltb, leb}
 use lib.ListN.{length, getD, set}
-use lib.Seq.{set-getD}
 use Rattle.octets.specs.Choice.{pick, require, firstOf}
-use Rattle.octets.specs.Lists.{every, keep, distinct}
-use Rattle.octets.proofs.Lists.{and-left, and-right}
-use Rattle.screen.specs.TheBoard.{Screen, State, Event, shown, after, moved, movedBy, showing, told, sameScreen, sized, right, isOf, onBoard, feedNumber, leaving, feed, isConnected, countConnected}
-use Rattle.screen.specs.Code.{screenOf, boardOf, stateSaid, moveSaid, leaves}
-use Rattle.screen.specs.declared.State.{State as StateIs}
-use Rattle.screen.specs.declared.Move.{Move as MoveIs}
-use Rattle.screen.specs.declared.Move.the-variants.{Stays, To}
-use Rattle.screen.proofs.Entries.{length-board, entry-at}
+use Rattle.octets.specs.Lists.{every, distinct}
+use Rattle.octets.proofs.Lists.{by-test, and-right}
+use Rattle.screen.specs.TheBoard.{Event, movedBy, told, sameScreen, sized, right, isOf, onBoard, feedNumber, leaving, feed, Counted, countConnected}
+use Rattle.screen.specs.Code.{none, counts, Found, leaves}
+use Rattle.screen.specs.declared.Screen.{Screen}
+use Rattle.screen.specs.declared.Seen.{Seen}
 use Rattle.screen.proofs.Feeding.{told-set, on-board}
 
--- A MOVE
-module _ (s : List (List ℕ)) (i : ℕ) (event : Event) (m : MoveIs) (state : State)
-    (e : moveSaid m ≡ after event state) (at : state ≡ shown (screenOf (getD s i []))) where
-  abbrev x : Screen
-  x = screenOf (getD s i [])
-
-  moves : moved (moveSaid m) x ≡ movedBy event x
-  unfolding movedBy
-  moves = ap (λ k. moved k x) (e ∙ ap (after event) at)
-
-  stay : m ≡ Stays → moved (moveSaid m) x ≡ x
-  unfolding moveSaid moved
-  stay q = rw q
-
-  pub stays-there : m ≡ Stays → boardOf s ≡ set (boardOf s) i (movedBy event x)
-  stays-there q =
-      let y : movedBy event x ≡ getD (boardOf s) i (screenOf []) = sym moves ∙ stay q ∙ sym (entry-at s i) in
-      sym (ap (set (boardOf s) i) y ∙ set-getD (boardOf s) i (screenOf []))
-
-  go : (then : StateIs) → m ≡ To then → showing (stateSaid then) x ≡ moved (moveSaid m) x
-  unfolding moveSaid moved
-  go then q = rw q
-
-  pub goes-to : (then : StateIs) → m ≡ To then → showing (stateSaid then) x ≡ movedBy event x
-  goes-to then q = go then q ∙ moves
-
 -- THE LIST
-module _ (s : List (List ℕ)) where
-  -- what an operation learns by asking for the length
-  module _ (many : Bool) (asked : many ≡ ltb 64 (length s)) where
-    pub over-64 : many ≡ true → right (boardOf s) ≡ false
-    unfolding right
-    over-64 e =
-        let h : 64 < length s = ltb-true 64 (length s) (sym asked ∙ e) in
-        let l : leb (length (boardOf s)) 64 ≡ false = lt-leb (length (boardOf s)) 64 (rw (length-board s) h) in
-        rw l
-
-    pub up-to-64 : many ≡ false → length s ≤ 64
-    up-to-64 e = ltb-false 64 (length s) (sym asked ∙ e)
-
-  pub wrong-size : length s ≤ 64 → every sized (boardOf s) ≡ false → right (boardOf s) ≡ false
+module _ (board : List Screen) where
+  pub over-64 : 64 < length board → right board ≡ false
   unfolding right
-  wrong-size h e = let l : leb (length (boardOf s)) 64 ≡ true = le-leb (length (boardOf s)) 64 (rw (length-board s) h) in rw (l, e)
+  over-64 h = let l : leb (length board) 64 ≡ false = lt-leb (length board) 64 h in rw l
 
-  pub all-right : length s ≤ 64 → every sized (boardOf s) ≡ true → distinct sameScreen (boardOf s) ≡ right (boardOf s)
-  unfolding right
-  all-right h e = let l : leb (length (boardOf s)) 64 ≡ true = le-leb (length (boardOf s)) 64 (rw (length-board s) h) in rw (l, e)
-
-  module _ (r : right (boardOf s) ≡ true) where
-    rest-right : every sized (boardOf s) && distinct sameScreen (boardOf s) ≡ true
+  module _ (r : right board ≡ true) where
+    rest-right : every sized board && distinct sameScreen board ≡ true
     unfolding right
-    rest-right = and-right (leb (length (boardOf s)) 64) _ r
+    rest-right = and-right (leb (length board) 64) _ r
 
-    pub right-sizes : every sized (boardOf s) ≡ true
-    right-sizes = and-left _ (distinct sameScreen (boardOf s)) rest-right
-
-    pub right-once : distinct sameScreen (boardOf s) ≡ true
-    right-once = and-right (every sized (boardOf s)) _ rest-right
+    pub right-once : distinct sameScreen board ≡ true
+    right-once = and-right (every sized board) _ rest-right
 
 -- THE WAYS OUT
-module _ (s : List (List ℕ)) (session : List ℕ) (event : Event) where
-  pub refused-25 : right (boardOf s) ≡ false → leaves 25 s ≡ feed (boardOf s) session event
+module _ (board : List Screen) (session : List ℕ) (event : Event) where
+  pub refused-25 : right board ≡ false → leaves 25 board ≡ feed board session event
   unfolding feed feedNumber leaving leaves firstOf require pick
   refused-25 r = rw r
 
-  module _ (r : right (boardOf s) ≡ true) where
-    pub refused-24 : onBoard (boardOf s) session ≡ false → leaves 24 s ≡ feed (boardOf s) session event
+  module _ (r : right board ≡ true) where
+    pub refused-24 : onBoard board session ≡ false → leaves 24 board ≡ feed board session event
     unfolding feed feedNumber leaving leaves firstOf require pick
     refused-24 o = rw (r, o)
 
-    pub fed : (t : List (List ℕ)) (i : ℕ) → i < length s → isOf session (screenOf (getD s i [])) ≡ true
-        → boardOf t ≡ set (boardOf s) i (movedBy event (screenOf (getD s i [])))
-        → leaves 0 t ≡ feed (boardOf s) session event
+    pub fed : (after : List Screen) (i : ℕ) → i < length board → isOf session (getD board i none) ≡ true → after ≡ set board i (movedBy event (getD board i none)) → leaves 0 after ≡ feed board session event
     unfolding feed feedNumber leaving leaves firstOf require pick
-    fed t i h o e =
-        let l : i < length (boardOf s) = rw (length-board s) h in
-        let of : isOf session (getD (boardOf s) i (screenOf [])) ≡ true = rw (entry-at s i) o in
-        let on : onBoard (boardOf s) session ≡ true = on-board session (boardOf s) i (screenOf []) l of in
-        let all : map (told session event) (boardOf s) ≡ set (boardOf s) i (movedBy event (screenOf (getD s i []))) =
-        rw (sym (entry-at s i)) (told-set session event (boardOf s) i (screenOf []) (right-once s r) l of) in
+    fed after i h o e =
+        let on : onBoard board session ≡ true = on-board session board i none h o in
+        let all : map (told session event) board ≡ set board i (movedBy event (getD board i none)) = told-set session event board i none (right-once board r) h o in
         rw (r, on, all, e)
 
 -- THE COUNT
@@ -105,6 +53,58 @@ pub not-counted : (board : List Screen) → right board ≡ false → record { n
 unfolding countConnected pick
 not-counted board r = rw r
 
-pub counted-all : (board : List Screen) (n : ℕ) → right board ≡ true → n ≡ length (keep isConnected board) → record { number = 0; screens = n } ≡ countConnected board
+number-counted : (board : List Screen) → countConnected board .number ≡ pick (right board) 0 25
 unfolding countConnected pick
-counted-all board n r e = rw (r, e)
+number-counted board = by-test (right board) (λ r. rw r) (λ r. rw r)
+
+-- ONE LOOK AT THE LIST
+-- s is what it told, and n the number that is made of it
+module _ (board : List Screen) (session : List ℕ) (event : Event) (s : Seen) (counted : counts s ≡ countConnected board) (found : s .number ≡ 0 → Found board session (s .at)) where
+  number-is : s .number ≡ pick (right board) 0 25
+  number-is = ap (λ (c : Counted). c .number) counted ∙ number-counted board
+
+  pub none-wrong : s .number ≡ 0 → right board ≡ true
+  unfolding pick
+  none-wrong z = by-test (right board) (λ r. r) (λ r. let bad : 0 ≡ 25 = sym z ∙ number-is ∙ ap (λ (b : Bool). pick b 0 25) r in absurd (omega arith))
+
+  pub some-wrong : eqb (s .number) 0 ≡ false → right board ≡ false
+  unfolding pick
+  some-wrong z = by-test (right board) (λ r. let e : s .number ≡ 0 = number-is ∙ ap (λ (b : Bool). pick b 0 25) r in absurd (eqb-false (s .number) 0 z e)) (λ r. r)
+
+  module _ (n : ℕ) (said : n ≡ pick (eqb (s .number) 0) (pick (eqb (s .at) 64) 24 0) 25) where
+    said-25 : eqb (s .number) 0 ≡ false → n ≡ 25
+    unfolding pick
+    said-25 z = said ∙ ap (λ (b : Bool). pick b (pick (eqb (s .at) 64) 24 0) 25) z
+
+    said-24 : eqb (s .number) 0 ≡ true → eqb (s .at) 64 ≡ true → n ≡ 24
+    unfolding pick
+    said-24 z w = said ∙ (λ i. pick (z i) (pick (w i) 24 0) 25)
+
+    said-0 : eqb (s .number) 0 ≡ true → eqb (s .at) 64 ≡ false → n ≡ 0
+    unfolding pick
+    said-0 z w = said ∙ (λ i. pick (z i) (pick (w i) 24 0) 25)
+
+    -- a number that is not 0: the list is left as it was
+    pub refused : length board ≤ 64 → (n ≡ 0 → ⊥) → leaves n board ≡ feed board session event
+    refused h not-0 =
+        by-test (eqb (s .number) 0)
+        (λ z. by-test (eqb (s .at) 64)
+        (λ w. let at : s .at ≡ 64 = eqb-true (s .at) 64 w in
+        let zero : s .number ≡ 0 = eqb-true (s .number) 0 z in
+        ap (λ (k : ℕ). leaves k board) (said-24 z w) ∙ refused-24 board session event (none-wrong zero) (found zero .1 (rw at h) .1))
+        (λ w. absurd (not-0 (said-0 z w))))
+        (λ z. ap (λ (k : ℕ). leaves k board) (said-25 z) ∙ refused-25 board session event (some-wrong z))
+
+    -- the number 0: the list may be fed, and the entry is on it
+    module _ (is-0 : n ≡ 0) where
+      number-0 : s .number ≡ 0
+      number-0 = by-test (eqb (s .number) 0) (λ z. eqb-true (s .number) 0 z) (λ z. let bad : n ≡ 25 = said-25 z in absurd (omega (arith, bad, is-0)))
+
+      at-one : s .at ≡ 64 → ⊥
+      at-one e = let bad : n ≡ 24 = said-24 (eq-eqb (s .number) 0 number-0) (eq-eqb (s .at) 64 e) in absurd (omega (arith, bad, is-0))
+
+      pub entry-there : s .at < length board
+      entry-there = by-test (ltb (s .at) (length board)) (λ l. ltb-true (s .at) (length board) l) (λ g. absurd (at-one (found number-0 .1 (ltb-false (s .at) (length board) g) .0)))
+
+      pub entry-told : (after : List Screen) → after ≡ set board (s .at) (movedBy event (getD board (s .at) none)) → leaves 0 after ≡ feed board session event
+      entry-told after e = fed board session event (none-wrong number-0) after (s .at) entry-there (found number-0 .0 entry-there) e

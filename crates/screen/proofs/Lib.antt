@@ -2,8 +2,12 @@ pub mod Entries
 pub mod Feeding
 pub mod Table
 pub mod Results
-pub mod Heads
 pub mod Leaving
 pub mod WorkedCases
 pub mod TheBoardsRules
 pub mod Ensured
+pub mod Lent
+pub mod Telling
+pub mod Shared
+pub mod Surveying
+pub mod Walking

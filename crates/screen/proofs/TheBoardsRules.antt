@@ -4,18 +4,14 @@ use mathlib.Core.Bool.{Bool, true, false, _&&_, not}
 use mathlib.Core.List.{List, [], _∷_, map}
 use Prim.Native.Nat.{ℕ, zero, suc, _+_, _≤_, _<_}
 use native.Mathlib.Omega.{arith}
-use borrow.Author.Tests.{eqb-true, ltb-true, leb-true}
-use lib.Dec.{eqb, ltb}
-use lib.ListN.{length, getD, drop, length-map}
-use lib.Seq.{drop-drop}
+use borrow.Author.Tests.{eqb-true, leb-true}
+use lib.Dec.{eqb}
+use lib.ListN.{length, getD, length-map}
 use Rattle.octets.specs.Choice.{pick, require, firstOf}
 use Rattle.octets.specs.Lists.{every, distinct}
-use Rattle.octets.specs.Numbers.{low32, low64, Bytes4}
 use Rattle.octets.specs.Texts.{same}
 use Rattle.octets.proofs.Lists.{by-test, and-left, and-right, same-eq, same-refl, keep-length}
-use Rattle.octets.proofs.Words.{words-same}
 use Rattle.screen.specs.TheBoard.{
-  Screen,
   State,
   off,
   asked,
@@ -47,8 +43,9 @@ use Rattle.screen.specs.TheBoard.{
   Counted,
   countConnected,
 }
-use Rattle.screen.specs.Code.{screenOf, isEntry, boardOf, leaves, countSaid}
+use Rattle.screen.specs.Code.{leaves, countSaid}
 use Rattle.screen.specs.declared.Count.{Count}
+use Rattle.screen.specs.declared.Screen.{Screen}
 use Rattle.screen.specs.TheBoardsRules.{OneEntry, SameLength, SessionsStay, StaysRight, RefusedStays, EitherOrder, CountIs, CountedShow, AtMost64, OneFeed, OneCount}
 use Rattle.screen.proofs.Entries.{every-at}
 use Rattle.screen.proofs.Feeding.{not-false, told-other, told-none}
@@ -236,64 +233,12 @@ unfolding isConnected shown stateOf showsPlace pick
 counted-show s = ((λ e. rw (eqb-true (s .state) 2 e)), (λ k e. sym (shows-two (s .state) (s .place)) ∙ ap showsPlace e))
 
 -- NO SECOND ANSWER
-module _ (s : List ℕ) (e : isEntry s ≡ true) where
-  long : length s ≡ 140
-  unfolding isEntry
-  long = eqb-true (length s) 140 (and-left _ (every (λ x. ltb x 256) s) e)
-
-  byte : (i : ℕ) → i < 140 → getD s i 0 < 256
-  unfolding isEntry
-  byte i h =
-      ltb-true (getD s i 0) 256 (every-at (λ x. ltb x 256) 0 s i (omega (arith, long)) (and-right (eqb (length s) 140) _ e))
-
-  bytes : (i : ℕ) → i + 4 ≤ 140 → Bytes4 s i
-  bytes i h =
-      record {
-        byte0 = byte i (omega arith);
-        byte1 = byte (i + 1) (omega arith);
-        byte2 = byte (i + 2) (omega arith);
-        byte3 = byte (i + 3) (omega arith);
-      }
-
-one-screen : (s t : List ℕ) → isEntry s ≡ true → isEntry t ≡ true → screenOf s ≡ screenOf t → s ≡ t
-unfolding screenOf low64
-one-screen s t p q e =
-    let l = long s p in
-    let k = long t q in
-    let a : low32 s 0 ≡ low32 t 0 = ap (λ (x : Screen). x .state) e in
-    let b : low32 s 4 ≡ low32 t 4 = ap (λ (x : Screen). x .place) e in
-    let c : low32 s 8 ≡ low32 t 8 = ap (λ (x : Screen). x .size) e in
-    let d : drop 12 s ≡ drop 12 t = ap (λ (x : Screen). x .room) e in
-    let same-from : (i : ℕ) → drop i s ≡ drop i t → same (drop i s) (drop i t) ≡ true = (λ i h. rw h (same-refl (drop i t))) in
-    let from4 : drop 4 s ≡ drop 4 t =
-    same-eq (drop 4 s) (drop 4 t)
-    (sym (words-same s t 4 (omega arith) (omega arith) (bytes s p 4 (omega arith)) (bytes s p 8 (omega arith)) (bytes t q 4 (omega arith)) (bytes t q 8 (omega arith)) (rw (b, c)))
-    ∙ same-from 12 d) in
-    let from8 : drop 8 s ≡ drop 8 t = sym (drop-drop 4 4 s) ∙ ap (drop 4) from4 ∙ drop-drop 4 4 t in
-    same-eq s t
-    (sym (words-same s t 0 (omega arith) (omega arith) (bytes s p 0 (omega arith)) (bytes s p 4 (omega arith)) (bytes t q 0 (omega arith)) (bytes t q 4 (omega arith)) (rw (a, b)))
-    ∙ same-from 8 from8)
-
-one-board : (s t : List (List ℕ)) → every isEntry s ≡ true → every isEntry t ≡ true → boardOf s ≡ boardOf t → s ≡ t
-unfolding boardOf every
-one-board [] [] p q e = refl
-one-board [] (y ∷ t) p q e = cc
-one-board (x ∷ s) [] p q e = cc
-one-board (x ∷ s) (y ∷ t) p q e =
-    let first : screenOf x ≡ screenOf y = cc in
-    let rest : map screenOf s ≡ map screenOf t = cc in
-    let a : x ≡ y = one-screen x y (and-left _ (every isEntry s) p) (and-left _ (every isEntry t) q) first in
-    let b : s ≡ t = one-board s t (and-right (isEntry x) _ p) (and-right (isEntry y) _ q) rest in
-    cc
-
-one-left : (n m : ℕ) (s t : List (List ℕ)) → leaves n s ≡ leaves m t → (n ≡ m) × (boardOf s ≡ boardOf t)
+one-left : (n m : ℕ) (s t : List Screen) → leaves n s ≡ leaves m t → (n ≡ m) × (s ≡ t)
 unfolding leaves
 one-left n m s t e = (ap (λ (l : Left). l .number) e, ap (λ (l : Left). l .board) e)
 
 pub one-feed : OneFeed
-one-feed promised n m s t p q a b =
-    let e = one-left n m s t (a ∙ sym b) in
-    (e .0, one-board s t p q (e .1))
+one-feed promised n m s t a b = one-left n m s t (a ∙ sym b)
 
 countBack : Counted → Count
 countBack c = record { number = c .number; screens = c .screens }

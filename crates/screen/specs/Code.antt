@@ -1,12 +1,11 @@
 -- What the code's numbers and enums say in the board's terms.
-use mathlib.Core.Bool.{Bool, _&&_, not}
-use mathlib.Core.List.{List, map}
-use Prim.Native.Nat.{ℕ}
-use lib.Dec.{eqb, ltb}
-use lib.ListN.{length, drop}
-use Rattle.octets.specs.Lists.{every}
-use Rattle.octets.specs.Numbers.{low32}
-use Rattle.screen.specs.TheBoard.{Screen, State, off, asked, connected, cut, unknown, Event, nothing, asks, opens, fails, ends, cuts, Move, stays, to, sameScreen, Left, Counted}
+use mathlib.Core.Path.{_≡_}
+use mathlib.Core.Bool.{true, false}
+use mathlib.Core.List.{List, []}
+use Prim.Native.Nat.{ℕ, _≤_, _<_}
+use lib.ListN.{length, getD}
+use Rattle.screen.specs.TheBoard.{State, off, asked, connected, cut, unknown, Event, nothing, asks, opens, fails, ends, cuts, Move, stays, to, isOf, onBoard, Left, Counted}
+use Rattle.screen.specs.declared.Screen.{Screen}
 use Rattle.screen.specs.declared.State.{State as StateIs}
 use Rattle.screen.specs.declared.State.the-variants.{Off, Asked, Connected, Cut, Unknown}
 use Rattle.screen.specs.declared.Event.{Event as EventIs}
@@ -14,21 +13,15 @@ use Rattle.screen.specs.declared.Event.the-variants.{Nothing, Asks, Open
 use Rattle.screen.specs.declared.Move.{Move as MoveIs}
 use Rattle.screen.specs.declared.Move.the-variants.{Stays, To}
 use Rattle.screen.specs.declared.Count.{Count}
+use Rattle.screen.specs.declared.Seen.{Seen}
 
--- An entry is lent as 140 bytes, those of the struct of C: three numbers of four bytes, the lowest byte first, then the room.
-unfoldable pub screenOf : List ℕ → Screen
-screenOf s = record { state = low32 s 0; place = low32 s 4; size = low32 s 8; room = drop 12 s }
+-- What stands past the end of a list, where a definition has to name something.
+abbrev pub none : Screen
+none = record { state = 0; place = 0; size = 0; room = [] }
 
--- 140 bytes, as an entry's type has them.
-unfoldable pub isEntry : List ℕ → Bool
-isEntry s = eqb (length s) 140 && every (λ x. ltb x 256) s
-
-unfoldable pub boardOf : List (List ℕ) → List Screen
-boardOf list = map screenOf list
-
--- Two entries have not the same Session-Id.
-unfoldable pub differs : Screen → Screen → Bool
-differs s t = not (sameScreen s t)
+-- An entry of that state and that place.
+abbrev pub entryOf : (state place : ℕ) → Screen
+entryOf state place = record { state = state; place = place; size = 0; room = [] }
 
 -- The cases of the code's enums.
 unfoldable pub stateSaid : StateIs → State
@@ -50,9 +43,18 @@ unfoldable pub moveSaid : MoveIs → Move
 moveSaid Stays = stays
 moveSaid (To state) = to (stateSaid state)
 
+-- What one look at the list tells: the number and the count, as `countConnected` has them; and, of a list that may be fed, the entry that has the Session-Id, 64 if
+-- none has.
+abbrev pub counts : Seen → Counted
+counts s = record { number = s .number; screens = s .connected }
+
+abbrev pub Found : List Screen → (session : List ℕ) → (at : ℕ) → Type 0
+Found board session at =
+    (at < length board → isOf session (getD board at none) ≡ true) × (length board ≤ at → (at ≡ 64) × (onBoard board session ≡ false))
+
 -- What a feed gives back: its number, and the list as it stands then.
-unfoldable pub leaves : ℕ → List (List ℕ) → Left
-leaves number list = record { number = number; board = boardOf list }
+unfoldable pub leaves : ℕ → List Screen → Left
+leaves number list = record { number = number; board = list }
 
 unfoldable pub countSaid : Count → Counted
 countSaid c = record { number = c .number; screens = c .screens }

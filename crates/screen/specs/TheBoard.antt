@@ -8,16 +8,11 @@ use lib.ListN.{length, take}
 use Rattle.octets.specs.Choice.{pick, require, firstOf, within}
 use Rattle.octets.specs.Lists.{every, keep, distinct}
 use Rattle.octets.specs.Texts.{same}
+use Rattle.screen.specs.declared.Screen.{Screen}
 
 -- A SCREEN
--- An entry of the lent list, in numbers: the state; the place that it is connected at; the length of its Session-Id; and the room of 128 bytes that the
--- Session-Id stands in. The bytes behind it mean nothing.
-pub record Screen : Type 0 where
-  pub state : ℕ
-  pub place : ℕ
-  pub size : ℕ
-  pub room : List ℕ
-
+-- An entry of the lent list is the struct `Screen` of the code, in numbers: the state; the place that it is connected at; the length of its Session-Id (size); and
+-- the room of 128 bytes that the Session-Id stands in. The bytes behind it mean nothing.
 unfoldable pub sessionOf : Screen → List ℕ
 sessionOf s = take (s .size) (s .room)
 

@@ -4,10 +4,11 @@ use mathlib.Core.Bool.{true, false}
 use mathlib.Core.List.{List, map}
 use Prim.Native.Nat.{ℕ, _≤_}
 use lib.ListN.{length, getD}
-use Rattle.octets.specs.Lists.{every, keep}
-use Rattle.screen.specs.TheBoard.{Screen, connected, shown, Event, sessionOf, right, isOf, feed, Left, isConnected, Counted, countConnected}
-use Rattle.screen.specs.Code.{isEntry, leaves, countSaid}
+use Rattle.octets.specs.Lists.{keep}
+use Rattle.screen.specs.TheBoard.{connected, shown, Event, sessionOf, right, isOf, feed, Left, isConnected, Counted, countConnected}
+use Rattle.screen.specs.Code.{leaves, countSaid}
 use Rattle.screen.specs.declared.Count.{Count}
+use Rattle.screen.specs.declared.Screen.{Screen}
 
 -- ONE ENTRY. A feed changes at most the entry of its Session-Id: any other is as it was, wherever it stands, and the list is as long as it was.
 abbrev pub OneEntry : Type 0
@@ -56,16 +57,10 @@ CountedShow =
 abbrev pub AtMost64 : Type 0
 AtMost64 = (board : List Screen) → countConnected board .screens ≤ 64
 
--- NO SECOND ANSWER: what an operation promises for the same inputs is met by one outcome only, in the number and in every byte of the list. Each equation is the one
--- that the operation ensures; proofs/Ensured holds them to the operations' own. That an entry has 140 bytes is its type's.
+-- NO SECOND ANSWER: what an operation promises for the same inputs is met by one outcome only, in the number and in every entry of the list. Each equation is the one
+-- that the operation ensures; proofs/Ensured holds them to the operations' own.
 abbrev pub OneFeed : Type 0
-OneFeed =
-    (promised : Left) (n m : ℕ) (s t : List (List ℕ))
-    → every isEntry s ≡ true
-    → every isEntry t ≡ true
-    → leaves n s ≡ promised
-    → leaves m t ≡ promised
-    → (n ≡ m) × (s ≡ t)
+OneFeed = (promised : Left) (n m : ℕ) (s t : List Screen) → leaves n s ≡ promised → leaves m t ≡ promised → (n ≡ m) × (s ≡ t)
 
 abbrev pub OneCount : Type 0
 OneCount = (promised : Counted) (x y : Count) → countSaid x ≡ promised → countSaid y ≡ promised → x ≡ y

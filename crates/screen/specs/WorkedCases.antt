@@ -6,7 +6,8 @@ use lib.Dec.{eqb}
 use lib.ListN.{length}
 use Rattle.octets.specs.Lists.{counted}
 use Rattle.octets.specs.Texts.{same, filled}
-use Rattle.screen.specs.TheBoard.{Screen, Left, feedRequest, feedResult, feedNotice, countConnected}
+use Rattle.screen.specs.declared.Screen.{Screen}
+use Rattle.screen.specs.TheBoard.{Left, feedRequest, feedResult, feedNotice, countConnected}
 
 -- An entry in its state, with the place and the Session-Id.
 unfoldable pub screen : (state place : ℕ) → (session : List ℕ) → Screen

@@ -1,16 +1,27 @@
 // The screen board: a list of screens that the caller lends, fed with requests, results and notices, and the number of connected screens.
-// A screen is 140 bytes, as the struct of C has them: its state, its place and the length of its Session-Id, four bytes each, and a room of 128.
+// The list is a slice of structs. The borrow checker covers no function that holds one, so the five that do (`stands_among`, `survey`, `connected`, `tell` and
+// `feed`) are thin, with proofs by hand; what is decided of a screen is decided by the others, which take it apart.
 ghost use mathlib.Core.Path.{_≡_};
-ghost use mathlib.Core.Bool.{true, false};
-ghost use mathlib.Core.List.{[]};
-ghost use Prim.Native.Nat.{_+_, _/_, _%_, _≤_, _<_};
-ghost use lib.Dec.{ltb};
-ghost use lib.ListN.{length, getD, drop, set};
-ghost use Rattle.octets.specs.Lists.{every, keep, distinct};
-ghost use Rattle.octets.specs.Numbers.{low32};
+ghost use mathlib.Core.Bool.{true};
+ghost use Prim.Native.Nat.{_+_, _≤_, _<_};
+ghost use lib.ListN.{length, getD, set, take};
+ghost use lib.Dec.{eqb};
+ghost use Rattle.octets.specs.Choice.{pick, within};
+ghost use Rattle.octets.specs.Lists.{every};
 ghost use Rattle.octets.specs.Texts.{same};
-ghost use Rattle.screen.specs.TheBoard.{line, stays, to, stateOf, shown, sessionOf, numberOf, placeIn, showing, requestSays, resultSays, success, after, movedBy, sameScreen, sized, isOf, onBoard, right, feed, feedRequest, feedResult, feedNotice, isConnected, countConnected};
-ghost use Rattle.screen.specs.Code.{screenOf, boardOf, differs, stateSaid, eventSaid, moveSaid, leaves, countSaid};
+ghost use Rattle.screen.specs.TheBoard.{line, stays, to, stateOf, numberOf, placeIn, requestSays, resultSays, success, after, movedBy, sized, isOf, onBoard, feed, countConnected};
+ghost use Rattle.screen.specs.Code.{none, entryOf, stateSaid, eventSaid, moveSaid, counts, Found, leaves, countSaid};
+
+// A SCREEN
+
+// An entry of the list, as the struct of C has it: the state and the place by their numbers, the length of the Session-Id, and the room that it stands in.
+#[repr(C)]
+pub struct Screen {
+    pub state: u32,
+    pub place: u32,
+    pub size: u32,
+    pub room: [u8; 128],
+}
 
 // THE TABLE
 
@@ -36,7 +47,7 @@ fn state_of(number: u32, place: u32) -> State
 }
 
 // What a screen is told.
-enum Event {
+pub enum Event {
     Nothing,
     Asks,
     Opens(u32),
@@ -45,7 +56,8 @@ enum Event {
     Cuts,
 }
 
-fn request_says(which: u32) -> Event
+// A request of kind `which`: 0 and 1 are the two types of an authorization, 2 is a termination.
+pub fn request_says(which: u32) -> Event
     ensures { λ r. ⌜ eventSaid r ≡ requestSays which ⌝ }
 {
     if which == 0 {
@@ -63,7 +75,8 @@ fn is_success(code: u32, kind: u32) -> bool
     code == 2001
 }
 
-fn result_says(which: u32, code: u32, kind: u32, place: u32) -> Event
+// The result of such a request: code, kind of code (0 no answer, 1 Result-Code, 2 Experimental-Result) and place.
+pub fn result_says(which: u32, code: u32, kind: u32, place: u32) -> Event
     ensures { λ r. ⌜ eventSaid r ≡ resultSays which code kind place ⌝ }
 {
     let good = is_success(code, kind);
@@ -133,152 +146,6 @@ fn move_after(event: Event, state: State) -> Move
     }
 }
 
-// ONE SCREEN
-
-fn number_in(e: &[u8], at: usize) -> u32
-    requires { ⌜ at + 4 ≤ length (now e) ⌝ }
-    ensures { λ r. ⌜ r ≡ low32 (now (e .entry)) at ⌝ }
-{
-    octets::wide(e[at])
-        + octets::wide(e[at + 1]) * 256
-        + octets::wide(e[at + 2]) * 65536
-        + octets::wide(e[at + 3]) * 16777216
-}
-
-// The length of its Session-Id.
-fn size_of(e: &[u8]) -> usize
-    requires { ⌜ length (now e) ≡ 140 ⌝ }
-    ensures { λ r. ⌜ r ≡ screenOf (now (e .entry)) .size ⌝ }
-{
-    number_in(e, 8) as usize
-}
-
-fn session_of(e: &[u8]) -> &[u8]
-    requires { ⌜ (length (now e) ≡ 140) × (screenOf (now e) .size ≤ 128) ⌝ }
-    ensures { λ r. ⌜ now r ≡ sessionOf (screenOf (now (e .entry))) ⌝ }
-{
-    &e[12..12 + size_of(e)]
-}
-
-// Whether its Session-Id has 1 to 128 bytes.
-fn is_sized(e: &[u8]) -> bool
-    requires { ⌜ length (now e) ≡ 140 ⌝ }
-    ensures { λ r. ⌜ r ≡ sized (screenOf (now (e .entry))) ⌝ }
-{
-    let n = size_of(e);
-    if n < 1 {
-        return false;
-    }
-    n <= 128
-}
-
-// THE TESTS
-
-fn sizes_right(screens: &[[u8; 140]]) -> bool
-    ensures { λ r. ⌜ r ≡ every sized (boardOf (now (screens .entry))) ⌝ }
-{
-    let mut i: usize = 0;
-    while i < screens.len() {
-        if !is_sized(&screens[i][..]) {
-            return false;
-        }
-        i += 1;
-    }
-    true
-}
-
-// Whether two Session-Ids are the same. Their ends are looked at first: those of one gateway begin alike.
-fn same_session(a: &[u8], b: &[u8]) -> bool
-    ensures { λ r. ⌜ r ≡ same (now (a .entry)) (now (b .entry)) ⌝ }
-{
-    let n = a.len();
-    if n != b.len() {
-        return false;
-    }
-    if n < 16 {
-        return octets::same_bytes(a, b);
-    }
-    let k = n - 16;
-    if !octets::same_bytes(&a[k..n], &b[k..n]) {
-        return false;
-    }
-    octets::same_bytes(a, b)
-}
-
-// Whether the Session-Id of entry i stands on no entry behind it.
-fn stands_once(screens: &[[u8; 140]], i: usize) -> bool
-    requires { ⌜ (i < length (now screens)) × (every sized (boardOf (now screens)) ≡ true) ⌝ }
-    ensures { λ r. ⌜ r ≡ every (differs (screenOf (getD (now (screens .entry)) i []))) (boardOf (drop (i + 1) (now (screens .entry)))) ⌝ }
-{
-    let session = session_of(&screens[i][..]);
-    let mut j: usize = i + 1;
-    while j < screens.len() {
-        if same_session(session, session_of(&screens[j][..])) {
-            return false;
-        }
-        j += 1;
-    }
-    true
-}
-
-fn none_twice(screens: &[[u8; 140]]) -> bool
-    requires { ⌜ every sized (boardOf (now screens)) ≡ true ⌝ }
-    ensures { λ r. ⌜ r ≡ distinct sameScreen (boardOf (now (screens .entry))) ⌝ }
-{
-    let mut i: usize = 0;
-    while i + 1 < screens.len() { // the last entry has none behind it
-        if !stands_once(screens, i) {
-            return false;
-        }
-        i += 1;
-    }
-    true
-}
-
-// Every operation asks this by itself, before anything else: a list that is too long is then refused without a call.
-fn too_many(screens: &[[u8; 140]]) -> bool
-    ensures { λ r. ⌜ r ≡ ltb 64 (length (now (screens .entry))) ⌝ }
-{
-    screens.len() > 64
-}
-
-fn board_right(screens: &[[u8; 140]]) -> bool
-    requires { ⌜ length (now screens) ≤ 64 ⌝ }
-    ensures { λ r. ⌜ r ≡ right (boardOf (now (screens .entry))) ⌝ }
-{
-    if !sizes_right(screens) {
-        return false;
-    }
-    none_twice(screens)
-}
-
-// The entry of that Session-Id; the length of the list if there is none.
-fn find(screens: &[[u8; 140]], session: &[u8]) -> usize
-    requires { ⌜ every sized (boardOf (now screens)) ≡ true ⌝ }
-    ensures { λ r. ⌜ (r ≤ length (now (screens .entry)))
-        × (r < length (now (screens .entry)) → isOf (now (session .entry)) (screenOf (getD (now (screens .entry)) r [])) ≡ true)
-        × (length (now (screens .entry)) ≤ r → onBoard (boardOf (now (screens .entry))) (now (session .entry)) ≡ false) ⌝ }
-{
-    let mut i: usize = 0;
-    while i < screens.len() { // the last entry too
-        if same_session(session_of(&screens[i][..]), session) {
-            return i;
-        }
-        i += 1;
-    }
-    i
-}
-
-// FEEDING
-
-fn state_at(screens: &[[u8; 140]], i: usize) -> State
-    requires { ⌜ i < length (now screens) ⌝ }
-    ensures { λ r. ⌜ stateSaid r ≡ shown (screenOf (getD (now (screens .entry)) i [])) ⌝ }
-{
-    let e = &screens[i][..];
-    state_of(number_in(e, 0), number_in(e, 4))
-}
-
 fn number_of(state: State) -> u32
     ensures { λ r. ⌜ r ≡ numberOf (stateSaid state) ⌝ }
 {
@@ -303,108 +170,169 @@ fn place_of(state: State) -> u32
     }
 }
 
-fn digit(n: u32, unit: u32) -> u8
-    requires { ⌜ 0 < unit ⌝ }
-    ensures { λ r. ⌜ r ≡ n / unit % 256 ⌝ }
-{
-    (n / unit % 256) as u8
-}
-
-// A state in the eight bytes that an entry begins with.
-fn head_of(state: State) -> [u8; 8]
-    ensures { λ r. ⌜ (low32 r 0 ≡ numberOf (stateSaid state)) × (low32 r 4 ≡ placeIn (stateSaid state)) ⌝ }
-{
-    let n = number_of(state);
-    let k = place_of(state);
-    [
-        digit(n, 1),
-        digit(n, 256),
-        digit(n, 65536),
-        digit(n, 16777216),
-        digit(k, 1),
-        digit(k, 256),
-        digit(k, 65536),
-        digit(k, 16777216),
-    ]
-}
-
-// The same screen in another state.
-fn in_state(e: [u8; 140], state: State) -> [u8; 140]
-    ensures { λ r. ⌜ screenOf r ≡ showing (stateSaid state) (screenOf e) ⌝ }
-{
-    let mut shown = e;
-    octets::put_bytes(&mut shown, 0, &head_of(state));
-    shown
-}
-
-// One entry replaced; all others stay.
-fn replace(screens: &mut [[u8; 140]], i: usize, state: State)
-    requires { ⌜ i < length (now screens) ⌝ }
-    ensures { λ _. ⌜ boardOf (now (screens .exit)) ≡ set (boardOf (now (screens .entry))) i (showing (stateSaid state) (screenOf (getD (now (screens .entry)) i []))) ⌝ }
-{
-    screens[i] = in_state(screens[i], state);
-}
-
-fn tell(screens: &mut [[u8; 140]], i: usize, event: Event)
-    requires { ⌜ i < length (now screens) ⌝ }
-    ensures { λ _. ⌜ boardOf (now (screens .exit)) ≡ set (boardOf (now (screens .entry))) i (movedBy (eventSaid event) (screenOf (getD (now (screens .entry)) i []))) ⌝ }
-{
-    let Move::To(state) = move_after(event, state_at(screens, i)) else {
-        return;
-    };
-    replace(screens, i, state);
-}
-
-fn feed(screens: &mut [[u8; 140]], session: &[u8], event: Event) -> u32
-    requires { ⌜ length (now screens) ≤ 64 ⌝ }
-    ensures { λ r. ⌜ leaves r (now (screens .exit)) ≡ feed (boardOf (now (screens .entry))) (now (session .entry)) (eventSaid event) ⌝ }
-{
-    if !board_right(screens) {
-        return 25;
-    }
-    let i = find(screens, session);
-    if i == screens.len() {
-        return 24;
-    }
-    tell(screens, i, event);
-    0
-}
-
-// A request of kind `which`: 0 and 1 are the two types of an authorization, 2 is a termination. 0, or 25, 24, and then the list is as it was.
-pub fn request(screens: &mut [[u8; 140]], which: u32, session: &[u8]) -> u32
-    ensures { λ r. ⌜ leaves r (now (screens .exit)) ≡ feedRequest (boardOf (now (screens .entry))) which (now (session .entry)) ⌝ }
-{
-    if too_many(screens) {
-        return 25;
-    }
-    feed(screens, session, request_says(which))
-}
-
-// The result of such a request: code, kind of code (0 no answer, 1 Result-Code, 2 Experimental-Result) and place. 0, or 25, 24.
-pub fn result(
-    screens: &mut [[u8; 140]],
-    which: u32,
-    session: &[u8],
-    code: u32,
-    kind: u32,
+// A state and a place as an entry has them.
+struct Shown {
+    state: u32,
     place: u32,
-) -> u32
-    ensures { λ r. ⌜ leaves r (now (screens .exit)) ≡ feedResult (boardOf (now (screens .entry))) which (now (session .entry)) code kind place ⌝ }
-{
-    if too_many(screens) {
-        return 25;
-    }
-    feed(screens, session, result_says(which, code, kind, place))
 }
 
-// The notice of a cut. 0, or 25, 24.
-pub fn notice(screens: &mut [[u8; 140]], session: &[u8]) -> u32
-    ensures { λ r. ⌜ leaves r (now (screens .exit)) ≡ feedNotice (boardOf (now (screens .entry))) (now (session .entry)) ⌝ }
+// What an entry that has this state and this place shows once it is told: the same, or what the table moves it to.
+fn shown_after(state: u32, place: u32, event: Event) -> Shown
+    ensures { λ r. ⌜ (r .state ≡ movedBy (eventSaid event) (entryOf state place) .state) × (r .place ≡ movedBy (eventSaid event) (entryOf state place) .place) ⌝ }
 {
-    if too_many(screens) {
-        return 25;
+    let Move::To(then) = move_after(event, state_of(state, place)) else {
+        return Shown {
+            state: state,
+            place: place,
+        };
+    };
+    Shown {
+        state: number_of(then),
+        place: place_of(then),
     }
-    feed(screens, session, Event::Cuts)
+}
+
+// SESSION-IDS
+
+// Whether a Session-Id has 1 to 128 bytes.
+fn is_sized(size: u32) -> bool
+    ensures { λ r. ⌜ r ≡ within 1 128 size ⌝ }
+{
+    if size < 1 {
+        return false;
+    }
+    size <= 128
+}
+
+fn session_of(room: &[u8; 128], size: u32) -> &[u8]
+    requires { ⌜ size ≤ 128 ⌝ }
+    ensures { λ r. ⌜ now r ≡ take size (now (room .entry)) ⌝ }
+{
+    let all = &room[..];
+    let n = size as usize;
+    &all[0..n]
+}
+
+// Whether two Session-Ids are the same. Their ends are looked at first: those of one gateway begin alike.
+fn same_session(a: &[u8], b: &[u8]) -> bool
+    ensures { λ r. ⌜ r ≡ same (now (a .entry)) (now (b .entry)) ⌝ }
+{
+    let n = a.len();
+    if n != b.len() {
+        return false;
+    }
+    if n < 16 {
+        return octets::same_bytes(a, b);
+    }
+    let k = n - 16;
+    if !octets::same_bytes(&a[k..n], &b[k..n]) {
+        return false;
+    }
+    octets::same_bytes(a, b)
+}
+
+// Whether the Session-Id in that room is this one.
+fn is_of(room: &[u8; 128], size: u32, session: &[u8]) -> bool
+    requires { ⌜ size ≤ 128 ⌝ }
+    ensures { λ r. ⌜ r ≡ same (take size (now (room .entry))) (now (session .entry)) ⌝ }
+{
+    same_session(session, session_of(room, size))
+}
+
+// Whether one of the first n entries has this Session-Id.
+fn stands_among(screens: &[Screen], n: usize, session: &[u8]) -> bool
+    requires { ⌜ (n ≤ length (now screens)) × (every sized (take n (now screens)) ≡ true) ⌝ }
+    ensures { λ r. ⌜ r ≡ onBoard (take n (now (screens .entry))) (now (session .entry)) ⌝ }
+{
+    let mut i: usize = 0; // from the first on
+    while i < n {
+        let e = &screens[i];
+        if is_of(&e.room, e.size, session) {
+            return true;
+        }
+        i += 1;
+    }
+    false
+}
+
+// ONE LOOK AT THE LIST
+
+// What it tells: the number 25, or 0; the entry that has the Session-Id, 64 if none has; how many screens are connected.
+struct Seen {
+    number: u32,
+    at: usize,
+    connected: u32,
+}
+
+fn refused() -> Seen
+    ensures { λ r. ⌜ (r .number ≡ 25) × (r .connected ≡ 0) ⌝ }
+{
+    Seen {
+        number: 25,
+        at: 64,
+        connected: 0,
+    }
+}
+
+fn begun() -> Seen
+    ensures { λ r. ⌜ (r .number ≡ 0) × (r .at ≡ 64) × (r .connected ≡ 0) ⌝ }
+{
+    Seen {
+        number: 0,
+        at: 64,
+        connected: 0,
+    }
+}
+
+fn counting(n: u32, state: u32) -> u32
+    requires { ⌜ n < 64 ⌝ }
+    ensures { λ r. ⌜ r ≡ n + pick (eqb state 2) 1 0 ⌝ }
+{
+    if state == 2 {
+        return n + 1;
+    }
+    n
+}
+
+fn choose(is_it: bool, i: usize, at: usize) -> usize
+    ensures { λ r. ⌜ r ≡ pick «is_it» i at ⌝ }
+{
+    if is_it {
+        return i; // the entry that has it
+    }
+    at
+}
+
+// Entry i has been looked at: its state, and whether it has the Session-Id.
+fn noted(s: Seen, i: usize, state: u32, is_it: bool) -> Seen
+    requires { ⌜ s .connected < 64 ⌝ }
+    ensures { λ r. ⌜ (r .number ≡ s .number) × (r .at ≡ pick «is_it» i (s .at)) × (r .connected ≡ s .connected + pick (eqb state 2) 1 0) ⌝ }
+{
+    Seen {
+        number: s.number,
+        at: choose(is_it, i, s.at),
+        connected: counting(s.connected, state),
+    }
+}
+
+fn survey(screens: &[Screen], session: &[u8]) -> Seen
+    requires { ⌜ length (now screens) ≤ 64 ⌝ }
+    ensures { λ r. ⌜ (counts r ≡ countConnected (now (screens .entry))) × (r .number ≡ 0 → Found (now (screens .entry)) (now (session .entry)) (r .at)) ⌝ }
+{
+    let mut s = begun();
+    let mut i: usize = 0;
+    while i < screens.len() {
+        let e = &screens[i];
+        if !is_sized(e.size) {
+            return refused();
+        }
+        if stands_among(screens, i, session_of(&e.room, e.size)) {
+            return refused();
+        }
+        s = noted(s, i, e.state, is_of(&e.room, e.size, session));
+        i += 1;
+    }
+    s
 }
 
 // COUNTING
@@ -416,39 +344,72 @@ pub struct Count {
     pub screens: u32,
 }
 
-fn count_in(screens: &[[u8; 140]]) -> u32
-    requires { ⌜ length (now screens) ≤ 64 ⌝ }
-    ensures { λ r. ⌜ r ≡ length (keep isConnected (boardOf (now (screens .entry)))) ⌝ }
+fn not_counted() -> Count
+    ensures { λ r. ⌜ (r .number ≡ 25) × (r .screens ≡ 0) ⌝ }
 {
-    let mut n: u32 = 0;
-    let mut i: usize = 0;
-    while i < screens.len() {
-        if number_in(&screens[i][..], 0) == 2 {
-            n += 1;
-        }
-        i += 1;
+    Count {
+        number: 25,
+        screens: 0,
     }
-    n
+}
+
+fn count_of(s: Seen) -> Count
+    ensures { λ r. ⌜ countSaid r ≡ counts s ⌝ }
+{
+    Count {
+        number: s.number,
+        screens: s.connected,
+    }
 }
 
 // The number of connected screens. Number 0, or 25 with none.
-pub fn connected(screens: &[[u8; 140]]) -> Count
-    ensures { λ r. ⌜ countSaid r ≡ countConnected (boardOf (now (screens .entry))) ⌝ }
+pub fn connected(screens: &[Screen]) -> Count
+    ensures { λ r. ⌜ countSaid r ≡ countConnected (now (screens .entry)) ⌝ }
 {
-    if too_many(screens) {
-        return Count {
-            number: 25,
-            screens: 0,
-        };
+    if screens.len() > 64 {
+        return not_counted();
     }
-    if !board_right(screens) {
-        return Count {
-            number: 25,
-            screens: 0,
-        };
+    count_of(survey(screens, b""))
+}
+
+// FEEDING
+
+// One entry is told; all others stay.
+fn tell(screens: &mut [Screen], i: usize, event: Event)
+    requires { ⌜ i < length (now screens) ⌝ }
+    ensures { λ _. ⌜ now (screens .exit) ≡ set (now (screens .entry)) i (movedBy (eventSaid event) (getD (now (screens .entry)) i none)) ⌝ }
+{
+    let e = &mut screens[i];
+    let then = shown_after(e.state, e.place, event);
+    e.state = then.state;
+    e.place = then.place;
+}
+
+// The number of what is told of that Session-Id.
+fn number_after(s: Seen) -> u32
+    ensures { λ r. ⌜ r ≡ pick (eqb (s .number) 0) (pick (eqb (s .at) 64) 24 0) 25 ⌝ }
+{
+    if s.number != 0 {
+        return 25;
     }
-    Count {
-        number: 0,
-        screens: count_in(screens),
+    if s.at == 64 {
+        return 24;
     }
+    0
+}
+
+// What is told of a Session-Id. 0, or 25, 24, and then the list is as it was.
+pub fn feed(screens: &mut [Screen], session: &[u8], event: Event) -> u32
+    ensures { λ r. ⌜ leaves r (now (screens .exit)) ≡ feed (now (screens .entry)) (now (session .entry)) (eventSaid event) ⌝ }
+{
+    if screens.len() > 64 { // before anything else
+        return 25;
+    }
+    let s = survey(screens, session);
+    let number = number_after(s);
+    if number != 0 {
+        return number;
+    }
+    tell(screens, s.at, event);
+    0
 }

@@ -5,6 +5,7 @@ use message::Asked;
 use message::Kind;
 use message::Span;
 use message::Told;
+use screen::Event;
 
 // WHAT A MESSAGE IS TO THE BOARD
 
@@ -73,7 +74,7 @@ fn feed_request(
     session: &[u8],
 ) -> bool {
     let before = tool_screens::entry(screens, session);
-    screen::request(screens, which, session);
+    tool_screens::feed(screens, session, screen::request_says(which));
     tell(k, quiet, before, tool_screens::entry(screens, session))
 }
 
@@ -87,20 +88,14 @@ fn feed_result(
 ) -> bool {
     let before = tool_screens::entry(screens, session);
     let kind = o.kind;
-    screen::result(
-        screens,
-        which,
-        session,
-        o.code,
-        kind_of(kind),
-        place_of(o.place),
-    );
+    let event = screen::result_says(which, o.code, kind_of(kind), place_of(o.place));
+    tool_screens::feed(screens, session, event);
     tell(k, quiet, before, tool_screens::entry(screens, session))
 }
 
 fn feed_notice(k: usize, quiet: bool, screens: &mut [[u8; 140]], session: &[u8]) -> bool {
     let before = tool_screens::entry(screens, session);
-    screen::notice(screens, session);
+    tool_screens::feed(screens, session, Event::Cuts);
     tell(k, quiet, before, tool_screens::entry(screens, session))
 }
 

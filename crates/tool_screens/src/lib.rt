@@ -1,8 +1,117 @@
-// A board of screens for the tool: read from a file with a Session-Id a line, and said a line a screen.
+// A board of screens for the tool: read from a file with a Session-Id a line, and said a line a screen. The tool's list has an entry of 140 bytes a screen.
+use screen::Count;
+use screen::Event;
+use screen::Screen;
 use tool_lines::Line;
 use tool_words::number;
 use tool_words::say;
 use tool_words::text;
+ghost use Prim.Native.Nat.{_+_, _≤_};
+
+// THE BOARD. Its list is one of structs, and no function that holds a reference to a struct is covered by the borrow checker. So a copy of the list goes to it and
+// comes back by value, and two thin functions, proved by hand, lend it: `fed` and `counted`.
+
+// Four bytes as a number, the lowest first.
+fn number_of(a: u8, b: u8, c: u8, d: u8) -> u32 {
+    octets::wide(a) + octets::wide(b) * 256 + octets::wide(c) * 65536 + octets::wide(d) * 16777216
+}
+
+fn put_number(e: &mut [u8; 140], at: usize, x: u32)
+    requires { ⌜ at + 4 ≤ 140 ⌝ }
+{
+    e[at] = (x % 256) as u8;
+    e[at + 1] = (x / 256 % 256) as u8;
+    e[at + 2] = (x / 65536 % 256) as u8;
+    e[at + 3] = (x / 16777216 % 256) as u8;
+}
+
+// The state, the place, the length of the Session-Id and the room that it stands in.
+fn screen_of(e: [u8; 140]) -> Screen {
+    let state = number_of(e[0], e[1], e[2], e[3]);
+    let place = number_of(e[4], e[5], e[6], e[7]);
+    let size = number_of(e[8], e[9], e[10], e[11]);
+    let mut room = [0u8; 128];
+    octets::put_bytes(&mut room, 0, &e[12..140]);
+    Screen {
+        state: state,
+        place: place,
+        size: size,
+        room: room,
+    }
+}
+
+fn with_room(room: [u8; 128]) -> [u8; 140] {
+    let mut e = [0u8; 140];
+    octets::put_bytes(&mut e, 12, &room[0..128]);
+    e
+}
+
+fn bytes_of(s: Screen) -> [u8; 140] {
+    let room = s.room;
+    let mut e = with_room(room);
+    put_number(&mut e, 0, s.state);
+    put_number(&mut e, 4, s.place);
+    put_number(&mut e, 8, s.size);
+    e
+}
+
+// The first 65 entries, and blank ones behind them.
+fn list_of(screens: &[[u8; 140]]) -> [Screen; 65] {
+    let blank = screen_of([0u8; 140]);
+    let mut list = [blank; 65];
+    let mut i: usize = 0;
+    while i < 65 {
+        if screens.len() <= i {
+            return list;
+        }
+        list[i] = screen_of(screens[i]);
+        i += 1;
+    }
+    list
+}
+
+fn put_list(screens: &mut [[u8; 140]], list: [Screen; 65]) {
+    let mut i: usize = 0;
+    while i < 65 {
+        if screens.len() <= i {
+            return;
+        }
+        screens[i] = bytes_of(list[i]);
+        i += 1;
+    }
+}
+
+fn fed(mut list: [Screen; 65], n: usize, session: &[u8], event: Event) -> [Screen; 65]
+    requires { ⌜ n ≤ 65 ⌝ }
+{
+    screen::feed(&mut list[..n], session, event);
+    list
+}
+
+fn counted(list: [Screen; 65], n: usize) -> Count
+    requires { ⌜ n ≤ 65 ⌝ }
+{
+    screen::connected(&list[..n])
+}
+
+// What is told of a Session-Id. A list of over 64 is no board, and stays as it is.
+pub fn feed(screens: &mut [[u8; 140]], session: &[u8], event: Event) {
+    let n = screens.len();
+    if n > 65 {
+        return;
+    }
+    let list = fed(list_of(screens), n, session, event);
+    put_list(screens, list);
+}
+
+// The number of connected screens. Number 0, or 25 with none, as for a list of over 64.
+pub fn connected(screens: &[[u8; 140]]) -> Count {
+    let n = screens.len();
+    if n > 65 {
+        return counted(list_of(screens), 65);
+    }
+    counted(list_of(screens), n)
+}
 
 // ENTRIES
 
@@ -54,7 +163,7 @@ fn fill(fd: i32, screens: &mut [[u8; 140]]) -> usize {
 
 // Whether they make a board; why not is said.
 fn check(path: &[u8], screens: &[[u8; 140]]) -> bool {
-    let c = screen::connected(screens);
+    let c = connected(screens);
     if c.number == 0 {
         return true;
     }
@@ -144,7 +253,7 @@ pub fn draw(screens: &[[u8; 140]]) -> bool {
         }
         i += 1;
     }
-    let c = screen::connected(screens);
+    let c = connected(screens);
     draw_count(c.screens, screens.len())
 }
 

@@ -16,11 +16,6 @@ use Rattle.report.proofs.count.Reads as Counting
 use Rattle.report.proofs.add.Reads as AddingReports
 use Rattle.report.proofs.rate.Reads as Rating
 use Rattle.report.specs.declared.Ratio.{Ratio}
-use Rattle.screen.proofs.request.Reads as Requesting
-use Rattle.screen.proofs.result.Reads as Resulting
-use Rattle.screen.proofs.notice.Reads as Noticing
-use Rattle.screen.proofs.connected.Reads as Connecting
-use Rattle.screen.specs.declared.Count.{Count}
 use Rattle.wm.specs.NoSecondAnswer.{GivenInC}
 use Rattle.wm.proofs.wm_clear.Kinds as Clear
 use Rattle.wm.proofs.wm_clear.Reads as WmClear
@@ -38,14 +33,6 @@ use Rattle.wm.proofs.wm_report_add.Kinds as ReportAdd
 use Rattle.wm.proofs.wm_report_add.Reads as WmReportAdd
 use Rattle.wm.proofs.wm_report_rate.Kinds as ReportRate
 use Rattle.wm.proofs.wm_report_rate.Reads as WmReportRate
-use Rattle.wm.proofs.wm_screen_request.Kinds as ScreenRequest
-use Rattle.wm.proofs.wm_screen_request.Reads as WmScreenRequest
-use Rattle.wm.proofs.wm_screen_result.Kinds as ScreenResult
-use Rattle.wm.proofs.wm_screen_result.Reads as WmScreenResult
-use Rattle.wm.proofs.wm_screen_notice.Kinds as ScreenNotice
-use Rattle.wm.proofs.wm_screen_notice.Reads as WmScreenNotice
-use Rattle.wm.proofs.wm_screens_connected.Kinds as ScreensConnected
-use Rattle.wm.proofs.wm_screens_connected.Reads as WmScreensConnected
 use Rattle.wm.proofs.NoSecondAnswer.{one-answer-in-c}
 
 -- table, form, operator, host, realm, message, wag, answer, notice
@@ -88,21 +75,3 @@ add-as-report κs a n x e = e
 pub rate-as-report : (κs : Lfts 1) (a : Dens κs ReportRate.ps) (r : Ratio) (x : AtExit (endedOf 1 ReportRate.ps ReportRate.r) κs)
     → WmReportRate.Learnt κs a r x → Rating.Learnt κs a r x
 rate-as-report κs a r x e = e
-
--- THE BOARD: each ensures what the operation of `screen` does, word for word.
-
-pub request-as-board : (κs : Lfts 2) (a : Dens κs ScreenRequest.ps) (n : ℕ) (x : AtExit (endedOf 2 ScreenRequest.ps ScreenRequest.r) κs)
-    → WmScreenRequest.Learnt κs a n x → Requesting.Learnt κs a n x
-request-as-board κs a n x e = e
-
-pub result-as-board : (κs : Lfts 2) (a : Dens κs ScreenResult.ps) (n : ℕ) (x : AtExit (endedOf 2 ScreenResult.ps ScreenResult.r) κs)
-    → WmScreenResult.Learnt κs a n x → Resulting.Learnt κs a n x
-result-as-board κs a n x e = e
-
-pub notice-as-board : (κs : Lfts 2) (a : Dens κs ScreenNotice.ps) (n : ℕ) (x : AtExit (endedOf 2 ScreenNotice.ps ScreenNotice.r) κs)
-    → WmScreenNotice.Learnt κs a n x → Noticing.Learnt κs a n x
-notice-as-board κs a n x e = e
-
-pub connected-as-board : (κs : Lfts 1) (a : Dens κs ScreensConnected.ps) (c : Count) (x : AtExit (endedOf 1 ScreensConnected.ps ScreensConnected.r) κs)
-    → WmScreensConnected.Learnt κs a c x → Connecting.Learnt κs a c x
-connected-as-board κs a c x e = e

@@ -2,6 +2,8 @@
 use numbers::Numbers;
 use report::Ratio;
 use screen::Count;
+use screen::Event;
+use screen::Screen;
 ghost use mathlib.Core.Path.{_≡_};
 ghost use Rattle.octets.specs.Choice.{pick};
 ghost use Rattle.table.specs.Answers.{lent};
@@ -15,7 +17,7 @@ ghost use Rattle.report.specs.TheReport.{count, add as addReport};
 ghost use Rattle.report.specs.Rates.{rate};
 ghost use Rattle.report.specs.Code.{toldBy, leaves, ratioSaid};
 ghost use Rattle.screen.specs.TheBoard.{feedRequest, feedResult, feedNotice, countConnected};
-ghost use Rattle.screen.specs.Code.{boardOf, leaves as leavesBoard, countSaid};
+ghost use Rattle.screen.specs.Code.{leaves as leavesBoard, countSaid};
 ghost use Rattle.wm.specs.InC.{leavesInC, writtenInC};
 
 // SET-UP: 0 on success, else the number
@@ -178,39 +180,43 @@ pub extern "C" fn wm_report_rate(report: &[u64; 96]) -> Ratio
 
 // A request, of its kind.
 #[no_mangle]
-pub extern "C" fn wm_screen_request(screens: &mut [[u8; 140]], which: u32, session: &[u8]) -> u32
-    ensures { λ r. ⌜ leavesBoard r (now (screens .exit)) ≡ feedRequest (boardOf (now (screens .entry))) which (now (session .entry)) ⌝ }
+pub extern "C" fn wm_screen_request(screens: &mut [Screen], which: u32, session: &[u8]) -> u32
+    ensures { λ r. ⌜ leavesBoard r (now (screens .exit)) ≡ feedRequest (now (screens .entry)) which (now (session .entry)) ⌝ }
 {
-    screen::request(screens, which, session)
+    screen::feed(screens, session, screen::request_says(which))
 }
 
 // Its result.
 #[no_mangle]
 pub extern "C" fn wm_screen_result(
-    screens: &mut [[u8; 140]],
+    screens: &mut [Screen],
     which: u32,
     session: &[u8],
     code: u32,
     kind: u32,
     place: u32,
 ) -> u32
-    ensures { λ r. ⌜ leavesBoard r (now (screens .exit)) ≡ feedResult (boardOf (now (screens .entry))) which (now (session .entry)) code kind place ⌝ }
+    ensures { λ r. ⌜ leavesBoard r (now (screens .exit)) ≡ feedResult (now (screens .entry)) which (now (session .entry)) code kind place ⌝ }
 {
-    screen::result(screens, which, session, code, kind, place)
+    screen::feed(
+        screens,
+        session,
+        screen::result_says(which, code, kind, place),
+    )
 }
 
 // The notice of a cut.
 #[no_mangle]
-pub extern "C" fn wm_screen_notice(screens: &mut [[u8; 140]], session: &[u8]) -> u32
-    ensures { λ r. ⌜ leavesBoard r (now (screens .exit)) ≡ feedNotice (boardOf (now (screens .entry))) (now (session .entry)) ⌝ }
+pub extern "C" fn wm_screen_notice(screens: &mut [Screen], session: &[u8]) -> u32
+    ensures { λ r. ⌜ leavesBoard r (now (screens .exit)) ≡ feedNotice (now (screens .entry)) (now (session .entry)) ⌝ }
 {
-    screen::notice(screens, session)
+    screen::feed(screens, session, Event::Cuts)
 }
 
 // The number of connected screens.
 #[no_mangle]
-pub extern "C" fn wm_screens_connected(screens: &[[u8; 140]]) -> Count
-    ensures { λ r. ⌜ countSaid r ≡ countConnected (boardOf (now (screens .entry))) ⌝ }
+pub extern "C" fn wm_screens_connected(screens: &[Screen]) -> Count
+    ensures { λ r. ⌜ countSaid r ≡ countConnected (now (screens .entry)) ⌝ }
 {
     screen::connected(screens)
 }
