@@ -1,18 +1,13 @@
 // The tool's board: the messages of a file put to the server on a table that stays as it is, and what each of them tells the screens of another file.
 use tool_operator::Number;
+use tool_screens::Entry;
 use tool_streams::Source;
 use tool_streams::Way;
 
 // ALL MESSAGES
 
 // A message served on the table in memory, and what it tells the board.
-fn serve_message(
-    k: usize,
-    form: u32,
-    table: &mut [u8],
-    screens: &mut [[u8; 140]],
-    m: &[u8],
-) -> bool {
+fn serve_message(k: usize, form: u32, table: &mut [u8], screens: &mut [Entry], m: &[u8]) -> bool {
     let mut answer = [0u8; answers::ANSWER_LEAST];
     let mut notice = [0u8; answers::NOTICE_LENGTH_2];
     let o = decision::handle(
@@ -42,7 +37,7 @@ fn take_message(
     k: usize,
     form: u32,
     table: &mut [u8],
-    screens: &mut [[u8; 140]],
+    screens: &mut [Entry],
     room: &[u8; 8192],
     n: usize,
 ) -> bool {
@@ -59,7 +54,7 @@ fn step(
     requests: &[u8],
     form: u32,
     table: &mut [u8],
-    screens: &mut [[u8; 140]],
+    screens: &mut [Entry],
     w: Way,
 ) -> Way {
     let mut room = [0u8; 8192];
@@ -74,13 +69,7 @@ fn step(
 }
 
 // All messages; whether the file was followed to its end. A proved loop has to end, so the turns are counted down.
-fn follow(
-    fd: i32,
-    requests: &[u8],
-    form: u32,
-    table: &mut [u8],
-    screens: &mut [[u8; 140]],
-) -> bool {
+fn follow(fd: i32, requests: &[u8], form: u32, table: &mut [u8], screens: &mut [Entry]) -> bool {
     let mut w = tool_streams::start();
     let mut turns: usize = 4294967296;
     while turns > 0 {
@@ -93,12 +82,7 @@ fn follow(
     false
 }
 
-fn open_and_follow(
-    requests: &[u8],
-    form: u32,
-    table: &mut [u8],
-    screens: &mut [[u8; 140]],
-) -> bool {
+fn open_and_follow(requests: &[u8], form: u32, table: &mut [u8], screens: &mut [Entry]) -> bool {
     let fd = tool_files::open_plain(requests);
     if fd < 0 {
         return false;
@@ -111,14 +95,14 @@ fn open_and_follow(
 // THE COMMAND
 
 // The board fed and drawn.
-fn feed_and_draw(requests: &[u8], form: u32, table: &mut [u8], screens: &mut [[u8; 140]]) {
+fn feed_and_draw(requests: &[u8], form: u32, table: &mut [u8], screens: &mut [Entry]) {
     if open_and_follow(requests, form, table, screens) {
         tool_screens::draw(screens);
     }
 }
 
 // The screens of a file: how many they are, 0 where they make no board, which is said.
-fn read_screens(path: &[u8], screens: &mut [[u8; 140]]) -> usize {
+fn read_screens(path: &[u8], screens: &mut [Entry]) -> usize {
     let fd = tool_files::open_plain(path);
     if fd < 0 {
         return 0;
@@ -130,7 +114,7 @@ fn read_screens(path: &[u8], screens: &mut [[u8; 140]]) -> usize {
 
 // The screens, with room for one more than a board may have, so that too many are told.
 fn with_screens(path: &[u8], requests: &[u8], form: u32, table: &mut [u8]) {
-    let mut screens = [[0u8; 140]; 65];
+    let mut screens = [[0u8; tool_screens::ENTRY_LENGTH]; 65];
     let n = read_screens(path, &mut screens);
     if n == 0 {
         return;

@@ -6,6 +6,7 @@ use message::Kind;
 use message::Span;
 use message::Told;
 use screen::Event;
+use tool_screens::Entry;
 
 // WHAT A MESSAGE IS TO THE BOARD
 
@@ -59,20 +60,14 @@ fn cut_of(cut: Cut) -> usize {
 
 // FEEDING. Message k moves screens, and each move is said unless all is quiet; whether that could be said. A Session-Id that is on no screen moves none.
 
-fn tell(k: usize, quiet: bool, before: [u8; 140], now: [u8; 140]) -> bool {
+fn tell(k: usize, quiet: bool, before: Entry, now: Entry) -> bool {
     if quiet {
         return true;
     }
     tool_screens::tell_moved(k, before, now)
 }
 
-fn feed_request(
-    k: usize,
-    quiet: bool,
-    screens: &mut [[u8; 140]],
-    which: u32,
-    session: &[u8],
-) -> bool {
+fn feed_request(k: usize, quiet: bool, screens: &mut [Entry], which: u32, session: &[u8]) -> bool {
     let before = tool_screens::entry(screens, session);
     tool_screens::feed(screens, session, screen::request_says(which));
     tell(k, quiet, before, tool_screens::entry(screens, session))
@@ -81,7 +76,7 @@ fn feed_request(
 fn feed_result(
     k: usize,
     quiet: bool,
-    screens: &mut [[u8; 140]],
+    screens: &mut [Entry],
     which: u32,
     session: &[u8],
     o: Outcome,
@@ -93,14 +88,14 @@ fn feed_result(
     tell(k, quiet, before, tool_screens::entry(screens, session))
 }
 
-fn feed_notice(k: usize, quiet: bool, screens: &mut [[u8; 140]], session: &[u8]) -> bool {
+fn feed_notice(k: usize, quiet: bool, screens: &mut [Entry], session: &[u8]) -> bool {
     let before = tool_screens::entry(screens, session);
     tool_screens::feed(screens, session, Event::Cuts);
     tell(k, quiet, before, tool_screens::entry(screens, session))
 }
 
 // The notice of a cut, of which the Session-Id has n bytes; nothing where there was none.
-fn feed_cut(k: usize, quiet: bool, screens: &mut [[u8; 140]], notice: &[u8], n: usize) -> bool {
+fn feed_cut(k: usize, quiet: bool, screens: &mut [Entry], notice: &[u8], n: usize) -> bool {
     if n == 0 {
         return true;
     }
@@ -114,7 +109,7 @@ fn feed_cut(k: usize, quiet: bool, screens: &mut [[u8; 140]], notice: &[u8], n: 
 fn feed_all(
     k: usize,
     quiet: bool,
-    screens: &mut [[u8; 140]],
+    screens: &mut [Entry],
     which: u32,
     session: &[u8],
     o: Outcome,
@@ -134,7 +129,7 @@ fn feed_all(
 fn feed_about(
     k: usize,
     quiet: bool,
-    screens: &mut [[u8; 140]],
+    screens: &mut [Entry],
     m: &[u8],
     a: About,
     o: Outcome,
@@ -158,7 +153,7 @@ pub fn feed(
     k: usize,
     quiet: bool,
     form: u32,
-    screens: &mut [[u8; 140]],
+    screens: &mut [Entry],
     m: &[u8],
     o: Outcome,
     notice: &[u8],

@@ -5,6 +5,7 @@ use tool_hold::Held;
 use tool_inputs::Inputs;
 use tool_operator::Number;
 use tool_page::Desk;
+use tool_screens::Entry;
 use tool_sheets::Sheets;
 use tool_totals::Totals;
 
@@ -20,7 +21,7 @@ fn check_codes(t: Totals) -> bool {
 }
 
 // The board, if it has screens; whether it could be drawn.
-fn draw(screens: &[[u8; 140]]) -> bool {
+fn draw(screens: &[Entry]) -> bool {
     if screens.len() == 0 {
         return true;
     }
@@ -28,7 +29,7 @@ fn draw(screens: &[[u8; 140]]) -> bool {
 }
 
 // What was done, said, and the table replaced if all is as it should be.
-fn finish(d: Desk, path: &[u8], screens: &[[u8; 140]], t: Totals) {
+fn finish(d: Desk, path: &[u8], screens: &[Entry], t: Totals) {
     if !tool_totals::summary(t, d.only != 0, 0 <= d.codes) {
         return;
     }
@@ -49,7 +50,7 @@ fn serve(
     answers: &[u8],
     notices: &[u8],
     table: &mut [u8],
-    screens: &mut [[u8; 140]],
+    screens: &mut [Entry],
     all: usize,
 ) {
     let t = tool_serve::serve_all(d, requests, answers, notices, table, screens, all);
@@ -97,7 +98,7 @@ fn begin(
     answers: &[u8],
     notices: &[u8],
     table: &mut [u8],
-    screens: &mut [[u8; 140]],
+    screens: &mut [Entry],
     all: usize,
 ) {
     if libc::lseek(i.requests, 0, libc::SEEK_SET) != 0 {
@@ -116,7 +117,7 @@ fn begin(
 const NO_BOARD: usize = 66;
 
 // The screens of an open file with the name of n bytes, read to the list: how many they are; why they make no board is said.
-fn read_named(fd: i32, name: &[u8; 4096], n: usize, screens: &mut [[u8; 140]]) -> usize {
+fn read_named(fd: i32, name: &[u8; 4096], n: usize, screens: &mut [Entry]) -> usize {
     let path: &[u8] = name;
     if path.len() < n {
         return NO_BOARD;
@@ -129,7 +130,7 @@ fn read_named(fd: i32, name: &[u8; 4096], n: usize, screens: &mut [[u8; 140]]) -
 }
 
 // The same of the file that the word names; none without it.
-fn read_screens(fd: i32, screens: &mut [[u8; 140]]) -> usize {
+fn read_screens(fd: i32, screens: &mut [Entry]) -> usize {
     if fd < 0 {
         return 0;
     }
@@ -150,7 +151,7 @@ fn with_screens(
     table: &mut [u8],
     all: usize,
 ) {
-    let mut screens = [[0u8; 140]; 65];
+    let mut screens = [[0u8; tool_screens::ENTRY_LENGTH]; 65];
     let n = read_screens(i.screens, &mut screens);
     if n > 65 {
         return;

@@ -1,4 +1,4 @@
-// A board of screens for the tool: read from a file with a Session-Id a line, and said a line a screen. The tool's list has an entry of 140 bytes a screen.
+// A board of screens for the tool: read from a file with a Session-Id a line, and said a line a screen. The tool's list has an entry of bytes for each screen.
 use screen::Count;
 use screen::Event;
 use screen::Screen;
@@ -8,6 +8,11 @@ use tool_words::say;
 use tool_words::text;
 ghost use Prim.Native.Nat.{_+_, _≤_};
 
+// The bytes of the struct of C: state, place and the length of the Session-Id, four bytes each with the lowest first, and the room.
+pub const ENTRY_LENGTH: usize = 140;
+
+pub type Entry = [u8; ENTRY_LENGTH];
+
 // THE BOARD. Its list is one of structs, and no function that holds a reference to a struct is covered by the borrow checker. So a copy of the list goes to it and
 // comes back by value, and two thin functions, proved by hand, lend it: `fed` and `counted`.
 
@@ -16,7 +21,7 @@ fn number_of(a: u8, b: u8, c: u8, d: u8) -> u32 {
     octets::wide(a) + octets::wide(b) * 256 + octets::wide(c) * 65536 + octets::wide(d) * 16777216
 }
 
-fn put_number(e: &mut [u8; 140], at: usize, x: u32)
+fn put_number(e: &mut Entry, at: usize, x: u32)
     requires { ⌜ at + 4 ≤ 140 ⌝ }
 {
     e[at] = (x % 256) as u8;
@@ -26,12 +31,12 @@ fn put_number(e: &mut [u8; 140], at: usize, x: u32)
 }
 
 // The state, the place, the length of the Session-Id and the room that it stands in.
-fn screen_of(e: [u8; 140]) -> Screen {
+fn screen_of(e: Entry) -> Screen {
     let state = number_of(e[0], e[1], e[2], e[3]);
     let place = number_of(e[4], e[5], e[6], e[7]);
     let size = number_of(e[8], e[9], e[10], e[11]);
     let mut room = [0u8; 128];
-    octets::put_bytes(&mut room, 0, &e[12..140]);
+    octets::put_bytes(&mut room, 0, &e[12..ENTRY_LENGTH]);
     Screen {
         state: state,
         place: place,
@@ -40,13 +45,13 @@ fn screen_of(e: [u8; 140]) -> Screen {
     }
 }
 
-fn with_room(room: [u8; 128]) -> [u8; 140] {
-    let mut e = [0u8; 140];
+fn with_room(room: [u8; 128]) -> Entry {
+    let mut e = [0u8; ENTRY_LENGTH];
     octets::put_bytes(&mut e, 12, &room[0..128]);
     e
 }
 
-fn bytes_of(s: Screen) -> [u8; 140] {
+fn bytes_of(s: Screen) -> Entry {
     let room = s.room;
     let mut e = with_room(room);
     put_number(&mut e, 0, s.state);
@@ -56,8 +61,8 @@ fn bytes_of(s: Screen) -> [u8; 140] {
 }
 
 // The first 65 entries, and blank ones behind them.
-fn list_of(screens: &[[u8; 140]]) -> [Screen; 65] {
-    let blank = screen_of([0u8; 140]);
+fn list_of(screens: &[Entry]) -> [Screen; 65] {
+    let blank = screen_of([0u8; ENTRY_LENGTH]);
     let mut list = [blank; 65];
     let mut i: usize = 0;
     while i < 65 {
@@ -70,7 +75,7 @@ fn list_of(screens: &[[u8; 140]]) -> [Screen; 65] {
     list
 }
 
-fn put_list(screens: &mut [[u8; 140]], list: [Screen; 65]) {
+fn put_list(screens: &mut [Entry], list: [Screen; 65]) {
     let mut i: usize = 0;
     while i < 65 {
         if screens.len() <= i {
@@ -95,7 +100,7 @@ fn counted(list: [Screen; 65], n: usize) -> Count
 }
 
 // What is told of a Session-Id. A list of over 64 is no board, and stays as it is.
-pub fn feed(screens: &mut [[u8; 140]], session: &[u8], event: Event) {
+pub fn feed(screens: &mut [Entry], session: &[u8], event: Event) {
     let n = screens.len();
     if n > 65 {
         return;
@@ -105,7 +110,7 @@ pub fn feed(screens: &mut [[u8; 140]], session: &[u8], event: Event) {
 }
 
 // The number of connected screens. Number 0, or 25 with none, as for a list of over 64.
-pub fn connected(screens: &[[u8; 140]]) -> Count {
+pub fn connected(screens: &[Entry]) -> Count {
     let n = screens.len();
     if n > 65 {
         return counted(list_of(screens), 65);
@@ -116,8 +121,8 @@ pub fn connected(screens: &[[u8; 140]]) -> Count {
 // ENTRIES
 
 // A screen that is off, with its Session-Id. One that does not fit is told by its length alone.
-fn entry_of(session: &[u8]) -> [u8; 140] {
-    let mut e = [0u8; 140];
+fn entry_of(session: &[u8]) -> Entry {
+    let mut e = [0u8; ENTRY_LENGTH];
     let n = session.len();
     if n > message::TEXT_MOST {
         e[8] = 129;
@@ -129,10 +134,10 @@ fn entry_of(session: &[u8]) -> [u8; 140] {
 }
 
 // The entry of the first n bytes of a line.
-fn line_entry(line: &[u8; 4096], n: usize) -> [u8; 140] {
+fn line_entry(line: &[u8; 4096], n: usize) -> Entry {
     let all: &[u8] = line;
     if all.len() < n {
-        return [0u8; 140];
+        return [0u8; ENTRY_LENGTH];
     }
     entry_of(&all[0..n])
 }
@@ -147,7 +152,7 @@ fn length_of(next: Line) -> usize {
 }
 
 // The screens of a file, as many as the list has room for: how many they are.
-fn fill(fd: i32, screens: &mut [[u8; 140]]) -> usize {
+fn fill(fd: i32, screens: &mut [Entry]) -> usize {
     let mut i: usize = 0;
     while i < screens.len() {
         let mut line = [0u8; 4096];
@@ -162,7 +167,7 @@ fn fill(fd: i32, screens: &mut [[u8; 140]]) -> usize {
 }
 
 // Whether they make a board; why not is said.
-fn check(path: &[u8], screens: &[[u8; 140]]) -> bool {
+fn check(path: &[u8], screens: &[Entry]) -> bool {
     let c = connected(screens);
     if c.number == 0 {
         return true;
@@ -175,7 +180,7 @@ fn check(path: &[u8], screens: &[[u8; 140]]) -> bool {
 }
 
 // The screens of an open file: how many they are, 0 where they make no board, which is said. With room for 65 of them too many are told.
-pub fn read(fd: i32, path: &[u8], screens: &mut [[u8; 140]]) -> usize {
+pub fn read(fd: i32, path: &[u8], screens: &mut [Entry]) -> usize {
     let n = fill(fd, screens);
     if n == 0 {
         tool_files::refuse_word(path, b": no screens: it has no line");
@@ -193,7 +198,7 @@ pub fn read(fd: i32, path: &[u8], screens: &mut [[u8; 140]]) -> usize {
 // LINES
 
 // The Session-Id of an entry.
-fn session(out: &mut [u8; 4096], at: usize, e: [u8; 140]) -> usize {
+fn session(out: &mut [u8; 4096], at: usize, e: Entry) -> usize {
     let n = octets::long(e[8]);
     let room: &[u8] = &e;
     if message::TEXT_MOST < n {
@@ -206,7 +211,7 @@ fn session(out: &mut [u8; 4096], at: usize, e: [u8; 140]) -> usize {
 }
 
 // A state in words.
-pub fn state(out: &mut [u8; 4096], at: usize, e: [u8; 140]) -> usize {
+pub fn state(out: &mut [u8; 4096], at: usize, e: Entry) -> usize {
     match e[0] {
         0 => say(out, at, b"off"),
         1 => say(out, at, b"asked"),
@@ -220,7 +225,7 @@ pub fn state(out: &mut [u8; 4096], at: usize, e: [u8; 140]) -> usize {
 }
 
 // A screen, with what a sales desk wants to know before it; whether it could be said.
-fn draw_one(e: [u8; 140]) -> bool {
+fn draw_one(e: Entry) -> bool {
     let mut out = [0u8; 4096];
     let mut at: usize = 0;
     if e[0] == 2 {
@@ -245,7 +250,7 @@ fn draw_count(connected: u32, all: usize) -> bool {
 }
 
 // The board, a line a screen, and how many of them are connected; whether it could be said.
-pub fn draw(screens: &[[u8; 140]]) -> bool {
+pub fn draw(screens: &[Entry]) -> bool {
     let mut i: usize = 0;
     while i < screens.len() {
         if !draw_one(screens[i]) {
@@ -260,7 +265,7 @@ pub fn draw(screens: &[[u8; 140]]) -> bool {
 // ONE SESSION-ID
 
 // Whether an entry has that Session-Id.
-fn is_of(e: [u8; 140], wanted: &[u8]) -> bool {
+fn is_of(e: Entry, wanted: &[u8]) -> bool {
     let n = octets::long(e[8]);
     let room: &[u8] = &e;
     if message::TEXT_MOST < n {
@@ -273,7 +278,7 @@ fn is_of(e: [u8; 140], wanted: &[u8]) -> bool {
 }
 
 // The entry of a Session-Id; one of zeros where there is none, which shows off.
-pub fn entry(screens: &[[u8; 140]], wanted: &[u8]) -> [u8; 140] {
+pub fn entry(screens: &[Entry], wanted: &[u8]) -> Entry {
     let mut i: usize = 0;
     while i < screens.len() {
         if is_of(screens[i], wanted) {
@@ -281,10 +286,10 @@ pub fn entry(screens: &[[u8; 140]], wanted: &[u8]) -> [u8; 140] {
         }
         i += 1;
     }
-    [0u8; 140]
+    [0u8; ENTRY_LENGTH]
 }
 
-fn shows_other(a: [u8; 140], b: [u8; 140]) -> bool {
+fn shows_other(a: Entry, b: Entry) -> bool {
     if a[0] != b[0] {
         return true;
     }
@@ -292,7 +297,7 @@ fn shows_other(a: [u8; 140], b: [u8; 140]) -> bool {
 }
 
 // That message k has moved a screen, if it shows something else than before; whether it could be said.
-pub fn tell_moved(k: usize, before: [u8; 140], now: [u8; 140]) -> bool {
+pub fn tell_moved(k: usize, before: Entry, now: Entry) -> bool {
     if !shows_other(before, now) {
         return true;
     }
