@@ -25,6 +25,7 @@ sealed s = s ++ sums s
 
 -- THE FORMS
 
+-- How long a block is, with its sums.
 abbrev pub blockLength : ℕ
 blockLength = 512
 
@@ -227,6 +228,7 @@ pub record Table : Type 0 where
 abbrev pub width : Table → ℕ
 width t = rowLength (t .form)
 
+-- The most rows that a table may have.
 abbrev pub mostRows : ℕ
 mostRows = 1024
 

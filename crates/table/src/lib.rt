@@ -15,13 +15,13 @@ ghost use Rattle.table.specs.Answers.{found, lent, rowEnd};
 // A row is block 0 and eight places, each of as many blocks as the form says. Form 2 is the last, with two.
 pub const BLOCK_LENGTH: usize = 512;
 
-pub const TWO_BLOCKS: usize = 1024;
+pub const TWO_BLOCKS: usize = 2 * BLOCK_LENGTH;
 
 pub const PLACES: usize = 8;
 
-pub const ROW_LENGTH_1: usize = 4608;
+pub const ROW_LENGTH_1: usize = BLOCK_LENGTH + PLACES * BLOCK_LENGTH;
 
-pub const ROW_LENGTH_2: usize = 8704;
+pub const ROW_LENGTH_2: usize = BLOCK_LENGTH + PLACES * TWO_BLOCKS;
 
 // A table has at most 1,024 rows.
 pub const MOST_ROWS: usize = 1024;

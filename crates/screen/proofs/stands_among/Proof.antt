@@ -123,29 +123,30 @@ module _ {M : Type 1} (𝓤 : URA M) (H : Heap 𝓤) (A : Atoms 𝓤) (W : Given
       qed W ((‵ (flft κ q) ⊛ ‵ (flft κ′ q′) ⊛ ‵ ftrue) ∷ ‵ (owns (ShrSlice (named 0) κ T.the-row ∷ usize ∷ ShrSlice (named 1) κ′ u8 ∷ []) x at) ∷ []) ∵
       split ! $ frame ! $ split ! $ frame ! $ drop ! $ fsplit ! $ frame ! $ fsplit ! $ drop ! $ fsplit ! $ move ! (1 ∷ []) $ drop ! $ done !
 
-  -- the entry that a turn looks at, and what `is_of` is passed
-  module _ (i : ℕ) (g : GName) where
-    abbrev e : Screen
-    e = getD ys i none
+  -- the entry that a turn looks at
+  abbrev e : ℕ → Screen
+  e i = getD ys i none
 
+  -- what `is_of` is passed
+  module _ (i : ℕ) (g : GName) where
     abbrev room : RefT (List ℕ)
-    room = record { ptr = (b, place 140 o i + 12); name = g; now = e .room }
+    room = record { ptr = (b, place 140 o i + 12); name = g; now = e i .room }
 
     abbrev passed : Vals is.signature κs
-    passed = (vptr b (place 140 o i + 12) ∷ [], (vint w32 (e .size) ∷ [], (text ∷ [], tt)))
+    passed = (vptr b (place 140 o i + 12) ∷ [], (vint w32 (e i .size) ∷ [], (text ∷ [], tt)))
 
     abbrev to : IsOf 𝓤 H A mem run .Ghost
-    to = ((κs, (q, (q′, tt)), tt, (room, (e .size, (t, tt))), passed), tt)
+    to = ((κs, (q, (q′, tt)), tt, (room, (e i .size, (t, tt))), passed), tt)
 
-    asked : e .size < 2 ^ 32 → e .size ≤ 128 → ent 𝓤 (⋆ 𝓤 H A (‵ (Lent 𝓤 H A W κ q b o γ ys i g) ∷ ‵ (flft κ q) ∷ ‵ (flft κ′ q′) ∷ ‵ Session ∷ [])) (IsOf 𝓤 H A mem run .pre to)
+    asked : e i .size < 2 ^ 32 → e i .size ≤ 128 → ent 𝓤 (⋆ 𝓤 H A (‵ (Lent 𝓤 H A W κ q b o γ ys i g) ∷ ‵ (flft κ q) ∷ ‵ (flft κ′ q′) ∷ ‵ Session ∷ [])) (IsOf 𝓤 H A mem run .pre to)
     asked fits small =
         qed W (‵ (Lent 𝓤 H A W κ q b o γ ys i g) ∷ ‵ (flft κ q) ∷ ‵ (flft κ′ q′) ∷ ‵ Session ∷ []) ∵
         says ! small $ nothing ! $ move ! (3 ∷ 0 ∷ []) $ join ! $ move ! (2 ∷ 0 ∷ []) $ join ! $ frame ! $
-        nothing ! $ move ! (2 ∷ 0 ∷ []) $ fjoin ! $ owned ! u32 (Is u32) (uint-makes 𝓤 H A W w32) (e .size) _ (refl, fits) $ fjoin ! $ move ! (1 ∷ 0 ∷ []) $ fjoin ! $ done !
+        nothing ! $ move ! (2 ∷ 0 ∷ []) $ fjoin ! $ owned ! u32 (Is u32) (uint-makes 𝓤 H A W w32) (e i .size) _ (refl, fits) $ fjoin ! $ move ! (1 ∷ 0 ∷ []) $ fjoin ! $ done !
 
     -- of what `is_of` ensures, the clause alone
-    said : (r : Bool) → ent 𝓤 (ensured 𝓤 H A is.ended (is.clauses 𝓤 H A mem run) κs (room, (e .size, (t, tt))) tt r) (fact 𝓤 (r ≡ same (take (e .size) (e .room)) (t .now)))
-    said r = exE 𝓤 _ (λ ws. snd∗ 𝓤 (sem 𝓤 H A (lasts is.ended κs (room, (e .size, (t, tt))) ws)) (fact 𝓤 (r ≡ same (take (e .size) (e .room)) (t .now))))
+    said : (r : Bool) → ent 𝓤 (ensured 𝓤 H A is.ended (is.clauses 𝓤 H A mem run) κs (room, (e i .size, (t, tt))) tt r) (fact 𝓤 (r ≡ same (take (e i .size) (e i .room)) (t .now)))
+    said r = exE 𝓤 _ (λ ws. snd∗ 𝓤 (sem 𝓤 H A (lasts is.ended κs (room, (e i .size, (t, tt))) ws)) (fact 𝓤 (r ≡ same (take (e i .size) (e i .room)) (t .now))))
 
   -- the turns of the loop: none of the entries before i is of the Session-Id
   pub record Turn : Type 0 where
@@ -236,7 +237,7 @@ module _ {M : Type 1} (𝓤 : URA M) (H : Heap 𝓤) (A : Atoms 𝓤) (W : Given
         elem-out ! T.the-row (Is T.the-row) (shows 𝓤 H A T.the-row) (LL.vals T.the-type T′.the-laws) (LL.tells T.the-type T′.the-laws) q″ ys (u .i) none b o in-list (λ g.
         -- [the entry; what it owns; the others; what shuts; the fractured borrow; the list; _11; …; κ′'s token; the Session-Id]
         assigns ! (of-opd ! (load ! (from ! (hop ! (look ! 18 refl) (fld ! refl (stop !)))) (look-in ! 0 (sub ! 2 refl (whole !))))) (from ! (stop !)) (init ! 6 refl (tt, record { fits = size-fits })) $
-        elem-back ! T.the-row q″ ys (u .i) none (LL.vals T.the-type T′.the-laws (e (u .i) 0)) b o in-list $ shuts-slice ! tt T.the-row q″ ys b o $ move ! (1 ∷ []) $ drop ! $
+        elem-back ! T.the-row q″ ys (u .i) none (LL.vals T.the-type T′.the-laws (e (u .i))) b o in-list $ shuts-slice ! tt T.the-row q″ ys b o $ move ! (1 ∷ []) $ drop ! $
         -- the room is lent at the list's own lifetime
         move ! (1 ∷ []) $ use1 W (‵ Screens ⊛ ‵ Screens) (shr-slice-copy 𝓤 H A W (named 0) κ T.the-row .twice (x .0) (at .0)) $ split ! $ move ! (0 ∷ 2 ∷ []) $
         use2 W (later (some (λ (r : GName). ‵ (Lent 𝓤 H A W κ q b o γ ys (u .i) r) ⊛ ‵ (flft κ q)))) (room-lent 𝓤 H A W κ q b o γ ys (u .i) in-list) $ await ! tt $ pick ! (λ r. split ! $
@@ -244,7 +245,7 @@ module _ {M : Type 1} (𝓤 : URA M) (H : Heap 𝓤) (A : Atoms 𝓤) (W : Given
         -- [the room; κ's token; κ′'s token; the Session-Id, twice; the list; _11; …]
         move ! (2 ∷ 3 ∷ []) $ join ! $ move ! (1 ∷ 2 ∷ 0 ∷ []) $ use3 W (raw (IsOf 𝓤 H A mem run .pre (to (u .i) r))) (asked (u .i) r size-fits size-most) $
         calls-at ! fm (IsOf 𝓤 H A mem run) known (to (u .i) r) (and-then ! (load ! (from ! (stop !)) (look ! 5 refl)) (and-then ! (load ! (from ! (stop !)) (look ! 3 refl)) (and-then ! (load ! (from ! (stop !)) (look ! 19 refl)) (no-more !)))) (λ v.
-        use1 W (later (some (λ (y : Bool). ((‵ (flft κ q) ⊛ ‵ (flft κ′ q′) ⊛ ‵ ftrue) ⊛ ‵ (bool .own y (v ∷ []))) ⊛ raw (ensured 𝓤 H A is.ended (is.clauses 𝓤 H A mem run) κs (room (u .i) r, (e (u .i) r .size, (t, tt))) tt y)))) (id⊢ 𝓤 _) $ await ! tt $ pick ! (λ y.
+        use1 W (later (some (λ (y : Bool). ((‵ (flft κ q) ⊛ ‵ (flft κ′ q′) ⊛ ‵ ftrue) ⊛ ‵ (bool .own y (v ∷ []))) ⊛ raw (ensured 𝓤 H A is.ended (is.clauses 𝓤 H A mem run) κs (room (u .i) r, (e (u .i) .size, (t, tt))) tt y)))) (id⊢ 𝓤 _) $ await ! tt $ pick ! (λ y.
         split ! $ move ! (1 ∷ []) $ use1 W (raw (fact 𝓤 (y ≡ here))) (said (u .i) r y) $ heard ! (y ≡ here) (λ same. split ! $ move ! (1 ∷ []) $
         peeks ! bool (Is bool) (shows 𝓤 H A bool) y (v ∷ []) (λ shown. land ! (from ! (stop !)) (init ! 8 refl (bool-lawful 𝓤 H A W .typed y _ shown .0)) $
         rewrite ! 8 (λ (w : Val). ‵ (fat fullShare tyBool l₉ 0 w)) (ap only shown) refl $ drop ! $ split ! $ move ! (1 ∷ []) $ split ! $ move ! (1 ∷ []) $ drop ! $
@@ -263,20 +264,20 @@ module _ {M : Type 1} (𝓤 : URA M) (H : Heap 𝓤) (A : Atoms 𝓤) (W : Given
         in-list : u .i < length ys
         in-list = lt-of-lt-of-le l within
 
-        size-most : getD ys (u .i) none .size ≤ 128
+        size-most : e (u .i) .size ≤ 128
         size-most = size-at ys n (u .i) within l sizes
 
-        size-fits : getD ys (u .i) none .size < 2 ^ 32
+        size-fits : e (u .i) .size < 2 ^ 32
         size-fits = lt-of-le-of-lt size-most (lit< tt)
 
         next-fits : u .i + 1 < 2 ^ 64
         next-fits = omega (arith, l, small)
 
         here : Bool
-        here = same (take (getD ys (u .i) none .size) (getD ys (u .i) none .room)) (t .now)
+        here = same (take (e (u .i) .size) (e (u .i) .room)) (t .now)
 
-        is-here : (y : Bool) → y ≡ here → isOf (t .now) (getD ys (u .i) none) ≡ y
-        is-here y same = is-it (t .now) (getD ys (u .i) none) ∙ sym same
+        is-here : (y : Bool) → y ≡ here → isOf (t .now) (e (u .i)) ≡ y
+        is-here y same = is-it (t .now) (e (u .i)) ∙ sym same
 
         there : (y : Bool) → y ≡ here → Holds y → true ≡ onBoard (take n ys) (t .now)
         there y same h = sym (on-board (t .now) (take n ys) (u .i) none (rw (length-take-le n ys within) l) (ap (isOf (t .now)) (getD-take n ys (u .i) none l) ∙ is-here y same ∙ holds y h))
