@@ -1,5 +1,7 @@
 // The disconnection: asking a gateway to end an access that was cut, and recognizing its answer. It stands above the server and knows
 // of it only how its notice of a cut is laid out.
+#![tactic(auto)]
+
 ghost use Rattle.std.specs.Prelude.{◌≡◌, false, ◌||◌, List, ℕ, ◌+◌, ◌≤◌, ◌<◌, eqb, length, drop};
 ghost use Rattle.octets.specs.Choice.{within};
 ghost use Rattle.octets.specs.Texts.{put};
@@ -14,7 +16,7 @@ ghost use Rattle.abort.specs.Code.{cut_of, saying, leaves, Short, Sent, passed_l
 pub const ROOM_LEAST: usize = 1024;
 
 // A number, 0 where the request was written, and its length.
-#[derive(Drop)]
+#[derive(Clone, Copy)]
 pub struct Written {
     pub number: u32,
     pub length: usize,

@@ -1,4 +1,6 @@
 // Writing the answer to a request straight into the caller's room.
+#![tactic(auto)]
+
 ghost use Rattle.std.specs.Prelude.{◌≡◌, true, ◌+◌, ◌-◌, ◌*◌, ◌≤◌, ◌<◌, length, drop};
 ghost use Rattle.octets.specs.Texts.{part, put};
 ghost use Rattle.octets.specs.Numbers.{in32};

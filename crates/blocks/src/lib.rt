@@ -1,4 +1,6 @@
 // The form of a row, block by block: block 0, its entries, a place in use, and the sums of a block.
+#![tactic(auto)]
+
 ghost use Rattle.std.specs.Prelude.{◌≡◌, true, false, not, ◌&&◌, [], ◌+◌, ◌<◌, ◌≤◌, length, get_or, drop, eqb, leb};
 ghost use Rattle.octets.specs.Choice.{pick, within};
 ghost use Rattle.octets.specs.Texts.{part, all_zero};

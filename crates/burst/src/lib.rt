@@ -1,4 +1,6 @@
 // A burst: messages back to back in one call, each with its word from the WAG; answers, notices and results are written the same way.
+#![tactic(auto)]
+
 ghost use Rattle.std.specs.Prelude.{◌≡◌, ◌&&◌, List, map, ℕ, ◌+◌, ◌≤◌, ◌<◌, leb, length, drop, set};
 ghost use Rattle.octets.specs.Choice.{pick};
 ghost use Rattle.message.specs.TheRooms.{answer_least};
@@ -14,7 +16,7 @@ use decision::Outcome;
 // What a burst returns: the number, 0 on success; how many messages were taken and how many bytes they have; how many bytes of answers and how many
 // notices were written.
 #[repr(C)]
-#[derive(Drop)]
+#[derive(Clone, Copy)]
 pub struct Taken {
     pub number: u32,
     pub messages: usize,

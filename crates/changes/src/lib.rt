@@ -1,4 +1,6 @@
 // The changes to a sound row.
+#![tactic(auto)]
+
 ghost use Rattle.std.specs.Prelude.{◌≡◌, true, [], ◌+◌, ◌-◌, ◌*◌, ◌/◌, ◌^◌, ◌≤◌, ◌<◌, length, take, set};
 ghost use Rattle.octets.specs.Texts.{part};
 ghost use Rattle.octets.specs.Lists.{is_on};

@@ -1,4 +1,6 @@
 // Why a row is unsound: the first clause that it breaks, in the order of document 01.
+#![tactic(auto)]
+
 ghost use Rattle.std.specs.Prelude.{◌≡◌, true, ◌&&◌, ◌≤◌, length};
 ghost use Rattle.octets.specs.Choice.{within};
 ghost use Rattle.octets.specs.Lists.{every};
@@ -7,7 +9,7 @@ ghost use Rattle.table.specs.Soundness.{is_row, place_form, sums_agree, place_su
 ghost use Rattle.clauses.specs.Clauses.{clause_number, broken_form, broken_contents, broken_clause};
 
 // The clauses in their order, and that none is broken.
-#[derive(Drop)]
+#[derive(Clone, Copy)]
 pub enum Clause {
     NoClause,
     HeadForm,

@@ -1,4 +1,6 @@
 // A whole call.
+#![tactic(auto)]
+
 mod handling;
 
 use effects::Cut;
@@ -6,7 +8,7 @@ pub use handling::{call_number, handle, most_policies, name_fits, notice_length,
 use message::{Kind, Span};
 
 // Where the texts stand that a request brings for its change; empty where it brings none.
-#[derive(Drop)]
+#[derive(Clone, Copy)]
 pub struct Texts {
     pub session: Span,
     pub host: Span,
@@ -18,7 +20,7 @@ pub struct Texts {
 
 // What is decided on a message that gets an answer: the code and its kind, the user that a success names, the place of a new access, else 0,
 // and the cut.
-#[derive(Drop)]
+#[derive(Clone, Copy)]
 pub struct Decided {
     pub code: u32,
     pub kind: Kind,
@@ -28,7 +30,7 @@ pub struct Decided {
 }
 
 // What a call returns: the code and its kind, the length of the answer, the place of a new access, else 0, and the cut.
-#[derive(Drop)]
+#[derive(Clone, Copy)]
 pub struct Outcome {
     pub code: u32,
     pub kind: Kind,

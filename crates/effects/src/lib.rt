@@ -1,4 +1,6 @@
 // Carrying out a plan on row i of the table: the cut notice, the row, and what the call gives back.
+#![tactic(auto)]
+
 ghost use Rattle.std.specs.Prelude.{◌≡◌, true, ℕ, ◌+◌, ◌*◌, ◌≤◌, length};
 ghost use Rattle.octets.specs.Lists.{is_on};
 ghost use Rattle.octets.specs.Texts.{filled, put};
@@ -15,14 +17,14 @@ ghost use Rattle.effects.specs.Carrying.{brought_in, cut_for, done_for};
 use plans::Plan;
 
 // Whether a cut was made, with the lengths of the cut access's Session-Id and of its gateway's host and realm.
-#[derive(Drop)]
+#[derive(Clone, Copy)]
 pub enum Cut {
     NoCut,
     Lengths(usize, usize, usize),
 }
 
 // What carrying out a plan gives back: the place of a new access, else 0, and the cut.
-#[derive(Drop)]
+#[derive(Clone, Copy)]
 pub struct Done {
     pub place: usize,
     pub cut: Cut,

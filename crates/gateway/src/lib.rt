@@ -1,5 +1,7 @@
 // Re-authorization at the gateway: a Re-Auth-Request is answered for one access that is lent, and where it is good the AA-Request for that
 // access is written beside the answer.
+#![tactic(auto)]
+
 ghost use Rattle.std.specs.Prelude.{◌≡◌, ◌&&◌, ◌+◌, ◌≤◌, ◌<◌, leb, length};
 ghost use Rattle.octets.specs.Choice.{within};
 ghost use Rattle.octets.specs.Texts.{put};
@@ -16,7 +18,7 @@ ghost use Rattle.gateway.specs.Code.{Answerable, FieldsOf, HeardOf, Replied, Sen
 use message::{Both, Got, Kind};
 
 // A code and its kind, or the number of a call that gets no answer; the length of the answer, and of the AA-Request, 0 where there is none.
-#[derive(Drop)]
+#[derive(Clone, Copy)]
 pub struct Reauthorized {
     pub code: u32,
     pub kind: Kind,
@@ -158,7 +160,7 @@ fn proxies_seen(m: &[u8], index: &[usize]) -> bool
 }
 
 // A whole message: its fields, and whether the answer has a Proxy-Info to copy.
-#[derive(Drop)]
+#[derive(Clone, Copy)]
 pub struct Heard {
     pub fields: Both,
     pub proxies: bool,

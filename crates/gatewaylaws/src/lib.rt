@@ -1,1 +1,2 @@
 // What holds of re-authorization at the gateway: stated in specs/ and proved in proofs/. There is no code here.
+#![tactic(auto)]

@@ -1,1 +1,2 @@
 // What one operator is told depends on nothing of the others: stated in specs/ and proved in proofs/. There is no code here.
+#![tactic(auto)]

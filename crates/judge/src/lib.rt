@@ -1,5 +1,7 @@
 // Judging the old server's answers (W10): what it did with a request is held against what ours does with it. It stands above the server and knows of it only
 // what a call promises.
+#![tactic(auto)]
+
 ghost use Rattle.std.specs.Prelude.{◌≡◌, Bool, List, ℕ, ◌*◌, ◌≤◌, length};
 ghost use Rattle.message.specs.TheRooms.{notice_length};
 ghost use Rattle.decision.specs.Outcomes.{call_of, cut_made};

@@ -1,1 +1,2 @@
 // What holds of judging is stated in specs/ and proved in proofs/. There is no code here.
+#![tactic(auto)]

@@ -1,4 +1,6 @@
 // Another server's answer held against ours (W10): whether it is the same answer, and where it first differs. It knows no table.
+#![tactic(auto)]
+
 ghost use Rattle.std.specs.Prelude.{◌≡◌, true, false, ◌&&◌, ◌||◌, not, List, ℕ, ◌+◌, ◌-◌, ◌≤◌, ◌<◌, eqb, leb, ltb, length, get_or, take, drop};
 ghost use Rattle.octets.specs.Choice.{pick};
 ghost use Rattle.octets.specs.Texts.{same, zeros};
@@ -7,7 +9,7 @@ ghost use Rattle.likeness.specs.TheSameAnswer.{nothing, failed_avp, is_group, fa
 ghost use Rattle.likeness.specs.Code.{said, avp_at, avps_from, named_from, next_at, Stands, mark_count, mark_of, Kept, Marked, Behind, Noted};
 
 // A number, 0 where there is nothing to tell; with 32 the kind of the mismatch, and the byte at which it is.
-#[derive(Drop)]
+#[derive(Clone, Copy)]
 pub struct Found {
     pub number: u32,
     pub mismatch: u32,

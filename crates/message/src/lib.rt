@@ -1,4 +1,6 @@
 // Reading a request over the caller's bytes, up to its fields: nothing is copied, a text is a part of the message.
+#![tactic(auto)]
+
 ghost use Rattle.std.specs.Prelude.{◌≡◌, Bool, true, false, ◌&&◌, ◌||◌, not, ℕ, ◌+◌, ◌*◌, ◌≤◌, ◌<◌, eqb, length, get_or, drop};
 ghost use Rattle.octets.specs.Texts.{zeros};
 ghost use Rattle.octets.specs.Numbers.{net24, net32};
@@ -8,7 +10,7 @@ ghost use Rattle.message.specs.Positions.{slots, not_known, routes_slot, slot_of
 ghost use Rattle.message.specs.Spans.{bytes_field, code_of, Reads, RouteFrom, how_many, is_fit, routes_code, RoutesRead};
 
 // Which kind of code a call is answered with.
-#[derive(Drop)]
+#[derive(Clone, Copy)]
 pub enum Kind {
     NoAnswer,
     Plain,
@@ -143,7 +145,7 @@ pub fn header_code(m: &[u8]) -> u32
 
 // An AVP that passes the four tests: the slot of its name, SLOTS where it is known and nothing asks for it, NOT_KNOWN where it is not
 // known; its length and whether M is set; and where the next one starts.
-#[derive(Drop)]
+#[derive(Clone, Copy)]
 pub struct Spot {
     pub slot: usize,
     pub length: usize,
@@ -151,7 +153,7 @@ pub struct Spot {
     pub next: usize,
 }
 
-#[derive(Drop)]
+#[derive(Clone, Copy)]
 pub enum Head {
     One(Spot),
     Bad(u32),
@@ -310,14 +312,14 @@ pub fn gather(m: &[u8], index: &mut [usize]) -> u32
 // ONE FIELD
 
 // A part of the message.
-#[derive(Drop)]
+#[derive(Clone, Copy)]
 pub struct Span {
     pub at: usize,
     pub len: usize,
 }
 
 // What a field's reader answers.
-#[derive(Drop)]
+#[derive(Clone, Copy)]
 pub enum Got {
     Found(Span),
     Absent,
@@ -325,7 +327,7 @@ pub enum Got {
 }
 
 // What the reader of the policies answers: the first, the second and the third, with no bytes where there is none.
-#[derive(Drop)]
+#[derive(Clone, Copy)]
 pub enum Routes {
     Brought(Span, Span, Span),
     Missing,
@@ -408,7 +410,7 @@ pub fn refusal(g: Got) -> u32
 // THE POLICIES
 
 // A Routing-Policy: whether it is there, its value, and where the AVP behind it starts.
-#[derive(Drop)]
+#[derive(Clone, Copy)]
 pub struct Route {
     pub there: bool,
     pub span: Span,
@@ -587,14 +589,14 @@ pub fn routes_refusal(g: Routes) -> u32
 // WHAT THE LISTS GIVE
 
 // The first five fields, of both requests: Session-Id, Origin-Host and Origin-Realm, or the code of the first that fails.
-#[derive(Drop)]
+#[derive(Clone, Copy)]
 pub enum Both {
     Held(Span, Span, Span),
     Failed(u32),
 }
 
 // What is asked, by parts of the message; a second and a third policy that are not there have no bytes.
-#[derive(Drop)]
+#[derive(Clone, Copy)]
 pub enum Asked {
     Tunnel {
         session: Span,
@@ -616,14 +618,14 @@ pub enum Asked {
 }
 
 // A message as it is read: refused with a code, or the user and what is asked.
-#[derive(Drop)]
+#[derive(Clone, Copy)]
 pub enum Told {
     Refused(u32),
     Request(Span, Asked),
 }
 
 // A whole message: what it says, and whether the answer has a Proxy-Info to copy.
-#[derive(Drop)]
+#[derive(Clone, Copy)]
 pub struct Heard {
     pub told: Told,
     pub proxies: bool,

@@ -1,4 +1,6 @@
 // Moving a table to the other form, into a room of the caller's. The table itself is only read.
+#![tactic(auto)]
+
 ghost use Rattle.std.specs.Prelude.{◌≡◌, true, map, ◌+◌, ◌-◌, ◌*◌, ◌/◌, ◌%◌, ◌≤◌, length};
 ghost use Rattle.octets.specs.Lists.{every};
 ghost use Rattle.table.specs.Answers.{lent};

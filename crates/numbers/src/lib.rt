@@ -1,4 +1,6 @@
 // An outcome as its eight numbers, each of 32 bits: what C gets of a call, and what a burst writes for each of its messages.
+#![tactic(auto)]
+
 ghost use Rattle.std.specs.Prelude.{◌≡◌, ℕ, ◌<◌};
 ghost use Rattle.message.specs.Codes.{kind_of};
 ghost use Rattle.message.specs.Kinds.{code_from};
@@ -11,7 +13,7 @@ use message::Kind;
 
 // The numbers in C's order.
 #[repr(C)]
-#[derive(Drop)]
+#[derive(Clone, Copy)]
 pub struct Numbers {
     pub code: u32,
     pub kind: u32,

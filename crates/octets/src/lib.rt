@@ -1,4 +1,6 @@
 // Leaf functions on byte slices: compare, write, clear, and numbers in network order. They know nothing of Diameter.
+#![tactic(auto)]
+
 ghost use Rattle.std.specs.Prelude.{◌≡◌, ℕ, ◌+◌, ◌*◌, ◌≤◌, ◌<◌, length};
 ghost use Rattle.octets.specs.Texts.{zeros, same, all_zero, put};
 ghost use Rattle.octets.specs.Numbers.{net24, net32, low32, low64, Bytes4};

@@ -1,11 +1,13 @@
 // Deciding on a sound row: which refusal, or which change.
+#![tactic(auto)]
+
 mod finding;
 mod planning;
 
 pub use planning::{plan_policy, plan_termination, plan_tunnel};
 
 // What is to be done with a sound row: one of the refusals, or a change.
-#[derive(Drop)]
+#[derive(Clone, Copy)]
 pub enum Plan {
     NotSubscribed,
     Barred,

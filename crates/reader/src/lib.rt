@@ -1,5 +1,7 @@
 // The AVPs of a message one after another, by a reader that holds the message and a place in it. Its functions are thin: they make
 // one, or take it apart and hand slice and place on. Callers with a plain slice use `avp_at`.
+#![tactic(auto)]
+
 ghost use Rattle.std.specs.Prelude.{◌≡◌, ◌+◌, ◌≤◌, length, drop};
 ghost use Rattle.octets.specs.Numbers.{up4};
 ghost use Rattle.message.specs.ReadingAMessage.{known as isKnown, avp_length, avp_code, avp_of};
@@ -9,7 +11,7 @@ use message::Head;
 
 // An AVP that passes the four tests. Its vendor is 0 without V; its value and the next AVP are places of the message.
 // A request with one that has M and is not known is refused.
-#[derive(Drop)]
+#[derive(Clone, Copy)]
 pub struct Seen {
     pub code: u32,
     pub flags: u8,
@@ -21,7 +23,7 @@ pub struct Seen {
 }
 
 // The test that fails: fewer than 8 bytes left, a reserved flag bit, a length under the header's, an end past the message.
-#[derive(Drop)]
+#[derive(Clone, Copy)]
 pub enum Fault {
     Few,
     Bits,
@@ -29,7 +31,7 @@ pub enum Fault {
     Past,
 }
 
-#[derive(Drop)]
+#[derive(Clone, Copy)]
 pub enum Step {
     One(Seen),
     End,

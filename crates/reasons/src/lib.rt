@@ -1,4 +1,6 @@
 // Why a call is answered as it is: the first of the paper's checks that fails.
+#![tactic(auto)]
+
 ghost use Rattle.std.specs.Prelude.{◌≡◌, Bool, true, ◌||◌, not, List, [], ◌∷◌, ℕ, ◌/◌, ◌%◌, ◌≤◌, ◌<◌, eqb, length};
 ghost use Rattle.octets.specs.Lists.{every};
 ghost use Rattle.message.specs.ReadingAMessage.{Avp, Field, avp_code, avps, for265, for275, for_both, number_field, policy, routing_policy, termination, tested_as, texts_field, tunnel, walk_code};
@@ -20,7 +22,7 @@ use reader::{Fault, Step};
 use table::RowFound;
 
 // The check that fails, or that none does.
-#[derive(Drop)]
+#[derive(Clone, Copy)]
 pub enum Reason {
     Passes,
     // the header
@@ -57,7 +59,7 @@ pub enum Reason {
 }
 
 // A call that gets no answer has a number; any other is answered for a reason.
-#[derive(Drop)]
+#[derive(Clone, Copy)]
 pub enum Why {
     Unanswered(u32),
     Answered(Reason),

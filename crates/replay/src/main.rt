@@ -2,6 +2,8 @@
 // It says which calls differ, at most twenty of them, and then how many. A script that is damaged gets one line.
 // `replay FILE large` has room for the longest table of a script, 8,921,664 bytes, on a stack of 16 MB (`ulimit -s 16384`); without the word tables
 // have at most 4,723,264, and the usual stack of 8 MB will do.
+#![tactic(auto)]
+
 use libc::STDOUT_FILENO;
 use replay_run::{Damage, Progress, Turn};
 

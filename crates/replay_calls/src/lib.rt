@@ -1,4 +1,6 @@
 // A call that a record asks for, made on the proved server. `r` is the record's body, `table` the table as long as it is now.
+#![tactic(auto)]
+
 ghost use Rattle.std.specs.Prelude.{◌≡◌, ◌+◌, ◌*◌, ◌≤◌, length};
 
 use abort::Written;

@@ -1,4 +1,6 @@
 // A call of the gateway that a record asks for, made on the proved gateway. `r` is the record's body; the table is neither read nor written.
+#![tactic(auto)]
+
 ghost use Rattle.std.specs.Prelude.{◌+◌, ◌≤◌, length};
 
 use gateway::Reauthorized;

@@ -1,4 +1,6 @@
 // A judgement that a record asks for (W10), made by the proved judge. `r` is the record's body; the table is the row before, and becomes the row that is due.
+#![tactic(auto)]
+
 ghost use Rattle.std.specs.Prelude.{◌+◌, ◌≤◌, length};
 
 use likeness::Found;

@@ -1,5 +1,7 @@
 // The format of the independent program's scripts (oracle/README.md), as far as it is computed: digests, the check of a record,
 // the bytes that a room is filled with, and where two texts part.
+#![tactic(auto)]
+
 ghost use Rattle.std.specs.Prelude.{◌≡◌, ℕ, ◌-◌, ◌<◌, ◌≤◌, eqb, length, take, drop, get_or};
 ghost use Rattle.octets.specs.Numbers.{net32};
 ghost use Rattle.replay_script.specs.TheScript.{digest_of, digest_step, room_byte, as_filled, unlike};

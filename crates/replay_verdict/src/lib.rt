@@ -1,4 +1,6 @@
 // What a call left, against what its record expects.
+#![tactic(auto)]
+
 ghost use Rattle.std.specs.Prelude.{◌&&◌, ◌≡◌, ◌+◌, ◌*◌, ◌≤◌, ◌<◌, eqb, length};
 ghost use Rattle.octets.specs.Numbers.{net32};
 ghost use Rattle.replay_verdict.specs.Verdicts.{agreed, answer_numbers, as_expected, changes_from, cleared_as, cut_numbers, digests_as, numbers_at, results_at, room_as, stands_at, table_as, text_end};

@@ -1,5 +1,7 @@
 // The year by hour: results counted by hour into a report that the caller lends, reports added, and the year's rate of cuts to accesses opened.
 // A report is 96 numbers, four for each hour: opened, cuts, terminations, others. A result is six: hour, the request's kind, code, kind of code, place, cut.
+#![tactic(auto)]
+
 ghost use Rattle.std.specs.Prelude.{◌≡◌, Bool, true, List, [], ◌∷◌, ℕ, ◌+◌, ◌*◌, ◌≤◌, ◌<◌, length, get_or};
 ghost use Rattle.octets.specs.Choice.{pick};
 ghost use Rattle.octets.specs.Lists.{every};
@@ -99,7 +101,7 @@ fn count_of(told: &[[u32; 6]], k: usize) -> u64
 }
 
 // A sum, unless it passes 64 bits.
-#[derive(Drop)]
+#[derive(Clone, Copy)]
 enum Year {
     Sum(u64),
     Passed,
@@ -279,7 +281,7 @@ fn divisor_of(cuts: u64, opened: u64) -> u64
 
 // A number, and cuts to accesses opened.
 #[repr(C)]
-#[derive(Drop)]
+#[derive(Clone, Copy)]
 pub struct Ratio {
     pub number: u32,
     pub cuts: u64,

@@ -1,4 +1,6 @@
 // Both lists in order, and a message as a whole: the request with its fields, or the code of the first test that fails.
+#![tactic(auto)]
+
 ghost use Rattle.std.specs.Prelude.{◌≡◌, false, ℕ, ◌≤◌, length};
 ghost use Rattle.message.specs.ReadingAMessage.{avps, field_code, header_code, origin_host, origin_realm, request_of, routing_policy, session_id, starts_with, texts_field, user_name, walk_code};
 ghost use Rattle.message.specs.Positions.{Gathered};

@@ -1,6 +1,8 @@
 // The screen board: a list of screens that the caller lends, fed with requests, results and notices, and the number of connected screens.
 // The list is a slice of structs. The borrow checker covers no function that holds one, so the five that do (`stands_among`, `survey`, `connected`, `tell` and
 // `feed`) are thin, with proofs by hand; what is decided of a screen is decided by the others, which take it apart.
+#![tactic(auto)]
+
 ghost use Rattle.std.specs.Prelude.{◌≡◌, true, ◌+◌, ◌≤◌, ◌<◌, length, get_or, set, take, eqb};
 ghost use Rattle.octets.specs.Choice.{pick, within};
 ghost use Rattle.octets.specs.Lists.{every};
@@ -12,7 +14,7 @@ ghost use Rattle.screen.specs.Code.{none, entry_of, state_said, event_said, move
 
 // An entry of the list, as the struct of C has it: the state and the place by their numbers, the length of the Session-Id, and the room that it stands in.
 #[repr(C)]
-#[derive(Drop)]
+#[derive(Clone, Copy)]
 pub struct Screen {
     pub state: u32,
     pub place: u32,
@@ -23,7 +25,7 @@ pub struct Screen {
 // THE TABLE
 
 // What a screen shows.
-#[derive(Drop)]
+#[derive(Clone, Copy)]
 enum State {
     Off,
     Asked,
@@ -45,7 +47,7 @@ fn state_of(number: u32, place: u32) -> State
 }
 
 // What a screen is told.
-#[derive(Drop)]
+#[derive(Clone, Copy)]
 pub enum Event {
     Nothing,
     Asks,
@@ -101,7 +103,7 @@ pub fn result_says(which: u32, code: u32, kind: u32, place: u32) -> Event
 }
 
 // What becomes of a screen.
-#[derive(Drop)]
+#[derive(Clone, Copy)]
 enum Move {
     Stays,
     To(State),
@@ -171,7 +173,7 @@ fn place_of(state: State) -> u32
 }
 
 // A state and a place as an entry has them.
-#[derive(Drop)]
+#[derive(Clone, Copy)]
 struct Shown {
     state: u32,
     place: u32,
@@ -259,7 +261,7 @@ fn stands_among(screens: &[Screen], n: usize, session: &[u8]) -> bool
 // ONE LOOK AT THE LIST
 
 // What it tells: the number 25, or 0; the entry that has the Session-Id, 64 if none has; how many screens are connected.
-#[derive(Drop)]
+#[derive(Clone, Copy)]
 struct Seen {
     number: u32,
     at: usize,
@@ -341,7 +343,7 @@ fn survey(screens: &[Screen], session: &[u8]) -> Seen
 
 // A number, and how many screens are connected.
 #[repr(C)]
-#[derive(Drop)]
+#[derive(Clone, Copy)]
 pub struct Count {
     pub number: u32,
     pub screens: u32,

@@ -1,5 +1,7 @@
 // The three set-up operations: clear a table, enter a subscriber, add a W-APN. A number other than 0 leaves the
 // table as it was.
+#![tactic(auto)]
+
 ghost use Rattle.std.specs.Prelude.{◌≡◌, not, true, ◌&&◌, leb, ◌+◌, ◌-◌, ◌*◌, ◌≤◌, ◌<◌, length};
 ghost use Rattle.octets.specs.Choice.{within};
 ghost use Rattle.octets.specs.Lists.{every, sum_of};

@@ -1,4 +1,6 @@
 // When a row is sound: its blocks have their form, its order line is exact, and its accesses may be.
+#![tactic(auto)]
+
 ghost use Rattle.std.specs.Prelude.{◌≡◌, true, false, not, [], ◌+◌, ◌-◌, ◌/◌, ◌%◌, ◌^◌, ◌<◌, ◌≤◌, length, get_or, drop, eqb};
 ghost use Rattle.octets.specs.Texts.{same};
 ghost use Rattle.table.specs.TheTable.{block_length, form_of, head, order_line, places, read_row};

@@ -1,4 +1,6 @@
 // The rows of the table: their sums, and how a subscriber's is found.
+#![tactic(auto)]
+
 ghost use Rattle.std.specs.Prelude.{◌≡◌, false, [], ◌∷◌, ℕ, ◌+◌, ◌*◌, ◌/◌, ◌%◌, ◌<◌, ◌≤◌, length, take};
 ghost use Rattle.octets.specs.Numbers.{low64};
 ghost use Rattle.octets.specs.Texts.{all_zero};
@@ -84,14 +86,14 @@ pub fn row_length(form: usize) -> usize
 }
 
 // The two sums of a block, each a remainder modulo 255.
-#[derive(Drop)]
+#[derive(Clone, Copy)]
 pub struct Sums {
     pub first: u16,
     pub second: u16,
 }
 
 // The plain sums of a column of 16 bytes: its bytes, and each byte as often as there are bytes behind it.
-#[derive(Drop)]
+#[derive(Clone, Copy)]
 struct Plain {
     first: u16,
     before: u16,
@@ -196,7 +198,7 @@ pub fn number_for(t: &[u8], form: u32, op: u32) -> u32
 }
 
 // The first row that passes a test, counted from 0.
-#[derive(Drop)]
+#[derive(Clone, Copy)]
 pub enum RowFound {
     At(usize),
     Nothing,

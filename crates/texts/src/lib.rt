@@ -1,5 +1,7 @@
 // Copying texts in words. A word is read whole into an array of its own before any byte of it is written: the compiler, which does
 // not know that two slices stand apart, can then move it in one piece. The last word overlaps the one before, so that no bytes are left.
+#![tactic(auto)]
+
 ghost use Rattle.std.specs.Prelude.{◌≡◌, ◌+◌, ◌≤◌, ◌<◌, length};
 ghost use Rattle.octets.specs.Texts.{part, put};
 

@@ -1,5 +1,7 @@
 // The command that makes a request to disconnect of each notice: an Abort-Session-Request to the gateway whose tunnel was cut. The notices are those of a
 // table of form 2, which have the gateway's realm. They are known to be whole before anything is written.
+#![tactic(auto)]
+
 use abort::Written;
 use tool_notice_line::Lengths;
 use tool_operator::Number;

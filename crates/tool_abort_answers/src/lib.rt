@@ -1,5 +1,7 @@
 // The command that says which answers belong to the requests to disconnect that were sent, and which requests have none. Answers may come in any order:
 // one is held against every request that has its identifiers.
+#![tactic(auto)]
+
 ghost use Rattle.std.specs.Prelude.{◌≤◌};
 ghost use Rattle.message.specs.CallsThatGetNoAnswer.{message_most};
 

@@ -1,4 +1,6 @@
 // An AVP in words, or why there is none.
+#![tactic(auto)]
+
 use reader::{Fault, Seen};
 use tool_avps::Form;
 use tool_words::{number, say, text};

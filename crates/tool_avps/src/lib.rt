@@ -1,4 +1,6 @@
 // The AVPs that have a name here: how they are called, and what their values are. A name belongs to code and vendor together.
+#![tactic(auto)]
+
 use tool_words::{number, say};
 
 // What a value is.

@@ -1,4 +1,6 @@
 // The year by hour as people look at it: a bar for each hour in the terminal, and a picture for a browser, the cuts beside the openings.
+#![tactic(auto)]
+
 use tool_words::{number, say};
 
 // SCALE

@@ -1,4 +1,6 @@
 // The tool's board: the messages of a file put to the server on a table that stays as it is, and what each of them tells the screens of another file.
+#![tactic(auto)]
+
 use tool_operator::Number;
 use tool_screens::Entry;
 use tool_streams::{Source, Way};

@@ -1,5 +1,7 @@
 // The requests of the worked cases, built in a room, and what each asks in words. `what` is o for open, v for open from a visited network,
 // t for terminate, u for open for a user whom nobody entered, l for a long Session-Id, m for a long message, b for a bare request.
+#![tactic(auto)]
+
 ghost use Rattle.std.specs.Prelude.{◌≤◌, length};
 
 use tool_requests::{ending, lengthen, opening, put_header, visiting};

@@ -1,5 +1,7 @@
 // The worked cases of document 01 on a table of one row, step by step: what was asked, what the server answered, and the order line after it.
 // In case 7 "Board" answers as "board" does: labels are compared without regard to case.
+#![tactic(auto)]
+
 use tool_words::{number, octet, say};
 
 // A step is three signs: what is done, the Session-Id, and the first letter of the label.

@@ -1,4 +1,6 @@
 // The command that says what messages a file has, as far as it can be followed, or what notices.
+#![tactic(auto)]
+
 use reader::Step;
 use tool_operator::Number;
 use tool_streams::{Source, Way};

@@ -1,4 +1,6 @@
 // Files with a line for each message: the code that is expected, or what the gateway says.
+#![tactic(auto)]
+
 use decision::Outcome;
 use message::Kind;
 use tool_files::Said;

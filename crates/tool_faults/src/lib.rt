@@ -1,4 +1,6 @@
 // Where a row is unsound: the first block, entry or place at which the clause fails, in words; and the row that hides another.
+#![tactic(auto)]
+
 ghost use Rattle.std.specs.Prelude.{◌≡◌, true, ◌≤◌, length};
 ghost use Rattle.table.specs.Soundness.{is_row};
 ghost use Rattle.table.specs.TheTable.{block_length};

@@ -1,4 +1,6 @@
 // What a message that was handled tells a board of screens: its request, its result and the notice of its cut, in turn.
+#![tactic(auto)]
+
 use decision::Outcome;
 use effects::Cut;
 use message::{Asked, Kind, Span, Told};

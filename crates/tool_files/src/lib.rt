@@ -1,4 +1,6 @@
 // Lines, the words of the command line as numbers, files as they are opened, and the one line that a failure gets.
+#![tactic(auto)]
+
 use libc::{STDERR_FILENO, STDOUT_FILENO};
 
 // A program of Rattle has no exit status. So a failure is marked on descriptor 9, which the script that starts this program turns into one.

@@ -1,5 +1,7 @@
 // The form of a table: the word that says it, form=1 or form=2, and what the length of the file tells where it is not said; and a table read from its
 // file. A length that fits both forms is refused, since nothing in a table says which one it has.
+#![tactic(auto)]
+
 ghost use Rattle.std.specs.Prelude.{◌≤◌};
 ghost use Rattle.message.specs.TheRooms.{long_notice};
 ghost use Rattle.table.specs.TheTable.{most_rows};

@@ -1,6 +1,8 @@
 // The command that puts a file of messages to the server. The table is held from the start. All files that are read are followed to their end
 // before anything is written, so that one that can not be followed changes nothing; the table is replaced last, once every answer is written
 // and said and the board is drawn, and only if all codes are those that were expected.
+#![tactic(auto)]
+
 use tool_hold::Held;
 use tool_inputs::Inputs;
 use tool_operator::Number;

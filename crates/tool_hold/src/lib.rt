@@ -1,6 +1,8 @@
 // A table held for a change. A file beside it, TABLE.lock, keeps every other command away from it and says which process that is. The new
 // table is written to TABLE.new, which is made before anything else is done, with the owner and the mode of the table, and takes the table's
 // name once it is whole. Both are made only where no file has their names, so that no link is followed and nothing is written over.
+#![tactic(auto)]
+
 mod links;
 mod locks;
 

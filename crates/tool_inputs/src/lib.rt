@@ -1,4 +1,6 @@
 // The files that `handle` reads: the requests, those that have a line for each of them, and the screens of a board.
+#![tactic(auto)]
+
 mod following;
 
 pub use following::count;

@@ -1,5 +1,7 @@
 // The command that judges the old server's answers: each case of a file, a request with the answer and the notice of the old server and its row before and after, is held against what
 // ours does, and the first mismatch is said in words. All files are only read, and followed to their end before anything is said.
+#![tactic(auto)]
+
 use tool_judge_all::Desk;
 use tool_judge_words::how_many;
 use tool_operator::Number;

@@ -1,4 +1,6 @@
 // All cases of `judge`, one after another, on two tables that have a row for each of them.
+#![tactic(auto)]
+
 use tool_judge_cases::Way;
 
 // What is read beside the tables: the cases, and what the gateway says to each, -1 where one word says it for all; the form of the rows, and the operator.

@@ -1,4 +1,6 @@
 // The AVPs that a judgement is about: which of ours stands where one of theirs should, which is missing, which result was passed over, and where a walk ends.
+#![tactic(auto)]
+
 use reader::{Seen, Step};
 
 // NAMES. A message in its room has at most 1,024 AVPs.

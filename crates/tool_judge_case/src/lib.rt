@@ -1,4 +1,6 @@
 // One case of `judge`: judged by the library, and what came of it said.
+#![tactic(auto)]
+
 use likeness::Found;
 use tool_words::{number, say};
 

@@ -1,5 +1,7 @@
 // The file of cases that `judge` reads: three lines a case, in hex, with the request, the old server's answer and its notice, and - for an answer or a notice that there was none of.
 // Empty lines and those that begin with # are passed over.
+#![tactic(auto)]
+
 use tool_lines::Line;
 use tool_words::{number, say};
 

@@ -1,4 +1,6 @@
 // What a judgement says of an answer by its header alone: where that differs from ours, or that no answer is due.
+#![tactic(auto)]
+
 use tool_judge_words::end_line;
 use tool_words::{number, say};
 

@@ -1,4 +1,6 @@
 // What a judgement says of an answer that is not the same as ours: where it first differs, with both where that is short.
+#![tactic(auto)]
+
 use likeness::Found;
 use reader::{Fault, Seen, Step};
 use tool_judge_words::end_line;

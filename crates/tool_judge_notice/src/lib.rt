@@ -1,4 +1,6 @@
 // What a judgement says of a notice that is not the one due: where it first differs from ours, with the tunnels of both.
+#![tactic(auto)]
+
 use tool_judge_words::{end_line, how_many};
 use tool_words::{number, say};
 

@@ -1,4 +1,6 @@
 // What a judgement says of a row that is not the one due: where it first differs from ours, what stands there, and the order lines of both.
+#![tactic(auto)]
+
 use tool_judge_words::end_line;
 use tool_words::{number, say};
 

@@ -1,4 +1,6 @@
 // How many cases were accepted, and how many refused in which way: counted, and said at the end.
+#![tactic(auto)]
+
 use tool_judge_words::how_many;
 use tool_words::{number, say};
 

@@ -1,4 +1,6 @@
 // Words that every part of a judgement is said with: how many of a thing, and how a line ends.
+#![tactic(auto)]
+
 use tool_words::{number, say};
 
 // So many of a thing, which is called by what one of them is.

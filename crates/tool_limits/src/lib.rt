@@ -1,4 +1,6 @@
 // How much of a resource the system lets this process have.
+#![tactic(auto)]
+
 use libc::types::rlimit;
 
 // Nothing at all.

@@ -1,4 +1,6 @@
 // A file line by line, and the bytes that a line says in hex.
+#![tactic(auto)]
+
 ghost use Rattle.std.specs.Prelude.{◌≤◌, length};
 
 // What stands next: a line of so many bytes, put at the start of the room; nothing more; or a line that is longer than the room.

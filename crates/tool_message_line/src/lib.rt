@@ -1,4 +1,6 @@
 // The header of a message in words, and the first test that the message fails.
+#![tactic(auto)]
+
 ghost use Rattle.std.specs.Prelude.{◌≤◌, length};
 
 use message::Told;

@@ -1,4 +1,6 @@
 // The names that numbers have in the public documents and in document 01, said at `at`.
+#![tactic(auto)]
+
 use tool_words::say;
 
 // A Result-Code.

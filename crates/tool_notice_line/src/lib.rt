@@ -1,5 +1,7 @@
 // The tunnel that a notice names, in a line. A notice has the Session-Id of the tunnel in its first 128 bytes, the host of its gateway in the next 128
 // and, in form 2, the gateway's realm in 128 more, each with zeros behind it.
+#![tactic(auto)]
+
 ghost use Rattle.std.specs.Prelude.{◌≤◌};
 
 use tool_words::{say, text};

@@ -1,5 +1,7 @@
 // A file of cut notices as `handle` writes it, of 256 bytes each on a table of form 1 and of 384 on one of form 2: the form that the file's length
 // tells where it is not said, and the notices in words. A length that fits both forms is refused, since nothing in a notice says which one it has.
+#![tactic(auto)]
+
 use tool_words::{number, say};
 
 // THE FORM

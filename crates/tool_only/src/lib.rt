@@ -1,4 +1,6 @@
 // Whether a message is one of those that were asked for: by its first User-Name, as far as its AVPs can be followed.
+#![tactic(auto)]
+
 use reader::{Seen, Step};
 
 // Whether the value of an AVP is a text.

@@ -1,4 +1,6 @@
 // The words that say for which operator something is done, and how the rows are shared out: operator=N, and shares=A,B,..
+#![tactic(auto)]
+
 use tool_files::Said;
 
 // The last of all words has the number 14.

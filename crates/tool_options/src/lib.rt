@@ -1,5 +1,6 @@
 // The words behind the files of `handle`, each of a kind of its own and said at most once; `judge` takes some of them. What a word says is read from the command line
 // where it is used, so that only its number is passed around; 0 is the number of a word that is not there.
+#![tactic(auto)]
 
 // THE KINDS
 

@@ -1,4 +1,6 @@
 // What came of a message: the answer and the notice written, and the message's line said.
+#![tactic(auto)]
+
 use decision::Outcome;
 use reasons::Why;
 use tool_words::{number, say};

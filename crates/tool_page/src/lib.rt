@@ -1,4 +1,6 @@
 // Messages gathered from a file for one burst: back to back in a room, each with a slot for what goes with it.
+#![tactic(auto)]
+
 use reasons::{Reason, Why};
 use tool_streams::Source;
 

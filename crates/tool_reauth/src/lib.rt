@@ -1,5 +1,7 @@
 // The command that plays the gateway: each Re-Auth-Request of a file is answered for one access, and where it is good the AA-Request for that access is
 // written beside the answer, so that it can be put to the server. The words say the gateway's own names and the access.
+#![tactic(auto)]
+
 use gateway::Reauthorized;
 use message::Kind;
 use tool_operator::Number;

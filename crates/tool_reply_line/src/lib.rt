@@ -1,4 +1,6 @@
 // What a call did, in words: the code and its name, why it is no success, the place, who was cut; and the order line that it left.
+#![tactic(auto)]
+
 ghost use Rattle.std.specs.Prelude.{◌≡◌, true};
 ghost use Rattle.table.specs.Soundness.{is_row};
 

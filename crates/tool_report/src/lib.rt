@@ -1,4 +1,6 @@
 // The tool's commands on reports. A report is kept in a file of 768 bytes: its 96 numbers, eight bytes each, the lowest first, as C has them on x86-64.
+#![tactic(auto)]
+
 use decision::Outcome;
 use effects::Cut;
 use message::Kind;

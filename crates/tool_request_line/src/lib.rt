@@ -1,4 +1,6 @@
 // What a message asks, in words.
+#![tactic(auto)]
+
 ghost use Rattle.std.specs.Prelude.{◌≤◌};
 
 use message::{Asked, Span, Told};

@@ -1,4 +1,6 @@
 // Requests written into a lent room. An AVP for which there is no room is left out, so that nothing is written past the end.
+#![tactic(auto)]
+
 ghost use Rattle.std.specs.Prelude.{◌≡◌, ◌+◌, ◌≤◌, ◌<◌, length};
 
 // The byte of a number at its place: 0 the lowest.

@@ -1,4 +1,6 @@
 // A row of the table in words, a line at a time. Every function takes any row, of either form: what does not stand in it is left out.
+#![tactic(auto)]
+
 ghost use Rattle.std.specs.Prelude.{◌≡◌, true, ◌≤◌, length};
 ghost use Rattle.table.specs.Soundness.{is_row};
 ghost use Rattle.table.specs.TheTable.{block_length};

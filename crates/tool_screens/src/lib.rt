@@ -1,4 +1,6 @@
 // A board of screens for the tool: read from a file with a Session-Id a line, and said a line a screen. The tool's list has an entry of bytes for each screen.
+#![tactic(auto)]
+
 ghost use Rattle.std.specs.Prelude.{◌+◌, ◌≤◌};
 
 use screen::{Count, Event, Screen};

@@ -1,4 +1,6 @@
 // The messages of a file put to the server, in order, a burst at a time: each answer and each notice written, a line said, and the board fed, if there is one.
+#![tactic(auto)]
+
 use burst::Taken;
 use decision::Outcome;
 use effects::Cut;

@@ -1,4 +1,6 @@
 // The commands that set a table up. A file is changed only by an operation that succeeds.
+#![tactic(auto)]
+
 use tool_files::Said;
 use tool_hold::Held;
 use tool_operator::Number;

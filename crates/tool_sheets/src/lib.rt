@@ -1,4 +1,6 @@
 // The files that a command writes, as ANSWERS and NOTICES of `handle`: opened as they are, emptied only once they are known to be files of their own.
+#![tactic(auto)]
+
 use tool_hold::Held;
 use tool_inputs::Inputs;
 

@@ -1,4 +1,6 @@
 // The command that shows a table.
+#![tactic(auto)]
+
 ghost use Rattle.std.specs.Prelude.{◌≡◌, true, ◌≤◌, length};
 ghost use Rattle.table.specs.Soundness.{is_row};
 ghost use Rattle.table.specs.TheTable.{block_length};

@@ -1,4 +1,6 @@
 // What the system knows of an open file, as a value, and what is asked of it.
+#![tactic(auto)]
+
 use libc::types::{stat, timespec};
 
 fn never() -> timespec {

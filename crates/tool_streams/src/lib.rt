@@ -1,5 +1,7 @@
 // The messages of a file. They stand back to back, each cut out by the length in its own header; or one to a line, in hex, and then a message
 // may have any length up to that of the room.
+#![tactic(auto)]
+
 use tool_lines::Line;
 
 // An open file, and whether its messages are lines of hex.

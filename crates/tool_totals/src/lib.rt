@@ -1,4 +1,6 @@
 // What a file of messages came to, counted and said.
+#![tactic(auto)]
+
 use decision::Outcome;
 use effects::Cut;
 use message::Kind;

@@ -1,4 +1,6 @@
 // Why a request is refused, in words, said behind the code at `at`. A success has no reason, and nothing is said of it.
+#![tactic(auto)]
+
 use reasons::{Reason, Why};
 use tool_words::{number, say};
 

@@ -1,5 +1,6 @@
 // A line of words, made in a lent room before it is written: each function says one thing at `at` and returns where the next one goes.
 // What does not fit is left out.
+#![tactic(auto)]
 
 pub fn say(out: &mut [u8; 4096], at: usize, text: &[u8]) -> usize {
     if 4096 < at {

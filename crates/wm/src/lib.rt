@@ -1,4 +1,6 @@
 // The server for C: its operations under their C names (include/wm.h), and those of the disconnection, of the report and of the screen board.
+#![tactic(auto)]
+
 ghost use Rattle.std.specs.Prelude.{◌≡◌};
 ghost use Rattle.octets.specs.Choice.{pick};
 ghost use Rattle.table.specs.Answers.{lent};
@@ -91,7 +93,7 @@ pub extern "C" fn wm_handle(
 
 // What was written, in C's numbers.
 #[repr(C)]
-#[derive(Drop)]
+#[derive(Clone, Copy)]
 pub struct WmWritten {
     pub number: u32,
     pub length: u32,

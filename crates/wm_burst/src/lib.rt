@@ -1,5 +1,7 @@
 // A burst for C, under its C name (include/wm.h). It has a crate, and so an archive, of its own: in one archive with `wm_handle` there would be two calls of
 // `decision::handle`, and the compiler would put it in line at neither (docs/PERFORMANCE.md).
+#![tactic(auto)]
+
 ghost use Rattle.std.specs.Prelude.{◌≡◌, map};
 ghost use Rattle.table.specs.Answers.{lent};
 ghost use Rattle.burst.specs.TheBurst.{burst};

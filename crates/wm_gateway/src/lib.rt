@@ -1,5 +1,7 @@
 // The gateway's own side of re-authorization for C (include/wm.h). It has an archive to itself: beside `wm_handle` in one archive what both write answers with would have two
 // callers, and the compiler would no longer put it in line in the server.
+#![tactic(auto)]
+
 ghost use Rattle.std.specs.Prelude.{◌≡◌};
 ghost use Rattle.gateway.specs.TheGateway.{reauthorize};
 ghost use Rattle.gateway.specs.Code.{call_of};
@@ -7,7 +9,7 @@ ghost use Rattle.wm_gateway.specs.InC.{leaves_in_c};
 
 // What a Re-Auth-Request got, in C's numbers.
 #[repr(C)]
-#[derive(Drop)]
+#[derive(Clone, Copy)]
 pub struct WmReauthorized {
     pub code: u32,
     pub kind: u32,

@@ -1,5 +1,7 @@
 // Judging the old server's answers for C (include/wm.h). It has an archive to itself: beside `wm_handle` in one archive `decision::handle` would have two callers, and the compiler
 // would put it in line at neither.
+#![tactic(auto)]
+
 ghost use Rattle.std.specs.Prelude.{◌≡◌};
 ghost use Rattle.decision.specs.Outcomes.{call_of};
 ghost use Rattle.judge.specs.TheJudge.{judge};
@@ -8,7 +10,7 @@ ghost use Rattle.wm_judge.specs.InC.{leaves_in_c};
 
 // What is found, in C's numbers; `at` has the type of the lengths in which it is a place.
 #[repr(C)]
-#[derive(Drop)]
+#[derive(Clone, Copy)]
 pub struct WmJudged {
     pub number: u32,
     pub mismatch: u32,

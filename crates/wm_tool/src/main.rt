@@ -1,4 +1,6 @@
 // The tool: puts captured Diameter messages to the proved server and says what it answers, cuts and keeps. `help` lists its commands.
+#![tactic(auto)]
+
 mod example;
 mod help;
 
