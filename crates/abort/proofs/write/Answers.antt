@@ -1,0 +1,61 @@
+-- The number decides; with 0 the three texts lie inside the notice, and what is lent of it is what the definition takes.
+use mathlib.Core.Path.{◌≡◌, refl, sym, ◌∙◌}
+use native.Mathlib.Omega.{arith}
+use Rattle.abort.specs.TheDisconnection.{abort_number}
+use Rattle.abort.specs.Code.{cut_of}
+use Rattle.abort.proofs.Requests.{Allowed, allowed, short, says-lent, short-same, sent-same, write-refused, write-sent}
+use borrow.Author.Rules.{rules}
+use Rattle.abort.proofs.write.Goals as goal
+
+-- with number 0 all tests pass
+zero : (p : goal.Else-n-ne0)
+    → abort_number p.args.host.now p.args.realm.now (cut_of p.args.notice.now p.args.cut-session p.args.cut-host p.args.cut-realm) p.args.room.now ≡ 0
+zero p = sym (p.number-n.ensures p.args.room.now refl) ∙ p.if-n-ne0.false
+
+fits : (p : goal.Else-n-ne0)
+    → Allowed p.args.host.now p.args.realm.now (cut_of p.args.notice.now p.args.cut-session p.args.cut-host p.args.cut-realm) p.args.room.now
+fits p =
+    let given = p.args in
+    allowed given.host.now given.realm.now (cut_of given.notice.now given.cut-session given.cut-host given.cut-realm) given.room.now (zero p)
+
+pub returns-then-n-ne0 : goal.returns-then-n-ne0
+returns-then-n-ne0 c =
+    let given = c.args in
+    let number-was = c.number-n in
+    write-refused given.host.now given.realm.now (cut_of given.notice.now given.cut-session given.cut-host given.cut-realm) given.hop given.end
+    given.room.now number-was.result (number-was.ensures given.room.now refl) c.if-n-ne0.true
+
+pub returns : goal.returns
+returns c =
+    let given = c.args in
+    let cut = cut_of given.notice.now given.cut-session given.cut-host given.cut-realm in
+    let put-request-was = c.put_request-length in
+    write-sent given.host.now given.realm.now cut given.hop given.end given.room.now put-request-was.result
+    put-request-was.new.room (zero c.before.before.before.before.before.before.before)
+    (sent-same _ _ _ _ _ (says-lent given.host.now given.realm.now given.notice.now given.cut-session given.cut-host given.cut-realm given.hop given.end)
+    put-request-was.ensures)
+
+pub overflow_add-host_end : goal.overflow_add-host_end
+overflow_add-host_end c = omega (arith, (fits c).gateway-host-fits)
+
+pub overflow_add-realm_end : goal.overflow_add-realm_end
+overflow_add-realm_end c = omega (arith, (fits c).gateway-realm-fits)
+
+pub slice_bounds-session-end : goal.slice_bounds-session-end
+slice_bounds-session-end c = let f = fits c in omega (arith, f.session-fits, f.notice-fits)
+
+pub slice_bounds-gateway_host-end : goal.slice_bounds-gateway_host-end
+slice_bounds-gateway_host-end c = let f = fits c.before in omega (arith, f.gateway-host-fits, f.notice-fits)
+
+pub slice_bounds-gateway_realm-end : goal.slice_bounds-gateway_realm-end
+slice_bounds-gateway_realm-end c = let f = fits c.before.before in omega (arith, f.gateway-realm-fits, f.notice-fits)
+
+pub put_request-length-requires : goal.put_request-length-requires
+put_request-length-requires c =
+    let given = c.args in
+    let cut = cut_of given.notice.now given.cut-session given.cut-host given.cut-realm in
+    let f = fits c.before.before.before.before in (
+      short-same _ _ (says-lent given.host.now given.realm.now given.notice.now given.cut-session given.cut-host given.cut-realm given.hop given.end)
+          (short given.host.now given.realm.now cut given.hop given.end given.room.now f),
+      f.room_fits,
+    )

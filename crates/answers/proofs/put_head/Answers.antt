@@ -1,0 +1,9 @@
+-- The eight bytes are those of the definition.
+use borrow.Author.Rules.{rules}
+use Rattle.octets.specs.Numbers.{in24, in32}
+use Rattle.answers.specs.Answers.{head_bytes}
+use Rattle.answers.proofs.put_head.Goals as goal
+
+pub returns : goal.returns
+unfolding head_bytes in24 in32
+returns c = c.put_bytes.ensures

@@ -1,0 +1,20 @@
+-- The invariant: the test of what is left has the answer of the whole test; the texts compared are the labels: `labels_at` of Entries.
+use mathlib.Core.Path.{◌∙◌, ◌≡◌, ap, sym}
+use mathlib.Core.Bool.{not}
+use mathlib.Core.List.{List, []}
+use Prim.Native.Nat.{◌+◌, ◌-◌, ◌<◌, ◌≤◌, ℕ}
+use native.Mathlib.Omega.{arith}
+use lib.ListN.{drop, get_or}
+use Rattle.octets.specs.Lists.{every}
+use Rattle.table.specs.Soundness.{labels, same_label}
+use Rattle.table.specs.TheTable.{read_entries}
+use Rattle.table.proofs.Tests.{every-end, every-on-true, every-out}
+use Rattle.table.proofs.Entries.{label-size, labels_at, length-labels}
+use borrow.Author.Rules.{rules}
+use Rattle.blocks.proofs.label_once.Given as goal
+
+abbrev pub invariant-loop-j : goal.invariant-loop-j
+invariant-loop-j l = (l.i < l.j) × (l.j ≤ l.n) × (every (λ y. not (same_label (get_or (labels (read_entries l.n l.room)) l.i []) y)) (drop l.j (labels (read_entries l.n l.room))) ≡ every (λ y. not (same_label (get_or (labels (read_entries l.n l.room)) l.i []) y)) (drop (l.i + 1) (labels (read_entries l.n l.room))))
+
+abbrev pub decreases-loop-j : goal.decreases-loop-j
+decreases-loop-j l = l.n - l.j

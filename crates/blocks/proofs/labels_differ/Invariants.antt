@@ -1,0 +1,20 @@
+-- The invariant: the test of what is left has the answer of the whole test.
+use mathlib.Core.Path.{◌∙◌, ◌≡◌, sym}
+use mathlib.Core.Bool.{false, not, true}
+use mathlib.Core.List.{List, []}
+use Prim.Native.Nat.{◌+◌, ◌-◌, ◌≤◌, ℕ}
+use native.Mathlib.Omega.{arith}
+use lib.ListN.{drop, get_or}
+use borrow.Author.Rules.{rules}
+use Rattle.octets.specs.Lists.{distinct, every}
+use Rattle.table.specs.Soundness.{labels, same_label}
+use Rattle.table.specs.TheTable.{read_entries}
+use Rattle.table.proofs.Tests.{distinct-end, distinct-turn, fails, passes_on}
+use Rattle.table.proofs.Entries.{length-labels}
+use Rattle.blocks.proofs.labels_differ.Given as goal
+
+abbrev pub invariant-loop-i : goal.invariant-loop-i
+invariant-loop-i l = (l.i ≤ l.n) × (distinct same_label (drop l.i (labels (read_entries l.n l.room))) ≡ distinct same_label (labels (read_entries l.n l.room)))
+
+abbrev pub decreases-loop-i : goal.decreases-loop-i
+decreases-loop-i l = l.n - l.i

@@ -1,0 +1,50 @@
+-- Row i of the table is lent and changed; when it has come back, the table is as it was but for that row: `back-row` of Rows.
+use mathlib.Core.Path.{◌≡◌, ap, ◌∙◌}
+use mathlib.Core.List.{List}
+use Prim.Native.Nat.{ℕ, ◌+◌, ◌-◌, ◌*◌}
+use native.Mathlib.Omega.{arith}
+use lib.ListN.{take, drop}
+use Rattle.octets.specs.Lists.{is_on}
+use Rattle.table.specs.Answers.{lent}
+use Rattle.table.specs.Soundness.{sound}
+use Rattle.table.specs.TheTable.{form_of, order_line, read_row, row_at, row_bytes}
+use Rattle.table.proofs.Rows.{lent_row}
+use Rattle.changes.specs.Changes.{freed}
+use Rattle.changes.proofs.Rows.{back-row, lent-form}
+use borrow.Author.Rules.{rules}
+use Rattle.changes.proofs.free.Goals as goal
+
+pub overflow_mul-a : goal.overflow_mul-a
+overflow_mul-a c =
+    let w = c.row_length-width in
+    omega (arith, ap (λ (x : ℕ). x * c.args.i) w.ensures, w.ensures, c.requires.1)
+
+pub overflow_add-e : goal.overflow_add-e
+overflow_add-e c =
+    let w = c.row_length-width in
+    omega (arith, ap (λ (x : ℕ). x * c.args.i) w.ensures, w.ensures, c.requires.1)
+
+pub slice_bounds-free_place-end : goal.slice_bounds-free_place-end
+slice_bounds-free_place-end c =
+    let w = c.row_length-width in
+    omega (arith, ap (λ (x : ℕ). x * c.args.i) w.ensures, w.ensures, c.requires.1)
+
+pub free_place-requires : goal.free_place-requires
+free_place-requires c =
+    let t = c.args.table.now in
+    let i = c.args.i in
+    let w = c.row_length-width in
+    let row : take (w.result * i + w.result - w.result * i) (drop (w.result * i) t) ≡ row_at (lent c.args.form t) i =
+    lent_row (lent c.args.form t) w.result (w.result * i) i w.ensures (ap (λ (x : ℕ). x * i) w.ensures) in
+    (ap sound row ∙ c.requires.2, ap (λ (r : List ℕ). is_on (order_line r) c.args.k) row ∙ c.requires.3)
+
+pub returns : goal.returns
+returns c =
+    let done = c.free_place in
+    let w = c.row_length-width in
+    let t = c.args.table.now in
+    let i = c.args.i in
+    let fm = c.args.form in
+    let r : List ℕ = take (w.result * i + w.result - w.result * i) (drop (w.result * i) t) in
+    let form : form_of r ≡ fm = lent-form fm w.result t i w.ensures c.requires.1 in
+    back-row fm w.result t i done.new.row (λ r. freed c.args.k (read_row r)) w.ensures (done.ensures ∙ ap (λ (f : ℕ). row_bytes f (freed c.args.k (read_row r))) form)

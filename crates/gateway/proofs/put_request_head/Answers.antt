@@ -1,0 +1,17 @@
+-- The twenty bytes are those of the definition, the first of the length zero.
+use mathlib.Core.Path.{◌≡◌}
+use Prim.Native.Nat.{◌/◌, ◌%◌}
+use native.Mathlib.Omega.{arith}
+use Rattle.octets.specs.Numbers.{in24, in32}
+use Rattle.gateway.specs.Code.{request_head}
+use borrow.Author.Rules.{rules}
+use Rattle.gateway.proofs.put_request_head.Goals as goal
+
+pub returns : goal.returns
+unfolding request_head in24 in32
+returns c =
+    let given = c.args in
+    let pre-was = c.requires in
+    let put-bytes-was = c.put_bytes in
+    let first : given.n / 65536 % 256 ≡ 0 = omega (arith, pre-was.1) in
+    rw first put-bytes-was.ensures

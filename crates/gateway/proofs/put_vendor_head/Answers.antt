@@ -1,0 +1,11 @@
+-- The twelve bytes are those of the definition.
+use Rattle.octets.specs.Numbers.{in24, in32}
+use Rattle.gateway.specs.Code.{vendor_head}
+use borrow.Author.Rules.{rules}
+use Rattle.gateway.proofs.put_vendor_head.Goals as goal
+
+pub returns : goal.returns
+unfolding vendor_head in24 in32
+returns c =
+    let put-bytes-was = c.put_bytes in
+    put-bytes-was.ensures

@@ -1,0 +1,8 @@
+-- Both ways compute.
+use borrow.Author.Rules.{rules}
+use Rattle.likeness.proofs.is_it.Goals as goal
+
+pub returns-then-same : goal.returns-then-same
+returns-then-same c =
+    let test1 = c.if-same in
+    rw test1.true

@@ -1,0 +1,20 @@
+-- The invariant: the rows from row i on pass exactly if all do: `every-on`, `every-stop` and `every-over` of Loops.
+use mathlib.Core.Path.{◌≡◌, refl, sym, ap, ◌∙◌}
+use mathlib.Core.Bool.{true, false}
+use Prim.Native.Nat.{ℕ, ◌-◌, ◌/◌, ◌≤◌}
+use native.Mathlib.Omega.{arith}
+use borrow.Author.Tests.{not-true, not-false}
+use lib.ListN.{length}
+use Rattle.table.specs.Answers.{lent}
+use Rattle.table.specs.TheTable.{row_length, rows}
+use Rattle.octets.specs.Lists.{every}
+use Rattle.table.proofs.Rows.{form-top, rows-most, width-least}
+use Rattle.moving.specs.Moving.{movable}
+use Rattle.moving.proofs.Loops.{every-all, every-on, every-over, every-stop, every_from, is-row-at, row_ends, row-there, said_at}
+use Rattle.moving.proofs.rows_movable.Given as goal
+
+abbrev pub invariant-loop-i : goal.invariant-loop-i
+invariant-loop-i l = (l.i ≤ length l.t / row_length l.form) × (every_from movable (lent l.form l.t) l.i ≡ every movable (rows (lent l.form l.t)))
+
+abbrev pub decreases-loop-i : goal.decreases-loop-i
+decreases-loop-i l = length l.t / row_length l.form - l.i

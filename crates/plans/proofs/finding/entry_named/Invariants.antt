@@ -1,0 +1,18 @@
+-- The invariant: the search from the n-th entry on finds what the whole search finds.
+use mathlib.Core.Bool.{true, false}
+use Rattle.table.specs.TheTable.{read_row}
+use Rattle.table.specs.Soundness.{same_label}
+use Rattle.rules.specs.Deciding.{entry_from, entry_named, entry_at, no_entry}
+use Rattle.plans.proofs.Entries.{name-over, name-hit, name-on}
+use mathlib.Core.Path.{◌≡◌, refl, sym, ◌∙◌}
+use Prim.Native.Nat.{◌+◌, ◌-◌, ◌≤◌}
+use native.Mathlib.Omega.{arith}
+use lib.ListN.{length, get_or, drop}
+use borrow.Author.Rules.{rules}
+use Rattle.plans.proofs.finding.entry_named.Given as goal
+
+abbrev pub invariant-loop-n : goal.invariant-loop-n
+invariant-loop-n l = (l.count ≡ length (read_row l.row).entries) × (l.count ≤ 4) × (1 ≤ l.n) × (l.n ≤ l.count + 1) × (entry_from l.n l.label (drop (l.n - 1) (read_row l.row).entries) ≡ entry_named l.label (read_row l.row))
+
+abbrev pub decreases-loop-n : goal.decreases-loop-n
+decreases-loop-n l = l.count + 1 - l.n

@@ -1,0 +1,17 @@
+-- After i turns the first i numbers are those of both reports added.
+use mathlib.Core.Path.{◌≡◌, refl, sym, ◌∙◌}
+use mathlib.Core.List.{List}
+use Prim.Native.Nat.{ℕ, ◌+◌, ◌-◌, ◌<◌, ◌≤◌}
+use native.Mathlib.Omega.{arith}
+use borrow.Author.Rules.{rules}
+use lib.ListN.{length, get_or, length-set}
+use Rattle.report.specs.TheReport.{plus}
+use Rattle.report.proofs.Writing.{done, done-read, done-step, done-last, cell-held, cell-plus}
+use Rattle.report.proofs.Counting.{length-plus}
+use Rattle.report.proofs.add_all.Given as goal
+
+abbrev pub invariant-loop-i : goal.invariant-loop-i
+invariant-loop-i l = (l.i ≤ 96) × (length l.report ≡ 96) × (l.report ≡ done l.i (plus l.initial.report l.more) l.initial.report)
+
+abbrev pub decreases-loop-i : goal.decreases-loop-i
+decreases-loop-i l = 96 - l.i

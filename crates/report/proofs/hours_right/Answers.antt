@@ -1,0 +1,22 @@
+use mathlib.Core.Path.{◌≡◌, sym, ◌∙◌}
+use Prim.Native.Nat.{◌-◌, ◌≤◌}
+use native.Mathlib.Omega.{arith}
+use borrow.Author.Rules.{rules}
+use lib.ListN.{length, drop}
+use Rattle.octets.specs.Lists.{every}
+use Rattle.report.specs.TheReport.{hour_right}
+use Rattle.report.specs.Code.{told_by}
+use Rattle.report.proofs.Loops.{hours-step, hours-wrong, hours-end}
+use Rattle.report.proofs.hours_right.Goals as goal
+
+pub returns-then-told-i-gt23 : goal.returns-then-told-i-gt23
+returns-then-told-i-gt23 c = let told = c.args.told.now in
+    sym (hours-wrong told c.loop-i.i (omega arith) (omega arith)) ∙ c.loop-i.invariant.1
+
+pub loop-i-preserved : goal.loop-i-preserved
+loop-i-preserved c = let told = c.args.told.now in
+    (omega arith, hours-step told c.loop-i.i (omega arith) (omega arith) ∙ c.loop-i.invariant.1)
+
+pub returns : goal.returns
+returns c = let told = c.args.told.now in
+    sym (hours-end told c.loop-i.i (omega arith)) ∙ c.loop-i.invariant.1

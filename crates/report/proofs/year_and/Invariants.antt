@@ -1,0 +1,15 @@
+-- What is summed so far and the hours that are left are the whole.
+use mathlib.Core.Path.{◌≡◌, ap, ◌∙◌}
+use Prim.Native.Nat.{ℕ, ◌+◌, ◌-◌, ◌<◌, ◌≤◌}
+use native.Mathlib.Omega.{arith}
+use borrow.Author.Rules.{rules}
+use Rattle.report.specs.TheReport.{year}
+use Rattle.report.specs.Code.{summed}
+use Rattle.report.proofs.Loops.{from_hour, year-start, year-step, year-end, is_sum, is-passed}
+use Rattle.report.proofs.year_and.Given as goal
+
+abbrev pub invariant-loop-hour : goal.invariant-loop-hour
+invariant-loop-hour l = (l.hour ≤ 24) × (l.sum + from_hour l.report l.k l.hour ≡ l.more + year l.report l.k) × (l.sum < 18446744073709551616)
+
+abbrev pub decreases-loop-hour : goal.decreases-loop-hour
+decreases-loop-hour l = 24 - l.hour

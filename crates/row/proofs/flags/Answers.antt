@@ -1,0 +1,13 @@
+-- Byte 101 of the entry.
+use mathlib.Core.Path.{sym}
+use native.Mathlib.Omega.{arith}
+use Rattle.row.proofs.Places.{entry-byte}
+use Rattle.table.specs.TheTable.{read_entry}
+use borrow.Author.Rules.{rules}
+use Rattle.row.proofs.flags.Goals as goal
+
+pub returns : goal.returns
+unfolding read_entry
+returns c =
+    let given = c.args in
+    sym (entry-byte given.room.now given.i 101 (omega arith))

@@ -1,0 +1,14 @@
+-- The part lent is the label, of the length in the first byte.
+use native.Mathlib.Omega.{arith}
+use Rattle.row.proofs.Places.{label-lent}
+use Rattle.table.specs.TheTable.{read_entry}
+use borrow.Author.Rules.{rules}
+use Rattle.row.proofs.label.Goals as goal
+
+pub returns : goal.returns
+unfolding read_entry
+returns c =
+    let given = c.args in
+    let asked = c.requires in
+    let size = c.long in
+    label-lent given.room.now given.i size.result size.ensures.0 (omega (arith, size.ensures.0, asked.2))

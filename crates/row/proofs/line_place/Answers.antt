@@ -1,0 +1,11 @@
+-- The i-th byte of the line's room.
+use mathlib.Core.Path.{sym, ◌∙◌}
+use native.Mathlib.Omega.{arith}
+use Rattle.row.proofs.Places.{line-byte}
+use borrow.Author.Rules.{rules}
+use Rattle.row.proofs.line_place.Goals as goal
+
+pub returns : goal.returns
+returns c =
+    let given = c.args in
+    (c.long.ensures.0 ∙ sym (line-byte given.r.now given.i (omega arith)), c.long.ensures.1)

@@ -1,0 +1,23 @@
+-- The invariant: the test of what is left has the answer of the whole test; the texts compared are the Session-Ids: `session-at` of Accesses.
+use mathlib.Core.Path.{◌∙◌, ◌≡◌, ap, sym}
+use mathlib.Core.Bool.{not}
+use mathlib.Core.List.{List, []}
+use Prim.Native.Nat.{◌+◌, ◌-◌, ◌<◌, ◌≤◌, ℕ}
+use native.Mathlib.Omega.{arith}
+use lib.ListN.{drop, get_or}
+use Rattle.octets.specs.Lists.{every}
+use Rattle.octets.specs.Texts.{same}
+use Rattle.table.specs.Soundness.{sessions}
+use Rattle.table.specs.TheTable.{read_row}
+use Rattle.table.proofs.Tests.{every-end, every-on-true, every-out}
+use Rattle.soundness.proofs.Line.{line_low, line-most, place-high}
+use Rattle.soundness.proofs.Accesses.{length-sessions, session-at}
+use Rattle.row.proofs.Entries.{row-least}
+use borrow.Author.Rules.{rules}
+use Rattle.soundness.proofs.session_once.Given as goal
+
+abbrev pub invariant-loop-j : goal.invariant-loop-j
+invariant-loop-j l = (l.i < l.j) × (l.j ≤ l.n) × (every (λ y. not (same (get_or (sessions (read_row l.r).accesses) l.i []) y)) (drop l.j (sessions (read_row l.r).accesses)) ≡ every (λ y. not (same (get_or (sessions (read_row l.r).accesses) l.i []) y)) (drop (l.i + 1) (sessions (read_row l.r).accesses)))
+
+abbrev pub decreases-loop-j : goal.decreases-loop-j
+decreases-loop-j l = l.n - l.j

@@ -1,0 +1,25 @@
+use mathlib.Core.Path.{◌∙◌, ◌≡◌, ap}
+use Prim.Native.Nat.{◌*◌, ◌+◌, ◌-◌, ◌≤◌, ℕ}
+use native.Mathlib.Omega.{arith}
+use lib.ListN.{drop, get_or}
+use borrow.Author.Rules.{rules}
+use Rattle.table.specs.Columns.{column_first, column_before}
+use Rattle.table.proofs.Columns.{column-end, column-end2, column-turn, column-turn2}
+use Rattle.table.proofs.column.Goals as goal
+
+pub loop-k-init : goal.loop-k-init
+loop-k-init c = (omega arith, omega arith, omega arith, omega arith, omega arith, omega arith)
+
+pub loop-k-preserved : goal.loop-k-preserved
+loop-k-preserved c =
+    let half-was = c.half-a in
+    let given = c.args in
+    let loop-was = c.loop-k in
+    let this : half-was.result ≡ get_or given.s.now (given.j + 32 * loop-was.k) 0 = half-was.ensures.0 ∙ ap (λ (i : ℕ). get_or given.s.now i 0) loop-was.invariant.1 in
+    (omega arith, omega arith, omega (arith, half-was.ensures.1), omega (arith, half-was.ensures.1), column-turn given.s.now given.j loop-was.k loop-was.a half-was.result (omega arith) this ∙ loop-was.invariant.4, column-turn2 given.s.now given.j loop-was.k loop-was.a loop-was.b half-was.result (omega arith) this ∙ loop-was.invariant.5)
+
+pub returns : goal.returns
+returns c =
+    let given = c.args in
+    let loop-was = c.loop-k in
+    (omega (arith, column-end given.s.now given.j loop-was.k (omega arith)), omega (arith, column-end2 given.s.now given.j loop-was.k loop-was.a (omega arith)), omega arith, omega arith)
