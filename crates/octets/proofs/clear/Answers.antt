@@ -19,12 +19,11 @@ loop-i-smaller c = omega arith
 
 pub loop-i-preserved : goal.loop-i-preserved
 unfolding zeros
-loop-i-preserved c =
-    (
-      omega arith,
-      simp length-set c.loop-i.invariant.1,
-      rw c.loop-i.invariant.2 (fill_more c.loop-i.i 0 c.args.s.now (omega arith)),
-    )
+loop-i-preserved c = (
+  omega arith,
+  simp length-set c.loop-i.invariant.1,
+  rw c.loop-i.invariant.2 (fill_more c.loop-i.i 0 c.args.s.now (omega arith)),
+)
 
 pub returns : goal.returns
 returns c =

@@ -11,8 +11,7 @@ returns c =
     let one = c.very_long in
     let two = c.very_long-2 in
     let three = c.very_long-3 in
-    let four = c.very_long-4 in
-    (
+    let four = c.very_long-4 in (
       omega (arith, one.ensures.0, two.ensures.0, three.ensures.0, four.ensures.0),
       record {
         byte0 = omega (arith, one.ensures.0, one.ensures.1);

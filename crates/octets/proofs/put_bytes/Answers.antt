@@ -14,8 +14,7 @@ loop-j-init c = (search rules, search rules, paste-zero c.args.room.now c.args.a
 pub loop-j-preserved : goal.loop-j-preserved
 loop-j-preserved c =
     let room = c.args.room.now in
-    let src = c.args.src.now in
-    (
+    let src = c.args.src.now in (
       omega arith,
       simp length-set c.loop-j.invariant.1,
       rw (c.loop-j.invariant.2, add-one) (paste-suc room c.args.at src c.loop-j.j 0 (omega arith) (omega arith)),

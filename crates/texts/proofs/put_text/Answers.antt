@@ -18,8 +18,7 @@ loop-j-preserved c =
     let l = c.loop-j in
     let a = c.args in
     let s = c.args.src.now in
-    let e = c.put_16.ensures in
-    (
+    let e = c.put_16.ensures in (
       omega arith,
       c.put_16.auto.room ∙ l.invariant.1,
       e ∙ rw l.invariant.2 (put_next a.room.now a.at s l.j 16 c.requires (omega arith)),
