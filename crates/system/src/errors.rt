@@ -6,12 +6,10 @@ use std::io::Error;
 // The bytes of a message up to the system's number, which stands behind it in brackets.
 fn words_of(message: &[u8]) -> &[u8] {
     let end = b" (os error ";
-    let mut i: usize = 0;
-    while i < message.len() {
+    for i in 0..message.len() {
         if message[i..].starts_with(end) {
             return &message[..i];
         }
-        i += 1;
     }
     message
 }

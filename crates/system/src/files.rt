@@ -3,12 +3,11 @@ ghost use Rattle.std.specs.Prelude.{◌≤◌, length};
 
 use crate::names::text_of;
 use crate::standard::put_all;
-use crate::{EBADF, EMFILE, MOST_FILES, STDERR_FILENO, STDOUT_FILENO, System};
-use std::fs;
+use crate::{EBADF, EMFILE, MOST_FILES, STDERR_FILENO, STDIN_FILENO, STDOUT_FILENO, System};
 use std::fs::{File, Metadata, OpenOptions, Permissions};
-use std::io;
 use std::io::{Read, Seek, SeekFrom, Write};
 use std::os::unix::fs::{MetadataExt, PermissionsExt, fchown};
+use std::{fs, io};
 
 // What the system knows of a file.
 #[derive(Clone, Copy)]
@@ -146,6 +145,10 @@ impl System {
     pub fn read_full(&self, fd: i32, room: &mut [u8]) -> usize
         ensures { result ≤ length room.new }
     {
+        if fd == STDIN_FILENO {
+            let mut from = self.rt.stdin();
+            return self.fill(&mut from, room);
+        }
         let Ok(files) = self.files.try_borrow() else {
             return 0;
         };
@@ -156,7 +159,10 @@ impl System {
         }
         let all = &*files;
         match &all[i] {
-            Some(file) => self.fill(file, room),
+            Some(file) => {
+                let mut from = file;
+                self.fill(&mut from, room)
+            }
             None => {
                 self.set_errno(EBADF);
                 0
@@ -164,10 +170,9 @@ impl System {
         }
     }
 
-    fn fill(&self, file: &File, room: &mut [u8]) -> usize
+    fn fill<R: Read>(&self, from: &mut R, room: &mut [u8]) -> usize
         ensures { result ≤ length room.new }
     {
-        let mut from = file;
         let mut done: usize = 0;
         while done < room.len() {
             match from.read(&mut room[done..]) {

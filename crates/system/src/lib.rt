@@ -8,12 +8,11 @@ mod names;
 mod standard;
 mod words;
 
+pub use files::Status;
 use std::array;
 use std::cell::{Cell, RefCell};
 use std::fs::File;
 use std::rt::HostRuntime;
-
-pub use files::Status;
 
 // The reasons that are told apart.
 pub const ENOENT: i32 = 2;
@@ -30,7 +29,9 @@ pub const ENAMETOOLONG: i32 = 36;
 
 pub const EILSEQ: i32 = 84;
 
-// Standard output and standard error have the numbers that the system gives them.
+// The three files that every program begins with have the numbers that the system gives them.
+pub const STDIN_FILENO: i32 = 0;
+
 pub const STDOUT_FILENO: i32 = 1;
 
 pub const STDERR_FILENO: i32 = 2;

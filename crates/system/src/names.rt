@@ -1,9 +1,7 @@
 // Files by their names. A name has to be text (UTF-8).
 use crate::System;
-use std::fs;
 use std::fs::Files;
-use std::io;
-use std::str;
+use std::{fs, io, str};
 
 pub(crate) fn text_of(path: &[u8]) -> io::Result<&str> {
     match str::from_utf8(path) {

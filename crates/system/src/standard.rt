@@ -1,10 +1,8 @@
 // The three files that every program begins with, and what is known of processes.
 use crate::{EBADF, STDERR_FILENO, STDOUT_FILENO, System};
-use std::fs;
-use std::io;
 use std::io::Write;
 use std::os::fd::{AsRawFd, IntoRawFd};
-use std::process;
+use std::{fs, io, process};
 
 // All of a text written; the end of what takes no more counts as a failure.
 pub(crate) fn put_all<W: Write>(to: &mut W, text: &[u8]) -> io::Result<()> {
