@@ -2,7 +2,7 @@
 use mathlib.Core.Path.{◌≡◌, refl, sym, ap, ◌∙◌}
 use mathlib.Core.Bool.{Bool, true, false, not, ◌&&◌, and_assoc, and-true}
 use mathlib.Core.List.{List, [], ◌∷◌}
-use Prim.Native.Nat.{ℕ, zero, suc, ◌+◌, ◌-◌, ◌*◌, ◌≤◌, ◌<◌}
+use Prim.Native.Nat.{ℕ, suc, ◌+◌, ◌-◌, ◌≤◌, ◌<◌}
 use native.Mathlib.Omega.{arith}
 use native.Mathlib.Numerals.{add-one}
 use borrow.Author.Tests.{le-leb, lt-leb, eq-eqb, leb-true, ne_eqb, not-true, not-false}
@@ -13,7 +13,6 @@ use Rattle.octets.specs.Choice.{pick, within}
 use Rattle.octets.specs.Lists.{every, distinct, up_to0}
 use Rattle.octets.specs.Texts.{part, same, all_zero}
 use Rattle.octets.proofs.Lists.{by-test, and_left, and_right, both, within-high}
-use Rattle.octets.proofs.Texts.{length_part}
 use Rattle.table.specs.TheTable.{block_length}
 use Rattle.table.proofs.Sound.{Headed, head_of, text-within}
 use Rattle.table.specs.Soundness.{zero_behind, access_form, is_name, is_digit, head_form, second_form}

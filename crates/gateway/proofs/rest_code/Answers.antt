@@ -1,4 +1,5 @@
 -- Destination-Host, then Re-Auth-Request-Type: a field that passes leaves the code to what is behind it, one that fails gives it.
+use borrow.Enum.Refused.{opened}
 use mathlib.Core.Path.{◌≡◌, refl, sym, ◌∙◌}
 use mathlib.Core.Bool.{true}
 use mathlib.Core.List.{List, [], ◌∷◌}
@@ -29,7 +30,7 @@ unfolding text_field bytes_field name_at names
 returns-in_default c =
     let m = c.args.m.now in
     let st = stop m (text_field destination_host true) (behind (avps m)) c.text_field-g.result c.refusal.result
-    (c.text_field-g.ensures true) refl c.in_default.in_default-own.keys2 c.refusal.ensures in
+    (c.text_field-g.ensures true) refl (opened c.in_default.in_default-own.keys2) c.refusal.ensures in
     sym (rest-is (avps m) ∙ st.0)
 
 pub returns-in_default-t : goal.returns-in_default-t

@@ -1,4 +1,5 @@
 -- Field by field: one that passes leaves the code to those behind it (`one` to `five`), one that fails gives it.
+use borrow.Enum.Refused.{opened}
 use mathlib.Core.Path.{◌≡◌, refl, sym, ◌∙◌}
 use mathlib.Core.List.{List, [], ◌∷◌, map}
 use Prim.Native.Nat.{ℕ}
@@ -80,7 +81,7 @@ unfolding text_field bytes_field name_at names
 returns-in_default c =
     let m = c.args.m.now in
     let st = stop m (text_field session_id true) (behind1 (avps m)) c.text_field-g1.result c.refusal.result
-    (c.text_field-g1.ensures true) refl c.in_default.in_default-own.keys2 c.refusal.ensures in
+    (c.text_field-g1.ensures true) refl (opened c.in_default.in_default-own.keys2) c.refusal.ensures in
     both-failed m c.refusal.result (first c.before.before.before ∙ st.0) st.1
 
 pub returns-in_default-g2 : goal.returns-in_default-g2

@@ -1,4 +1,5 @@
 -- By the cases of the answer.
+use borrow.Enum.Refused.{opened}
 use mathlib.Core.Path.{◌≡◌, refl}
 use mathlib.Core.List.{[], ◌∷◌}
 use Prim.Native.Nat.{ℕ}
@@ -25,4 +26,4 @@ unfolding is_found
 returns-in-Found c = rw c.in-Found.is
 
 pub returns-in_default : goal.returns-in_default
-returns-in_default c = not_found c.args.g c.in_default.in_default-own.keys2
+returns-in_default c = not_found c.args.g (opened c.in_default.in_default-own.keys2)

@@ -1,4 +1,5 @@
 -- Field by field: one that passes leaves the code to those behind it (`one` to `five`), one that fails gives it; the type chooses the end.
+use borrow.Enum.Refused.{opened}
 use mathlib.Core.Path.{◌≡◌, refl, sym, ap, ◌∙◌}
 use mathlib.Core.List.{List, ◌∷◌}
 use Prim.Native.Nat.{ℕ, zero, suc, ◌+◌, ◌-◌, ◌≤◌}
@@ -100,7 +101,7 @@ returns-in_default c =
     let most = c.args.most in
     let m = c.args.m.now in
     let st = stop m (number_field auth_request_type 2 2) (behind1 most (avps m)) c.number_field-g1.result c.refusal.result
-    c.number_field-g1.ensures refl c.in_default.in_default-own.keys2 c.refusal.ensures in
+    c.number_field-g1.ensures refl (opened c.in_default.in_default-own.keys2) c.refusal.ensures in
     listed-refused m (rest_code most 265 (avps m)) (request_of 265 (avps m)) c.refusal.result (all most m ∙ st.0) st.1
 
 pub returns-in_default-g2 : goal.returns-in_default-g2

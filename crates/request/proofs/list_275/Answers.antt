@@ -1,4 +1,5 @@
 -- Field by field: one that passes leaves the code to those behind it (`one` to `four`), one that fails gives it.
+use borrow.Enum.Refused.{opened}
 use mathlib.Core.Path.{◌≡◌, refl, ◌∙◌}
 use mathlib.Core.List.{List, [], ◌∷◌}
 use Prim.Native.Nat.{ℕ}
@@ -50,7 +51,7 @@ unfolding number_field name_at names
 returns-in_default c =
     let m = c.args.m.now in
     let st = stop m (number_field termination_cause 1 8) (behind1 (avps m)) c.number_field-cause.result c.refusal.result
-    c.number_field-cause.ensures refl c.in_default.in_default-own.keys2 c.refusal.ensures in
+    c.number_field-cause.ensures refl (opened c.in_default.in_default-own.keys2) c.refusal.ensures in
     λ most. listed-refused m (rest_code most 275 (avps m)) (request_of 275 (avps m)) c.refusal.result (all most m ∙ st.0) st.1
 
 pub returns-in_default-destination : goal.returns-in_default-destination

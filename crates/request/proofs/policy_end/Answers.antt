@@ -1,4 +1,5 @@
 -- A W-APN is not required and policies are: each way out gives the code of the first that fails, or what is asked.
+use borrow.Enum.Refused.{opened}
 use mathlib.Core.Path.{◌≡◌, refl, ◌∙◌}
 use mathlib.Core.List.{List, [], ◌∷◌}
 use Prim.Native.Nat.{ℕ}
@@ -20,7 +21,7 @@ labelled p most =
     let a = p.args in
     let m = a.m.now in
     may-go m (label_field wlan_apn_id false) (behind_label most (avps m)) p.text_field-g1.result (p.text_field-g1.ensures false) refl
-    p.in_default.in_default-own.keys2
+    (opened p.in_default.in_default-own.keys2)
 
 pub returns-in-Code : goal.returns-in-Code
 unfolding policy_code label_field bytes_field name_at names

@@ -1,4 +1,5 @@
 -- The W-APN is required and policies are not: each way out gives the code of the first that fails, or what is asked.
+use borrow.Enum.Refused.{opened}
 use mathlib.Core.Path.{◌≡◌, refl, sym, ◌∙◌}
 use mathlib.Core.List.{List, [], ◌∷◌}
 use Prim.Native.Nat.{ℕ}
@@ -29,7 +30,7 @@ returns-in_default c =
     let a = c.args in
     let m = c.args.m.now in
     let st = stop m (label_field wlan_apn_id true) (behind_label most (avps m)) c.text_field-g1.result c.refusal.result
-    (c.text_field-g1.ensures true) refl c.in_default.in_default-own.keys2 c.refusal.ensures in
+    (c.text_field-g1.ensures true) refl (opened c.in_default.in_default-own.keys2) c.refusal.ensures in
     listed-refused m (tunnel_code most (avps m)) (tunnel_of a.visited (avps m)) c.refusal.result st.0 st.1
 
 pub returns-then-wrong-ne0 : goal.returns-then-wrong-ne0
