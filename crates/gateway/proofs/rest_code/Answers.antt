@@ -38,7 +38,7 @@ unfolding number_field name_at names
 returns-in_default-t c =
     let m = c.args.m.now in
     let st = stop m (number_field re_auth_request_type 0 0) [] c.number_field-t.result c.refusal-in_default-t.result
-    c.number_field-t.ensures refl c.in_default-t.in_default-t-own.keys2 c.refusal-in_default-t.ensures in
+    c.number_field-t.ensures refl (opened c.in_default-t.in_default-t-own.keys2) c.refusal-in_default-t.ensures in
     sym (passed c.before.before.before ∙ st.0)
 
 pub returns : goal.returns
