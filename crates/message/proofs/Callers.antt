@@ -92,7 +92,7 @@ module _ (most : ℕ) where
   unfolding list_code every other
   list-other c xs =
       first-other (require (starts_with session_id xs) 5005 ∷ map (field_code xs) (fields most c xs))
-      (both (require-other (starts_with session_id xs) 5005 refl) (rw every_map (every_of (λ f. other (field_code xs f)) (λ f. field-other xs f) (fields most c xs))))
+      (both (require-other (starts_with session_id xs) 5005 refl) (rw (every_map {B = ℕ} other (field_code xs) (fields most c xs)) (every_of (λ f. other (field_code xs f)) (λ f. field-other xs f) (fields most c xs))))
 
   reading-other : (m : List ℕ) → other (reading_code most m) ≡ true
   unfolding reading_code every walk_code walk_by other

@@ -1,15 +1,15 @@
 -- Which AVPs are known: a number that is one of the keys of a `match`, or none of them, looked up among the known names.
 use mathlib.Core.Path.{◌≡◌, refl, sym}
-use mathlib.Core.Bool.{Bool, true, false, ◌&&◌, ◌||◌, not}
-use mathlib.Core.Logic.{◌⊎◌, inl, inr}
+use mathlib.Core.Bool.{Bool, true, false, not}
+use mathlib.Core.Logic.{inl, inr}
 use mathlib.Core.List.{List, [], ◌∷◌}
 use Prim.Native.Nat.{ℕ}
 use types.Run.{OneOf}
 use borrow.Author.Tests.{ne_eqb}
 use lib.Dec.{eqb}
 use Rattle.octets.specs.Lists.{every, is_on}
-use Rattle.octets.proofs.Lists.{by-test, and_left, and_right, both}
-use Rattle.message.specs.ReadingAMessage.{Name, base, vendor, same_name, known_avps, is_one_of, known}
+use Rattle.octets.proofs.Lists.{by-test, and_left, and_right}
+use Rattle.message.specs.ReadingAMessage.{Name, same_name, known_avps, is_one_of, known}
 use Rattle.message.proofs.Gathering.{same-name-eq}
 
 -- NUMBERS AND NAMES

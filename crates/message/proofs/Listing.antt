@@ -27,7 +27,7 @@ use Rattle.message.specs.declared.Told.{Told}
 use Rattle.message.specs.declared.Told.TheVariants.{Refused, Request as Requested}
 use Rattle.message.specs.contracts.Got.{the_type}
 use Rattle.message.specs.contracts.Routes.{the_type as routes-type}
-use Rattle.message.specs.Positions.{names, name_at, absent, how_often, slot_says, Gathered}
+use Rattle.message.specs.Positions.{names, name_at, how_often, slot_says, Gathered}
 use Rattle.message.specs.Spans.{code_of, is_found, Holds, Reads, HoldsAt, routes_code, RoutesRead, both_code, failed_with, BothRead, rest_code, tunnel_code, tunnel_of, policy_code, policy_of, bytes_of, asks, says, spans_in, spans, is_inside, verdict, Listed, has_proxies, HeardOf}
 use Rattle.message.proofs.Heads.{code-few}
 use Rattle.message.proofs.Tested.{tested-none, passes-each, first-allowed}

@@ -1,5 +1,5 @@
 -- Reading a message (RFC 3588).
-use Rattle.std.specs.Prelude.{Bool, true, false, ◌&&◌, ◌||◌, not, List, [], ◌∷◌, ◌++◌, map, ℕ, zero, suc, ◌+◌, ◌-◌, ◌/◌, ◌%◌, eqb, leb, length, get_or, take, drop}
+use Rattle.std.specs.Prelude.{Bool, true, false, ◌&&◌, ◌||◌, not, List, [], ◌∷◌, ◌++◌, map, ℕ, zero, suc, ◌-◌, ◌/◌, ◌%◌, eqb, leb, length, get_or, take, drop}
 use Rattle.octets.specs.Choice.{pick, require, first_of, within}
 use Rattle.octets.specs.Lists.{keep}
 use Rattle.octets.specs.Texts.{part}

@@ -1,4 +1,5 @@
 -- Destination-Host, then Re-Auth-Request-Type: a field that passes leaves the code to what is behind it, one that fails gives it.
+use borrow.Enum.Refused.{opened}
 use mathlib.Core.Path.{◌≡◌, refl, sym, ◌∙◌}
 use mathlib.Core.Bool.{true}
 use mathlib.Core.List.{List, [], ◌∷◌}
@@ -29,7 +30,7 @@ unfolding text_field bytes_field name_at names
 returns-in_default c =
     let m = c.args.m.now in
     let st = stop m (text_field destination_host true) (behind (avps m)) c.text_field-g.result c.refusal.result
-    (c.text_field-g.ensures true) refl c.in_default.in_default-own.keys2 c.refusal.ensures in
+    (c.text_field-g.ensures true) refl (opened c.in_default.in_default-own.keys2) c.refusal.ensures in
     sym (rest-is (avps m) ∙ st.0)
 
 pub returns-in_default-t : goal.returns-in_default-t
@@ -37,7 +38,7 @@ unfolding number_field name_at names
 returns-in_default-t c =
     let m = c.args.m.now in
     let st = stop m (number_field re_auth_request_type 0 0) [] c.number_field-t.result c.refusal-in_default-t.result
-    c.number_field-t.ensures refl c.in_default-t.in_default-t-own.keys2 c.refusal-in_default-t.ensures in
+    c.number_field-t.ensures refl (opened c.in_default-t.in_default-t-own.keys2) c.refusal-in_default-t.ensures in
     sym (passed c.before.before.before ∙ st.0)
 
 pub returns : goal.returns

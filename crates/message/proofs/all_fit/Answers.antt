@@ -1,8 +1,6 @@
 -- One after another.
 use mathlib.Core.Path.{◌≡◌, sym, ◌∙◌}
 use mathlib.Core.Bool.{true, false}
-use borrow.Author.Rules.{rules}
-use borrow.Author.Tests.{not-true, not-false}
 use Rattle.message.specs.Spans.{is_fit}
 use Rattle.message.proofs.all_fit.Goals as goal
 

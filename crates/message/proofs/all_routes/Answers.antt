@@ -3,7 +3,6 @@ use mathlib.Core.Path.{◌≡◌, sym, ◌∙◌}
 use mathlib.Core.Bool.{true, false, ◌&&◌}
 use Prim.Native.Nat.{◌≤◌, ◌<◌}
 use native.Mathlib.Omega.{arith}
-use borrow.Author.Rules.{rules}
 use borrow.Author.Tests.{not-true, not-false}
 use Rattle.message.specs.ReadingAMessage.{walk_code}
 use Rattle.message.specs.Spans.{is_fit, how_many}
@@ -35,7 +34,7 @@ pub returns-then-not-a : goal.returns-then-not-a
 returns-then-not-a c =
     routes-none c.args.most c.args.m.now c.route_from-a.result c.route_from-b.result c.route_from-c.result c.route_from-d.result
     c.route_from-a.ensures c.route_from-b.ensures c.route_from-c.ensures c.route_from-d.ensures
-    (c.if-not-a.true)
+    (not-true _ c.if-not-a.true)
 
 pub returns-then-most-how_many : goal.returns-then-most-how_many
 returns-then-most-how_many c =
@@ -45,7 +44,7 @@ returns-then-most-how_many c =
     let o : c.args.most < how_many b.there e.there f.there = omega (arith, c.if-most-how_many.true, c.how_many.ensures) in
     routes-over c.args.most c.args.m.now c.route_from-a.result b e f
     c.route_from-a.ensures c.route_from-b.ensures c.route_from-c.ensures c.route_from-d.ensures
-    (c.if-not-a.false) c.requires.2 o
+    (not-false _ c.if-not-a.false) c.requires.2 o
 
 pub returns-then-not-all_fit : goal.returns-then-not-all_fit
 returns-then-not-all_fit c =
@@ -57,7 +56,7 @@ returns-then-not-all_fit c =
     let w : is_fit a && (is_fit b && is_fit e) ≡ false = sym c.all_fit.ensures ∙ c.if-not-all_fit.true in
     routes-unfit c.args.most c.args.m.now a b e f
     c.route_from-a.ensures c.route_from-b.ensures c.route_from-c.ensures c.route_from-d.ensures
-    (c.if-not-a.false) c.requires.2 o w
+    (not-false _ c.if-not-a.false) c.requires.2 o w
 
 pub returns : goal.returns
 returns c =
@@ -69,4 +68,4 @@ returns c =
     let w : is_fit a && (is_fit b && is_fit e) ≡ true = sym c.all_fit.ensures ∙ c.if-not-all_fit.false in
     routes-brought c.args.most c.args.m.now a b e f
     c.route_from-a.ensures c.route_from-b.ensures c.route_from-c.ensures c.route_from-d.ensures
-    (c.if-not-a.false) c.requires.2 o w
+    (not-false _ c.if-not-a.false) c.requires.2 o w

@@ -1,17 +1,15 @@
 use mathlib.Core.Path.{◌≡◌, sym, ap, ◌∙◌}
 use mathlib.Core.Bool.{true, false}
-use mathlib.Core.Logic.{⊎_elim}
-use Prim.Native.Nat.{◌+◌, ◌≤◌}
+use Prim.Native.Nat.{◌+◌}
 use native.Mathlib.Omega.{arith}
 use lib.ListN.{length, drop, length-set}
-use borrow.Author.Tests.{not-true, not-false}
-use borrow.Author.Rules.{rules}
 use Rattle.message.specs.ReadingAMessage.{avp_of, supported}
 use Rattle.message.specs.Positions.{slots, head_at}
 use Rattle.octets.proofs.Texts.{length-zeros}
 use Rattle.message.specs.declared.Head.TheVariants.{One}
-use Rattle.message.proofs.Gathering.{Walked, started, at-end, at-bad, at-unsupported, slot_is, length-is, slot-supported, supported-by, stepped-over, noted-first, noted-again, next_place}
+use Rattle.message.proofs.Gathering.{started, at-end, at-bad, at-unsupported, slot_is, length-is, slot-supported, supported-by, stepped-over, noted-first, noted-again, next_place}
 use Rattle.message.proofs.gather.Goals as goal
+use Rattle.message.proofs.gather.Goals.{then-seen-eq0, else-seen-eq0}
 
 pub overflow_sub-left : goal.overflow_sub-left
 overflow_sub-left c = omega (arith, c.requires.0)
@@ -118,10 +116,10 @@ walk-preserved c =
     let n = next_place m c.loop-left.at a c.loop-left.invariant.1.inside o in
     let s = c.if-a-lt-SLOTS.true in
     let u = slot-supported (drop c.loop-left.at m) (λ z. omega (arith, z, s, slot_is m c.loop-left.at a o)) in (
-      ⊎_elim
-          (λ w. rw w.1 (noted-first m c.walk.index c.loop-left.at a c.loop-left.invariant.1 o u s a.length (length-is m c.loop-left.at a o) w.0.taken))
-          (λ w. rw w.1 (noted-again m c.walk.index c.loop-left.at a c.loop-left.invariant.1 o u s a.length (length-is m c.loop-left.at a o) w.0.left))
-          c.if-seen-eq0.branch,
+      elim c.if-seen-eq0.branch [
+        | then-seen-eq0 w ↦ rw w.index-is (noted-first m c.walk.index c.loop-left.at a c.loop-left.invariant.1 o u s a.length (length-is m c.loop-left.at a o) w.if-seen-eq0.true)
+        | else-seen-eq0 w ↦ rw w.index-is (noted-again m c.walk.index c.loop-left.at a c.loop-left.invariant.1 o u s a.length (length-is m c.loop-left.at a o) w.if-seen-eq0.false)
+      ],
       omega (arith, n.0, n.1, c.loop-left.invariant.2),
     )
 

@@ -1,7 +1,6 @@
 -- The four tests by flags and length in one word: each way out is a law of Heads.
 use mathlib.Core.Path.{sym, ◌∙◌}
 use native.Mathlib.Omega.{arith}
-use borrow.Author.Rules.{rules}
 use Rattle.octets.specs.Numbers.{up4}
 use Rattle.message.proofs.Heads.{at-few, word-bits, word-short, word-past, word-v-short, word-v, word-base}
 use Rattle.message.proofs.head_at.Goals as goal

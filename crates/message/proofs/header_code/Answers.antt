@@ -1,7 +1,6 @@
 -- The header's tests in their order: each way out is a law of Heads.
 use mathlib.Core.Path.{sym, ◌∙◌}
 use native.Mathlib.Omega.{arith}
-use borrow.Author.Rules.{rules}
 use Rattle.message.proofs.Heads.{header-bits, header-error, header-command, header-265, header-265-other, header-275, header-275-other}
 use Rattle.message.proofs.header_code.Goals as goal
 

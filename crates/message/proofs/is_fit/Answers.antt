@@ -10,14 +10,14 @@ use Rattle.message.proofs.is_fit.Goals as goal
 pub returns-then-not-r : goal.returns-then-not-r
 unfolding is_fit
 returns-then-not-r c =
-    let t : c.args.r.there ≡ false = c.if-not-r.true in
+    let t : c.args.r.there ≡ false = not-true _ c.if-not-r.true in
     rw t
 
 pub returns-then-r-lt1 : goal.returns-then-r-lt1
 unfolding is_fit within
 returns-then-r-lt1 c =
     let r = c.args.r in
-    let t : r.there ≡ true = c.if-not-r.false in
+    let t : r.there ≡ true = not-false _ c.if-not-r.false in
     let l : leb 1 r.span.len ≡ false = lt-leb 1 _ c.if-r-lt1.true in
     rw (t, l)
 
@@ -25,6 +25,6 @@ pub returns : goal.returns
 unfolding is_fit within
 returns c =
     let r = c.args.r in
-    let t : r.there ≡ true = c.if-not-r.false in
+    let t : r.there ≡ true = not-false _ c.if-not-r.false in
     let l : leb 1 r.span.len ≡ true = le-leb 1 _ c.if-r-lt1.false in
     rw (t, l)

@@ -1,5 +1,4 @@
 -- By the slot alone where the AVP is known, by M where it is not.
-use mathlib.Core.Bool.{not, ◌||◌}
 use borrow.Author.Tests.{eq-eqb, ne_eqb}
 use Rattle.message.proofs.is_supported.Goals as goal
 

@@ -2,8 +2,7 @@
 use mathlib.Core.Path.{◌≡◌, sym, ◌∙◌}
 use native.Mathlib.Omega.{arith}
 use lib.ListN.{length}
-use borrow.Author.Rules.{rules}
-use borrow.Author.Tests.{eqb-false, eqb-true, not-false, not-true}
+use borrow.Author.Tests.{eqb-false, eqb-true}
 use Rattle.octets.specs.Numbers.{net24}
 use Rattle.message.proofs.Heads.{number_short, number-long, number-version, number-length, number-four, number-answer, number-none}
 use Rattle.message.proofs.number.Goals as goal

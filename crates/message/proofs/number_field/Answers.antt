@@ -1,8 +1,8 @@
 -- Four bytes that are there go by the number in them; else the text's answer stands.
+use borrow.Enum.Refused.{opened}
 use mathlib.Core.Path.{◌≡◌}
 use Prim.Native.Nat.{◌+◌, ◌-◌}
 use native.Mathlib.Omega.{arith}
-use borrow.Author.Rules.{rules}
 use mathlib.Core.Bool.{true}
 use borrow.Author.Tests.{le-leb, lt-leb}
 use Rattle.octets.specs.Texts.{part}
@@ -22,7 +22,7 @@ pub returns-in_default : goal.returns-in_default
 returns-in_default c =
     let a = c.args in
     number-not a.m.now (name_at a.slot) a.low a.high c.text_field-g.result (c.text_field-g.ensures true)
-    c.in_default.in_default-own.keys2
+    (opened c.in_default.in_default-own.keys2)
 
 pub overflow_add-e : goal.overflow_add-e
 unfolding bytes_field

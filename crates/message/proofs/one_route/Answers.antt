@@ -1,5 +1,4 @@
 -- The text's answer is that of the policies, where one is there at most or one is allowed.
-use borrow.Author.Rules.{rules}
 use Rattle.message.specs.Positions.{names, name_at}
 use Rattle.message.proofs.Policies.{one_found, one-absent, one-wrong}
 use Rattle.message.proofs.one_route.Goals as goal

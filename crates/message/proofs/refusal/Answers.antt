@@ -1,5 +1,4 @@
 -- By the cases of the answer.
-use borrow.Author.Rules.{rules}
 use Rattle.octets.specs.Choice.{require}
 use Rattle.message.specs.Spans.{code_of}
 use Rattle.message.proofs.refusal.Goals as goal

@@ -1,12 +1,10 @@
 use mathlib.Core.Path.{◌≡◌, refl, sym, ◌∙◌}
 use mathlib.Core.Bool.{true, false}
-use Prim.Native.Nat.{◌+◌, ◌-◌, ◌≤◌}
+use Prim.Native.Nat.{◌+◌}
 use native.Mathlib.Omega.{arith}
-use lib.ListN.{length, drop}
-use borrow.Author.Rules.{rules}
+use lib.ListN.{drop}
 use Rattle.octets.specs.Numbers.{net24, up4}
-use Rattle.message.specs.ReadingAMessage.{request_walk, same_name, routing_policy, avp_of}
-use Rattle.message.specs.Spans.{routes_from}
+use Rattle.message.specs.ReadingAMessage.{same_name, routing_policy, avp_of}
 use Rattle.message.proofs.Policies.{ends-here, code_here, next_here, passes_on, another, length-here, route-here, route-none}
 use Rattle.message.proofs.route_from.Goals as goal
 

@@ -1,14 +1,9 @@
 -- What is ahead has the policies that were ahead of the start, and the walk goes on passing: each step is a law of Policies.
-use mathlib.Core.Path.{◌≡◌, refl, sym, ◌∙◌}
-use mathlib.Core.Bool.{true, false}
-use Prim.Native.Nat.{◌+◌, ◌-◌, ◌≤◌}
-use native.Mathlib.Omega.{arith}
+use mathlib.Core.Path.{◌≡◌}
+use Prim.Native.Nat.{◌-◌, ◌≤◌}
 use lib.ListN.{length, drop}
-use borrow.Author.Rules.{rules}
-use Rattle.octets.specs.Numbers.{net24, up4}
-use Rattle.message.specs.ReadingAMessage.{request_walk, same_name, routing_policy, avp_of}
+use Rattle.message.specs.ReadingAMessage.{request_walk}
 use Rattle.message.specs.Spans.{routes_from}
-use Rattle.message.proofs.Policies.{ends-here, code_here, next_here, passes_on, another, length-here, route-here, route-none}
 use Rattle.message.proofs.route_from.Given as goal
 
 abbrev pub invariant-loop-at : goal.invariant-loop-at

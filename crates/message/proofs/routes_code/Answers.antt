@@ -1,7 +1,6 @@
 -- By the field's answer.
 use mathlib.Core.Path.{sym, ◌∙◌}
 use mathlib.Core.Bool.{false}
-use borrow.Author.Rules.{rules}
 use Rattle.message.proofs.routes_code.Goals as goal
 
 pub routes_field-g-requires : goal.routes_field-g-requires

@@ -1,8 +1,8 @@
 -- Where the slot says "not at all", there is none; where it says "more than once", and more than one is allowed, by the second walk; else by the slot.
-use mathlib.Core.Logic.{⊎_elim}
 use native.Mathlib.Omega.{arith}
 use Rattle.message.proofs.Policies.{slot-empty}
 use Rattle.message.proofs.routes_field.Goals as goal
+use Rattle.message.proofs.routes_field.Goals.{then-index-eq1+else-most-gt1, else-index-eq1}
 
 pub bounds-index-14 : goal.bounds-index-14
 bounds-index-14 c = omega (arith, c.requires.4.size)
@@ -29,7 +29,7 @@ pub returns : goal.returns
 returns c =
     c.one_route.ensures c.args.most c.requires.2
     (λ z.
-    ⊎_elim
-    (λ w. omega (arith, w.1.left, c.requires.2))
-    (λ w. absurd (w.left z))
-    c.if-index-eq1.branch)
+    elim c.if-index-eq1.branch [
+      | then-index-eq1+else-most-gt1 w ↦ omega (arith, w.if-most-gt1.false, c.requires.2)
+      | else-index-eq1 w ↦ absurd (w.if-index-eq1.false z)
+    ])

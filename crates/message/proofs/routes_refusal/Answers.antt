@@ -1,5 +1,4 @@
 -- By the cases of the answer.
-use borrow.Author.Rules.{rules}
 use Rattle.octets.specs.Choice.{require}
 use Rattle.message.specs.Spans.{routes_code}
 use Rattle.message.proofs.routes_refusal.Goals as goal

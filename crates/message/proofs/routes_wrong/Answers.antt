@@ -1,6 +1,6 @@
 -- By the cases of the answer.
+use borrow.Enum.Refused.{opened}
 use mathlib.Core.Path.{sym}
-use borrow.Author.Rules.{rules}
 use Rattle.message.specs.Spans.{routes_code}
 use Rattle.message.proofs.Listing.{routes-none}
 use Rattle.message.proofs.routes_wrong.Goals as goal
@@ -10,4 +10,4 @@ unfolding routes_code
 returns-in-Wrong c = rw c.in-Wrong.is
 
 pub returns-in_default : goal.returns-in_default
-returns-in_default c = sym (routes-none c.args.g c.in_default.in_default-own.keys2)
+returns-in_default c = sym (routes-none c.args.g (opened c.in_default.in_default-own.keys2))

@@ -3,7 +3,6 @@ use mathlib.Core.Path.{◌≡◌, refl}
 use Prim.Native.Nat.{ℕ, zero, suc, ◌≤◌, ◌<◌}
 use native.Mathlib.Omega.{arith}
 use lib.ListN.{get_or}
-use borrow.Author.Rules.{rules}
 use Rattle.message.proofs.Readers.{reads-absent, reads-twice, reads_short, reads-long, reads-found, length-least, length_most}
 use Rattle.message.proofs.text_field.Goals as goal
 

@@ -1,9 +1,9 @@
 -- By the cases of the answer.
+use borrow.Enum.Refused.{opened}
 use mathlib.Core.Path.{◌≡◌, refl}
 use mathlib.Core.List.{[], ◌∷◌}
 use Prim.Native.Nat.{ℕ}
 use native.Mathlib.Omega.{arith}
-use borrow.Author.Rules.{rules}
 use mathlib.Core.Bool.{false}
 use mathlib.Core.Logic.{⊎_elim}
 use types.Run.{OneOf}
@@ -25,4 +25,4 @@ unfolding is_found
 returns-in-Found c = rw c.in-Found.is
 
 pub returns-in_default : goal.returns-in_default
-returns-in_default c = not_found c.args.g c.in_default.in_default-own.keys2
+returns-in_default c = not_found c.args.g (opened c.in_default.in_default-own.keys2)
