@@ -25,6 +25,8 @@ pub const EINVAL: i32 = 22;
 
 pub const EMFILE: i32 = 24;
 
+pub const EPIPE: i32 = 32;
+
 pub const ENAMETOOLONG: i32 = 36;
 
 pub const EILSEQ: i32 = 84;

@@ -5,7 +5,7 @@ use mathlib.Core.List.{List, [], ◌∷◌}
 use Prim.Native.Nat.{ℕ, suc, ◌+◌, ◌-◌, ◌≤◌, ◌<◌}
 use native.Mathlib.Omega.{arith}
 use native.Mathlib.Numerals.{add-one}
-use borrow.Author.Tests.{le-leb, lt-leb, eq-eqb, leb-true, ne_eqb, not-true, not-false}
+use borrow.Author.Tests.{le-leb, lt-leb, eq-eqb, leb-true, ne_eqb}
 use lib.Dec.{eqb, leb}
 use lib.ListN.{length, get_or, take, drop, length-drop, drop_of_length-le}
 use lib.Seq.{drop-cons, take_all}
@@ -66,11 +66,11 @@ module _ {A : Type 0} (d : A) where
 -- WHAT A CALL SAID
 
 -- a test that did not pass, and one that did
-pub fails : {x y : Bool} → x ≡ y → not x ≡ true → y ≡ false
-fails {x} e n = sym e ∙ not-true x n
+pub fails : {x y : Bool} → x ≡ y → x ≡ false → y ≡ false
+fails e n = sym e ∙ n
 
-pub passes_on : {x y : Bool} → x ≡ y → not x ≡ false → y ≡ true
-passes_on {x} e n = sym e ∙ not-false x n
+pub passes_on : {x y : Bool} → x ≡ y → x ≡ true → y ≡ true
+passes_on e n = sym e ∙ n
 
 -- where one of the first two tests fails, the third does not matter
 pub both-fail : (a b c : Bool) → a && b ≡ false → a && (b && c) ≡ false

@@ -81,9 +81,15 @@ pub fn open_output(sys: &System) -> bool {
     true
 }
 
-// Standard output failed. That is said once: what stands in its place from then on can not be written, which no other reason looks like.
+// Standard output failed. That is said once: from then on it takes nothing, which no other reason looks like. Where nobody reads it any more nothing is
+// said, and the script's status is the one of a program that is ended for that.
 fn unheard(sys: &System) {
     if sys.errno() == system::EBADF {
+        return;
+    }
+    if sys.errno() == system::EPIPE {
+        sys.mark(b"unread");
+        sys.shut_output();
         return;
     }
     refuse_file(sys, b"standard output");

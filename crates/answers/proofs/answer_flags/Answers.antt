@@ -1,7 +1,6 @@
 -- P is kept where it stands, and E goes by the code.
 use mathlib.Core.Path.{sym, ◌∙◌}
 use native.Mathlib.Omega.{arith}
-use borrow.Author.Rules.{rules}
 use Rattle.octets.specs.Choice.{pick}
 use Rattle.message.specs.WritingTheAnswer.{answer_flags}
 use Rattle.answers.proofs.answer_flags.Goals as goal

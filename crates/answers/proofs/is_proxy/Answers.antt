@@ -1,6 +1,5 @@
 -- V first, then the code.
 use mathlib.Core.Path.{sym}
-use borrow.Author.Rules.{rules}
 use Rattle.answers.proofs.Proxies.{proxy-v, proxy-base}
 use Rattle.answers.proofs.is_proxy.Goals as goal
 

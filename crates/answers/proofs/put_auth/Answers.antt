@@ -1,7 +1,6 @@
 -- The two AVPs of a 265 one behind the other, or nothing.
 use mathlib.Core.Path.{sym, ◌∙◌}
 use native.Mathlib.Omega.{arith}
-use borrow.Author.Rules.{rules}
 use Rattle.octets.specs.Numbers.{in32}
 use Rattle.message.specs.WritingTheAnswer.{avp_bytes, auth_avps}
 use Rattle.message.specs.Codes.{plain}

@@ -1,6 +1,5 @@
 -- Zeros where the padding stands, then head and value over them: `avp-put`.
 use native.Mathlib.Omega.{arith}
-use borrow.Author.Rules.{rules}
 use Rattle.octets.specs.Numbers.{up4}
 use Rattle.octets.specs.Texts.{zeros}
 use Rattle.answers.proofs.Writing.{length-avp, avp-put}

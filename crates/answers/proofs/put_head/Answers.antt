@@ -1,5 +1,4 @@
 -- The eight bytes are those of the definition.
-use borrow.Author.Rules.{rules}
 use Rattle.octets.specs.Numbers.{in24, in32}
 use Rattle.answers.specs.Answers.{head_bytes}
 use Rattle.answers.proofs.put_head.Goals as goal

@@ -1,9 +1,8 @@
 -- Five bytes of ours and fifteen of the message, one behind the other.
 use mathlib.Core.Path.{◌≡◌, refl, ◌∙◌}
-use mathlib.Core.List.{List, [], ◌∷◌, ◌++◌}
+use mathlib.Core.List.{List, [], ◌∷◌}
 use Prim.Native.Nat.{ℕ, ◌/◌, ◌%◌}
 use native.Mathlib.Omega.{arith}
-use borrow.Author.Rules.{rules}
 use Rattle.octets.specs.Texts.{part}
 use Rattle.octets.specs.Numbers.{in24}
 use Rattle.octets.proofs.Texts.{put_then}

@@ -2,7 +2,6 @@
 use mathlib.Core.Path.{◌≡◌, refl}
 use Prim.Native.Nat.{◌/◌, ◌%◌}
 use native.Mathlib.Omega.{arith}
-use borrow.Author.Rules.{rules}
 use Rattle.octets.specs.Texts.{zeros}
 use Rattle.octets.specs.Numbers.{in24, in32, up4}
 use Rattle.message.specs.WritingTheAnswer.{avp_bytes}

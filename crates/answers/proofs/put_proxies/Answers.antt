@@ -1,13 +1,9 @@
 use mathlib.Core.Path.{sym, ◌∙◌}
-use Prim.Native.Nat.{◌-◌}
 use native.Mathlib.Omega.{arith}
-use borrow.Author.Rules.{rules}
-use borrow.Author.Tests.{not-true, not-false}
-use lib.ListN.{length}
 use Rattle.octets.specs.Numbers.{up4}
 use Rattle.answers.specs.Answers.{copied}
 use Rattle.answers.proofs.Writing.{written_none}
-use Rattle.answers.proofs.Proxies.{copied-not, copied-start, next-in, Copied, copied_none, copied-over, copied-one, copied_all, stretch-fits}
+use Rattle.answers.proofs.Proxies.{copied-not, copied-start, next-in, copied_none, copied-over, copied-one, copied_all, stretch-fits}
 use Rattle.answers.proofs.put_proxies.Goals as goal
 
 pub returns-then-not-proxies : goal.returns-then-not-proxies

@@ -4,7 +4,6 @@ use mathlib.Core.List.{◌++◌}
 use Prim.Native.Nat.{◌+◌}
 use native.Mathlib.Omega.{arith}
 use lib.ListN.{length, length-append}
-use borrow.Author.Rules.{rules}
 use Rattle.octets.specs.Numbers.{in32, up4}
 use Rattle.message.specs.WritingTheAnswer.{avp_bytes, result_avp}
 use Rattle.message.specs.Kinds.{code_from}
@@ -13,8 +12,7 @@ use Rattle.answers.proofs.put_result.Goals as goal
 
 pub put_number-requires-in-Experimental : goal.put_number-requires-in-Experimental
 put_number-requires-in-Experimental c =
-    let p = c.put_number-next in
-    (
+    let p = c.put_number-next in (
       omega (
         arith,
         p.ensures.place,

@@ -2,7 +2,6 @@
 use mathlib.Core.Path.{◌≡◌}
 use Prim.Native.Nat.{◌-◌}
 use native.Mathlib.Omega.{arith}
-use borrow.Author.Rules.{rules}
 use Rattle.octets.proofs.Texts.{length_part}
 use Rattle.answers.proofs.Writing.{written-nothing}
 use Rattle.answers.proofs.put_stretch.Goals as goal

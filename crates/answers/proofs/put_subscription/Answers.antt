@@ -4,7 +4,6 @@ use mathlib.Core.List.{◌++◌}
 use Prim.Native.Nat.{◌+◌, ◌-◌, ◌*◌, ◌/◌, ◌≤◌}
 use native.Mathlib.Omega.{arith}
 use lib.ListN.{length}
-use borrow.Author.Rules.{rules}
 use Rattle.octets.specs.Texts.{part}
 use Rattle.octets.specs.Numbers.{in32, up4}
 use Rattle.octets.proofs.Texts.{length_part}
@@ -14,11 +13,12 @@ use Rattle.message.specs.Spans.{Holds}
 use Rattle.message.specs.WritingTheAnswer.{avp_bytes, subscription_avp}
 use Rattle.answers.proofs.Writing.{length-number, written_none, written_then, group-put, subscription-other, subscription-fail, subscription-is, subscription-length, up4-twice}
 use Rattle.answers.proofs.put_subscription.Goals as goal
+use Rattle.answers.proofs.put_subscription.Goals.{Else-code-ne2001}
 
-named : (p : goal.Else-code-ne2001) → Holds p.args.m.now user_name p.args.user
+named : (p : Else-code-ne2001) → Holds p.args.m.now user_name p.args.user
 named p = p.requires.2 (sym p.read24.ensures.0 ∙ p.if-read24-ne265.false) p.if-code-ne2001.false
 
-short : (p : goal.Else-code-ne2001) → p.args.user.len ≤ 128
+short : (p : Else-code-ne2001) → p.args.user.len ≤ 128
 short p = p.requires.3 (sym p.read24.ensures.0 ∙ p.if-read24-ne265.false) p.if-code-ne2001.false
 
 pub returns-then-read24-ne265 : goal.returns-then-read24-ne265
@@ -42,7 +42,9 @@ pub overflow_mul-whole : goal.overflow_mul-whole
 overflow_mul-whole c = omega (arith, short c)
 
 pub overflow_add-whole-2 : goal.overflow_add-whole-2
-overflow_add-whole-2 c = omega (arith, short c.before)
+overflow_add-whole-2 c =
+    let w = goal.at.overflow_add-whole-2 c in
+    omega (arith, short w.Else-code-ne2001)
 
 pub put_head-requires : goal.put_head-requires
 put_head-requires c = omega (arith, c.requires.1)
@@ -59,25 +61,28 @@ put_number-next-requires c =
     )
 
 pub slice_bounds-put_avp-end : goal.slice_bounds-put_avp-end
-slice_bounds-put_avp-end c = omega (arith, (named c.before.before.before.before.before.before.before.before.before).inside)
+slice_bounds-put_avp-end c =
+    let w = goal.at.slice_bounds-put_avp-end c in
+    omega (arith, (named w.Else-code-ne2001).inside)
 
 -- before what `put_avp` asks: a wrong number inside the group is refused here, and not at a bound
 pub returns : goal.returns
 unfolding up4
 returns c =
+    let w = goal.at.returns c in
     let a = c.args in
     let m = c.args.m.now in
     let u = c.args.user in
     let v = part m u.at u.len in
     let e : u.at + u.len - u.at ≡ u.len = omega arith in
     let l : length v ≡ u.len = length_part m u.at u.len
-    (named c.before.before.before.before.before.before.before.before.before.before.before.before.before).inside in
+    (named w.Else-code-ne2001).inside in
     let k = subscription-length v in
     let h = c.put_head in
     let p = c.put_number-next in
     let q = c.put_avp in
     let inner = rw e at q.ensures in
-    rw (subscription-is m a.code (sym c.read24.ensures.0 ∙ c.if-read24-ne265.false) c.if-code-ne2001.false, ← (named c.before.before.before.before.before.before.before.before.before.before.before.before.before).value)
+    rw (subscription-is m a.code (sym c.read24.ensures.0 ∙ c.if-read24-ne265.false) c.if-code-ne2001.false, ← (named w.Else-code-ne2001).value)
     (group-put a.room.now h.new.room q.new.room a.at q.result 443 (28 + (u.len + 3) / 4 * 4) (avp_bytes 450 (in32 1) ++ avp_bytes 444 v)
     h.ensures
     (omega (arith, k, l)) (rw k (up4-twice (length v)))
@@ -92,14 +97,15 @@ returns c =
 
 pub put_avp-requires : goal.put_avp-requires
 put_avp-requires c =
+    let w = goal.at.put_avp-requires c in
     let u = c.args.user in
     let m = c.args.m.now in
     let e : u.at + u.len - u.at ≡ u.len = omega arith in
-    let l = length_part m u.at u.len (named c.before.before.before.before.before.before.before.before.before.before).inside in
+    let l = length_part m u.at u.len (named w.Else-code-ne2001).inside in
     rw e (omega (
       arith,
       l,
-      short c.before.before.before.before.before.before.before.before.before.before,
+      short w.Else-code-ne2001,
       c.put_number-next.ensures.place,
       length-number 450 1,
       c.put_number-next.auto.room,

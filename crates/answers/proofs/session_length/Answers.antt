@@ -1,7 +1,6 @@
 -- Seven ways out without a Session-Id, and one with it: a law of Sessions each.
 use mathlib.Core.Path.{sym, ◌∙◌}
 use native.Mathlib.Omega.{arith}
-use borrow.Author.Rules.{rules}
 use Rattle.octets.specs.Numbers.{up4}
 use Rattle.answers.proofs.Sessions.{session-few, session-bits, session-v, session-code, session-short, session-long, session-past, session-found, session-none}
 use Rattle.answers.proofs.session_length.Goals as goal

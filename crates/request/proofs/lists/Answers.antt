@@ -1,6 +1,5 @@
 -- The five fields of both requests, then those of the command: each way out is a law of Listing.
 use mathlib.Core.Path.{◌≡◌, sym, ap, ◌∙◌}
-use borrow.Author.Rules.{rules}
 use Rattle.message.specs.ReadingAMessage.{command, avps, reading_code, request_of}
 use Rattle.message.specs.Spans.{failed_with}
 use Rattle.message.specs.declared.Told.TheVariants.{Refused}

@@ -3,7 +3,6 @@ use borrow.Enum.Refused.{opened}
 use mathlib.Core.Path.{◌≡◌, refl, ◌∙◌}
 use mathlib.Core.List.{List, [], ◌∷◌}
 use Prim.Native.Nat.{ℕ}
-use borrow.Author.Rules.{rules}
 use mathlib.Core.Bool.{true, false}
 use Rattle.octets.specs.Choice.{first_of}
 use Rattle.message.specs.ReadingAMessage.{Avp, avps, field_code, label_field, texts_field, wlan_apn_id, routing_policy}
@@ -11,11 +10,12 @@ use Rattle.message.specs.Positions.{names, name_at}
 use Rattle.message.specs.Spans.{bytes_field, policy_code, policy_of}
 use Rattle.message.proofs.Listing.{may-stop, may-go, routes-go, routes-stop, listed-refused, told-policy}
 use Rattle.request.proofs.policy_end.Goals as goal
+use Rattle.request.proofs.policy_end.Goals.{In_default}
 
 abbrev behind_label : ℕ → List Avp → List ℕ
 behind_label most xs = field_code xs (texts_field most routing_policy true) ∷ []
 
-labelled : (p : goal.In_default) (most : ℕ) → policy_code most (avps p.args.m.now) ≡ first_of (behind_label most (avps p.args.m.now))
+labelled : (p : In_default) (most : ℕ) → policy_code most (avps p.args.m.now) ≡ first_of (behind_label most (avps p.args.m.now))
 unfolding policy_code label_field bytes_field name_at names
 labelled p most =
     let a = p.args in
@@ -34,15 +34,17 @@ returns-in-Code c =
 
 pub returns-in_default-routes : goal.returns-in_default-routes
 returns-in_default-routes c =
+    let w = goal.at.returns-in_default-routes c in
     λ most e.
     let a = c.args in
     let m = c.args.m.now in
-    let st = routes-stop most m [] a.routes e c.routes_refusal.result c.in_default-routes.in_default-routes-own.keys2 c.routes_refusal.ensures in
-    listed-refused m (policy_code most (avps m)) (policy_of (avps m)) c.routes_refusal.result (labelled c.before.before most ∙ st.0) st.1
+    let st = routes-stop most m [] a.routes e c.routes_refusal.result (opened c.in_default-routes.in_default-routes-own.keys2) c.routes_refusal.ensures in
+    listed-refused m (policy_code most (avps m)) (policy_of (avps m)) c.routes_refusal.result (labelled w.In_default most ∙ st.0) st.1
 
 pub returns : goal.returns
 unfolding first_of
 returns c =
+    let w = goal.at.returns c in
     λ most e.
     let a = c.args in
     let m = c.args.m.now in
@@ -52,4 +54,4 @@ returns c =
     let k = c.in-Brought.is in
     told-policy most m a.user a.session first second third c.requires.1 c.requires.2
     (e.first first second third k) (e.second first second third k) (e.third first second third k)
-    (labelled c.before.before.before most ∙ routes-go most m [] a.routes e first second third k)
+    (labelled w.In_default most ∙ routes-go most m [] a.routes e first second third k)

@@ -1,6 +1,5 @@
 -- The header, the walk, then both lists.
 use mathlib.Core.Path.{refl, sym, ◌∙◌}
-use borrow.Author.Rules.{rules}
 use Rattle.octets.specs.Texts.{zeros}
 use Rattle.message.proofs.Listing.{heard-header, heard-walk}
 use Rattle.request.proofs.read.Goals as goal

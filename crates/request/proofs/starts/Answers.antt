@@ -2,7 +2,6 @@
 use mathlib.Core.Path.{◌≡◌, sym, ◌∙◌}
 use Prim.Native.Nat.{ℕ}
 use lib.ListN.{drop}
-use borrow.Author.Rules.{rules}
 use lib.Seq.{get_or-drop}
 use lib.Dec.{eqb}
 use Rattle.message.specs.ReadingAMessage.{same_name, session_id}
