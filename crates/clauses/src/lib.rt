@@ -119,7 +119,7 @@ fn broken_form(r: &[u8]) -> Clause
 // Each access names an entry that exists.
 fn entries_exist(r: &[u8]) -> bool
     requires { (is_row r.now ≡ true) × (line_exact r.now ≡ true) }
-    ensures* { λ x. ⌜ x ≡ every (λ (x : Access). within 1 (length (read_row r.now).entries) x.entry) (read_row r.now).accesses ⌝ }
+    ensures { result ≡ every (λ (x : Access). within 1 (length (read_row r.now).entries) x.entry) (read_row r.now).accesses }
 {
     let n = soundness::accesses_in_use(r);
     let most = row::entry_count(r);

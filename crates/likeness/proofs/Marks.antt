@@ -16,7 +16,7 @@ use Rattle.octets.proofs.Lists.{by-test, both, and_left, and_right, every_of, no
 use Rattle.octets.proofs.Texts.{length-zeros}
 use Rattle.message.specs.ReadingAMessage.{Name, base, vendor, same_name, Avp, having}
 use Rattle.message.proofs.Gathering.{same-name-refl, same-name-eq}
-use Rattle.likeness.specs.TheSameAnswer.{failed_avp, flag_byte, same_avp, first_is, fits, complete}
+use Rattle.likeness.specs.TheSameAnswer.{failed_avp, same_avp, first_is, fits, complete}
 use Rattle.likeness.specs.Code.{avp_at, avps_from, named_from, next_at, mark_count, mark_of, leads_in, Leads, Kept, Marked, Behind, Noted}
 use Rattle.likeness.proofs.Places.{inside, from-none, next-end, named-base, named-vendor}
 use Rattle.likeness.proofs.Named.{having-none, having-other, having-one, count-here, count_none}

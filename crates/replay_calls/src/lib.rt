@@ -155,7 +155,7 @@ pub fn play_add(table: &mut [u8], r: &[u8]) -> Verdict
 }
 
 // What stands behind the texts of a request, which the form and the operator come before: the word of the WAG, and the two rooms.
-#[derive(Drop)]
+#[derive(Clone, Copy)]
 pub struct Rooms {
     pub wag: bool,
     pub answer: usize,
@@ -449,7 +449,7 @@ fn small(n: usize) -> u32 {
 }
 
 // Where the texts of a burst end: own host, own realm, messages, words of the WAG.
-#[derive(Drop)]
+#[derive(Clone, Copy)]
 struct Ends {
     host: usize,
     realm: usize,

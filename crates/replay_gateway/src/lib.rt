@@ -31,7 +31,7 @@ fn reauthorized(g: Reauthorized) -> Got {
 }
 
 // Where the texts of a call end: the own names, the access and the message. The first begins at byte 18.
-#[derive(Drop)]
+#[derive(Clone, Copy)]
 struct Ends {
     host: usize,
     realm: usize,

@@ -23,7 +23,7 @@ fn found(f: Found) -> Got {
 
 // Where the texts of a judgement end: the own names, the request, the row after, the old server's answer and the notice that it told. The first
 // begins at byte 8; the word of the WAG and the two rooms stand between the request and the row after.
-#[derive(Drop)]
+#[derive(Clone, Copy)]
 struct Ends {
     host: usize,
     realm: usize,

@@ -11,7 +11,7 @@ use replay_verdict::Verdict;
 
 // How far a script is played: the records and calls so far, the records that HEADER announces, the calls that differ, and the
 // table's length.
-#[derive(Drop)]
+#[derive(Clone, Copy)]
 pub struct Progress {
     pub records: usize,
     pub announced: usize,
@@ -21,7 +21,7 @@ pub struct Progress {
 }
 
 // What is wrong with a script.
-#[derive(Drop)]
+#[derive(Clone, Copy)]
 pub enum Damage {
     Ends,
     Length,
@@ -35,7 +35,7 @@ pub enum Damage {
 }
 
 // What comes after a record.
-#[derive(Drop)]
+#[derive(Clone, Copy)]
 pub enum Turn {
     Next(Progress),
     End(Progress),

@@ -4,7 +4,7 @@ ghost use Rattle.std.specs.Prelude.{◌≤◌, length};
 use replay_verdict::{number, text_end};
 
 // What may stand in a number's place.
-#[derive(Drop)]
+#[derive(Clone, Copy)]
 pub enum Told {
     Number(usize),
     Nothing,

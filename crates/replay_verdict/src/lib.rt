@@ -10,7 +10,7 @@ use replay_script::{digest, first_unlike, is_filled};
 
 // A call is as expected, or differs: in which field, where in it, what was expected and what was got; or its record does not
 // have the form of its type.
-#[derive(Drop)]
+#[derive(Clone, Copy)]
 pub enum Verdict {
     Agrees,
     Differs(u32, usize, usize, usize),
@@ -19,7 +19,7 @@ pub enum Verdict {
 
 // The numbers that a call returns; of a set-up operation all but the first are 0. A burst has its own five: its number, how many messages and bytes were
 // taken, how many bytes of answers and how many notices were written.
-#[derive(Drop)]
+#[derive(Clone, Copy)]
 pub struct Got {
     pub code: u32,
     pub kind: u32,

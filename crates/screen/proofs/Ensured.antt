@@ -8,6 +8,7 @@ use base.Logic.{SProp}
 use contract.Lifetimes.{Lfts}
 use contract.Monad.{Fun, fact}
 use denote.Ref.{Bor}
+use denote.MutBor.{MutBor}
 use denote.Triple.Clauses.{AtExit}
 use types.Logic.{Logic}
 use prog.Memory.{Memory}
@@ -23,7 +24,7 @@ use Rattle.screen.proofs.TheBoardsRules.{one-feed, one-count}
 
 -- screens, session, event
 abbrev Fed : Type 0
-Fed = Bor (List Screen) × (Bor (List ℕ) × (Event × Unit {0}))
+Fed = MutBor (List Screen) × (Bor (List ℕ) × (Event × Unit {0}))
 
 abbrev FedSays : (κs : Lfts 2) → Fed → ℕ → AtExit Feed.ended κs → Type 0
 FedSays κs a n x = leaves n x.0.now ≡ feed a.0.now a.1.0.now (event_said a.1.1.0)

@@ -6,8 +6,5 @@ pub mod Leaving
 pub mod WorkedCases
 pub mod TheBoardsRules
 pub mod Ensured
-pub mod Lent
 pub mod Telling
-pub mod Shared
 pub mod Surveying
-pub mod Walking

@@ -11,7 +11,6 @@ use lib.ListN.{length, get_or, take, length-append}
 use lib.Seq.{take-length, length-take-le}
 use Rattle.octets.specs.Choice.{pick, within}
 use Rattle.octets.specs.Lists.{every, keep, distinct}
-use Rattle.octets.specs.Texts.{same}
 use Rattle.octets.proofs.Lists.{by-test, and_left, and_right, both, distinct_snoc, keep_snoc, keep-length}
 use Rattle.screen.specs.TheBoard.{session_of, same_screen, sized, right, is_of, on_board, is_connected, count_connected}
 use Rattle.screen.specs.Code.{none, counts, Found}

@@ -2,7 +2,7 @@
 use mathlib.Core.Path.{◌≡◌, refl, sym, ap, subst, ◌∙◌}
 use mathlib.Core.Bool.{Bool, true, false, ◌&&◌, not}
 use mathlib.Core.List.{List, [], ◌∷◌, map}
-use Prim.Native.Nat.{ℕ, zero, suc, ◌+◌, ◌≤◌, ◌<◌}
+use Prim.Native.Nat.{ℕ, zero, suc, ◌≤◌}
 use native.Mathlib.Omega.{arith}
 use borrow.Author.Tests.{eqb-true, leb-true}
 use lib.Dec.{eqb}
@@ -10,7 +10,7 @@ use lib.ListN.{length, get_or, length-map}
 use Rattle.octets.specs.Choice.{pick, require, first_of}
 use Rattle.octets.specs.Lists.{every, distinct}
 use Rattle.octets.specs.Texts.{same}
-use Rattle.octets.proofs.Lists.{by-test, and_left, and_right, same-eq, same_refl, keep-length}
+use Rattle.octets.proofs.Lists.{by-test, and_left, same-eq, keep-length}
 use Rattle.screen.specs.TheBoard.{
   State,
   off,
@@ -47,7 +47,6 @@ use Rattle.screen.specs.Code.{leaves, count_said}
 use Rattle.screen.specs.declared.Count.{Count}
 use Rattle.screen.specs.declared.Screen.{Screen}
 use Rattle.screen.specs.TheBoardsRules.{OneEntry, SameLength, SessionsStay, StaysRight, RefusedStays, EitherOrder, CountIs, CountedShow, AtMost64, OneFeed, OneCount}
-use Rattle.screen.proofs.Entries.{every-at}
 use Rattle.screen.proofs.Feeding.{not-false, told-other, told_none}
 
 -- A FEED, AS ONE MAP
@@ -146,7 +145,7 @@ module _ (session : List ℕ) (event : Event) where
   once x [] = refl
   once x (y ∷ l) =
       let r : every (λ y. not (same_screen (told session event x) y)) (map (told session event) l) ≡ every (λ y. not (same_screen x y)) l = once x l in
-      rw (told-session x, told-session y) (ap (◌&&◌ (not (same (session_of x) (session_of y)))) (rw (told-session x) at r))
+      rw (told-session x, told-session y) (ap (◌&&◌ (not (same (session_of x) (session_of y)))) r)
 
   differ : (l : List Screen) → distinct same_screen (map (told session event) l) ≡ distinct same_screen l
   unfolding distinct

@@ -1,6 +1,6 @@
 // The screen board: a list of screens that the caller lends, fed with requests, results and notices, and the number of connected screens.
-// The list is a slice of structs. The borrow checker covers no function that holds one, so the five that do (`stands_among`, `survey`, `connected`, `tell` and
-// `feed`) are thin, with proofs by hand; what is decided of a screen is decided by the others, which take it apart.
+// The list is a slice of structs. The five functions that hold it (`stands_among`, `survey`, `connected`, `tell` and `feed`) are thin; what is decided of a screen is
+// decided by the others, which take it apart.
 #![tactic(auto)]
 
 ghost use Rattle.std.specs.Prelude.{◌≡◌, true, ◌+◌, ◌≤◌, ◌<◌, length, get_or, set, take, eqb};

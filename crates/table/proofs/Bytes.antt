@@ -2,7 +2,7 @@
 use mathlib.Core.Path.{◌≡◌, refl, sym, ap, ◌∙◌}
 use mathlib.Core.Bool.{true, ◌&&◌, not}
 use mathlib.Core.List.{List, [], ◌∷◌, ◌++◌, map, append_assoc}
-use Prim.Native.Nat.{ℕ, zero, suc, ◌+◌, ◌-◌, ◌*◌, ◌≤◌, ◌<◌}
+use Prim.Native.Nat.{ℕ, zero, suc, ◌+◌, ◌-◌, ◌*◌, ◌%◌, ◌≤◌, ◌<◌}
 use native.Mathlib.Omega.{arith}
 use borrow.Author.Tests.{leb-true, eq-eqb, ne_eqb, not-true}
 use lib.Dec.{eqb, leb}
@@ -23,7 +23,7 @@ use Rattle.table.specs.TheTable.{block_length, Access, Entry, Subscriber, access
 length-sums_from : (a b : ℕ) (s : List ℕ) → length (sums_from a b s) ≡ 2
 unfolding sums_from
 length-sums_from a b [] = refl
-length-sums_from a b (x ∷ s) = length-sums_from _ _ s
+length-sums_from a b (x ∷ s) = length-sums_from ((a + x) % 255) ((b + (a + x) % 255) % 255) s
 
 pub length-sealed : (s : List ℕ) → length (sealed s) ≡ length s + 2
 unfolding sealed

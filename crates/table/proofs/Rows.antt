@@ -10,7 +10,7 @@ use lib.Dec.{eqb, leb, ltb}
 use lib.ListN.{length, get_or, set, take, drop}
 use lib.Seq.{drop-drop, get_or-drop, get_or-take}
 use Rattle.octets.specs.Choice.{pick, require, within}
-use Rattle.octets.specs.Texts.{part, pieces, put, same, all_zero}
+use Rattle.octets.specs.Texts.{part, pieces, same, all_zero}
 use Rattle.octets.specs.Lists.{keep}
 use Rattle.octets.proofs.Choice.{first_passes, others-pass, passed}
 use Rattle.octets.specs.Numbers.{low64}

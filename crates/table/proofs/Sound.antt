@@ -18,7 +18,7 @@ use Rattle.table.proofs.Bytes.{length-row, read_place, said-good, said-is, said_
 use Rattle.table.proofs.Form.{Sized, access_tests, block_tests, entries_tests, entry_tests, every-on, head_tests, is-sized, length-head-of, length-place-of, length-read, line_read, place_tests, said-tests, second_tests, sized, sum_ok, tests}
 use Rattle.table.proofs.Good.{Entered, Fits, Good, Standing, by_form, each-entry, good-is, good_access, good_entry, places-eight, said_sound, spare, stand, standing}
 use Rattle.table.specs.Soundness.{access_form, entries_form, entry_form, has_form, head_form, in_use, is_name, is_row, labels, limits, line_exact, of_blocks, only_behind, place_form, place_sums, policies_in_order, policy_marked, same_label, second_form, sessions, sound, sums_agree, under_limits, zero_behind}
-use Rattle.table.specs.TheTable.{block_length, Access, Entry, Subscriber, access_at, first_block, form_of, from_bits, head, is_form, order_line, place, place_length, places, second_block, read_access, read_entries, read_entry, read_row, row_bytes, row_length, sums, sums_from, used_bits}
+use Rattle.table.specs.TheTable.{block_length, Access, Entry, Subscriber, access_at, first_block, form_of, from_bits, head, is_form, order_line, place, place_length, places, second_block, read_access, read_entries, read_entry, read_row, row_bytes, sums_from, used_bits}
 
 -- BITS
 

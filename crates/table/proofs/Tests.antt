@@ -2,10 +2,10 @@
 use mathlib.Core.Path.{◌≡◌, refl, sym, ap, ◌∙◌}
 use mathlib.Core.Bool.{Bool, true, false, not, ◌&&◌, and_assoc, and-true}
 use mathlib.Core.List.{List, [], ◌∷◌}
-use Prim.Native.Nat.{ℕ, zero, suc, ◌+◌, ◌-◌, ◌*◌, ◌≤◌, ◌<◌}
+use Prim.Native.Nat.{ℕ, suc, ◌+◌, ◌-◌, ◌≤◌, ◌<◌}
 use native.Mathlib.Omega.{arith}
 use native.Mathlib.Numerals.{add-one}
-use borrow.Author.Tests.{le-leb, lt-leb, eq-eqb, leb-true, ne_eqb, not-true, not-false}
+use borrow.Author.Tests.{le-leb, lt-leb, eq-eqb, leb-true, ne_eqb}
 use lib.Dec.{eqb, leb}
 use lib.ListN.{length, get_or, take, drop, length-drop, drop_of_length-le}
 use lib.Seq.{drop-cons, take_all}
@@ -13,7 +13,6 @@ use Rattle.octets.specs.Choice.{pick, within}
 use Rattle.octets.specs.Lists.{every, distinct, up_to0}
 use Rattle.octets.specs.Texts.{part, same, all_zero}
 use Rattle.octets.proofs.Lists.{by-test, and_left, and_right, both, within-high}
-use Rattle.octets.proofs.Texts.{length_part}
 use Rattle.table.specs.TheTable.{block_length}
 use Rattle.table.proofs.Sound.{Headed, head_of, text-within}
 use Rattle.table.specs.Soundness.{zero_behind, access_form, is_name, is_digit, head_form, second_form}
@@ -67,11 +66,11 @@ module _ {A : Type 0} (d : A) where
 -- WHAT A CALL SAID
 
 -- a test that did not pass, and one that did
-pub fails : {x y : Bool} → x ≡ y → not x ≡ true → y ≡ false
-fails {x} e n = sym e ∙ not-true x n
+pub fails : {x y : Bool} → x ≡ y → x ≡ false → y ≡ false
+fails e n = sym e ∙ n
 
-pub passes_on : {x y : Bool} → x ≡ y → not x ≡ false → y ≡ true
-passes_on {x} e n = sym e ∙ not-false x n
+pub passes_on : {x y : Bool} → x ≡ y → x ≡ true → y ≡ true
+passes_on e n = sym e ∙ n
 
 -- where one of the first two tests fails, the third does not matter
 pub both-fail : (a b c : Bool) → a && b ≡ false → a && (b && c) ≡ false

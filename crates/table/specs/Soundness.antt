@@ -3,7 +3,7 @@ use Rattle.std.specs.Prelude.{Bool, true, ◌&&◌, List, [], ◌∷◌, map, �
 use Rattle.octets.specs.Choice.{pick, within}
 use Rattle.octets.specs.Lists.{every, keep, distinct, sum_of, up_to0}
 use Rattle.octets.specs.Texts.{part, same, all_zero}
-use Rattle.table.specs.TheTable.{sums, Entry, Access, Subscriber, is_form, form_of, places, line, used_bits, row_length, head, place, first_block, second_block, order_line, read_row}
+use Rattle.table.specs.TheTable.{sums, Entry, Access, Subscriber, is_form, form_of, places, used_bits, row_length, head, place, first_block, second_block, order_line, read_row}
 
 -- THE FORM
 

@@ -3,12 +3,13 @@
 #![tactic(auto)]
 
 use abort::Written;
+use system::System;
 use tool_notice_line::Lengths;
 use tool_operator::Number;
 use tool_words::{number, say};
 
 // The files that are open, and the identifiers of the first request.
-#[derive(Drop)]
+#[derive(Clone, Copy)]
 struct Desk {
     notices: i32,
     requests: i32,
@@ -16,7 +17,7 @@ struct Desk {
 }
 
 // How many notices were read, and how many requests written; `going` is false at the end of the file, `well` once something could not be read or written.
-#[derive(Drop)]
+#[derive(Clone, Copy)]
 struct Done {
     notices: usize,
     requests: usize,
@@ -61,7 +62,13 @@ fn begin(
 }
 
 // The line of a notice that no request was made of; whether it could be said.
-fn tell_refused(k: usize, notice: &[u8; answers::NOTICE_LENGTH_2], l: Lengths, why: u32) -> bool {
+fn tell_refused(
+    sys: &System,
+    k: usize,
+    notice: &[u8; answers::NOTICE_LENGTH_2],
+    l: Lengths,
+    why: u32,
+) -> bool {
     let mut out = [0u8; 4096];
     let a = begin(&mut out, k, notice, l);
     let b = say(&mut out, a, b"no request, number ");
@@ -69,11 +76,12 @@ fn tell_refused(k: usize, notice: &[u8; answers::NOTICE_LENGTH_2], l: Lengths, w
     let d = say(&mut out, c, b": ");
     let e = tool_names::not_written(&mut out, d, why);
     let f = say(&mut out, e, b"\n");
-    tool_files::print(&out, f)
+    tool_files::print(sys, &out, f)
 }
 
 // The line of one that a request was made of, likewise.
 fn tell_written(
+    sys: &System,
     k: usize,
     notice: &[u8; answers::NOTICE_LENGTH_2],
     l: Lengths,
@@ -87,19 +95,19 @@ fn tell_written(
     let d = say(&mut out, c, b" bytes, identifiers ");
     let e = number(&mut out, d, id as u64);
     let f = say(&mut out, e, b"\n");
-    tool_files::print(&out, f)
+    tool_files::print(sys, &out, f)
 }
 
 // The first n bytes of the room, written; why not is said of the file.
-fn put(fd: i32, path: &[u8], room: &[u8; abort::ROOM_LEAST], n: usize) -> bool {
+fn put(sys: &System, fd: i32, path: &[u8], room: &[u8; abort::ROOM_LEAST], n: usize) -> bool {
     let all: &[u8] = room;
     if all.len() < n {
         return false;
     }
-    if io::write_all(fd, &all[0..n]) {
+    if sys.write_all(fd, &all[0..n]) {
         return true;
     }
-    tool_files::refuse_file(path);
+    tool_files::refuse_file(sys, path);
     false
 }
 
@@ -115,6 +123,7 @@ fn counted(d: Done, requests: usize, said: bool) -> Done {
 
 // A request made of a notice, written and said.
 fn abort_one(
+    sys: &System,
     desk: Desk,
     path: &[u8],
     host: &[u8],
@@ -130,36 +139,44 @@ fn abort_one(
     );
     let k = more(d.notices);
     if w.number != 0 {
-        return counted(d, d.requests, tell_refused(k, notice, l, w.number));
+        return counted(d, d.requests, tell_refused(sys, k, notice, l, w.number));
     }
-    if !put(desk.requests, path, &room, w.length) {
+    if !put(sys, desk.requests, path, &room, w.length) {
         return ended(d, false);
     }
     counted(
         d,
         more(d.requests),
-        tell_written(k, notice, l, id, w.length),
+        tell_written(sys, k, notice, l, id, w.length),
     )
 }
 
 // ALL NOTICES
 
 // The next notice of the file.
-fn step(desk: Desk, from: &[u8], to: &[u8], host: &[u8], realm: &[u8], d: Done) -> Done {
+fn step(
+    sys: &System,
+    desk: Desk,
+    from: &[u8],
+    to: &[u8],
+    host: &[u8],
+    realm: &[u8],
+    d: Done,
+) -> Done {
     let mut notice = [0u8; answers::NOTICE_LENGTH_2];
-    let got = tool_notices::read(desk.notices, 2, &mut notice);
+    let got = tool_notices::read(sys, desk.notices, 2, &mut notice);
     if got == 0 {
         return ended(d, true);
     }
     if got < answers::NOTICE_LENGTH_2 {
-        tool_notices::refuse_end(from, 2, more(d.notices));
+        tool_notices::refuse_end(sys, from, 2, more(d.notices));
         return ended(d, false);
     }
-    abort_one(desk, to, host, realm, &notice, d)
+    abort_one(sys, desk, to, host, realm, &notice, d)
 }
 
 // A proved loop has to end, and nothing says that a file does, so the turns are counted down.
-fn follow(desk: Desk, from: &[u8], to: &[u8], host: &[u8], realm: &[u8]) -> Done {
+fn follow(sys: &System, desk: Desk, from: &[u8], to: &[u8], host: &[u8], realm: &[u8]) -> Done {
     let mut d = Done {
         notices: 0,
         requests: 0,
@@ -169,7 +186,7 @@ fn follow(desk: Desk, from: &[u8], to: &[u8], host: &[u8], realm: &[u8]) -> Done
     let mut turns: usize = 4294967296;
     while turns > 0 {
         turns -= 1;
-        d = step(desk, from, to, host, realm, d);
+        d = step(sys, desk, from, to, host, realm, d);
         if !d.going {
             return d;
         }
@@ -177,44 +194,48 @@ fn follow(desk: Desk, from: &[u8], to: &[u8], host: &[u8], realm: &[u8]) -> Done
     d
 }
 
-fn summary(d: Done) {
+fn summary(sys: &System, d: Done) {
     let mut out = [0u8; 4096];
     let a = number(&mut out, 0, d.notices as u64);
     let b = say(&mut out, a, b" notices, ");
     let c = number(&mut out, b, d.requests as u64);
     let e = say(&mut out, c, b" requests written\n");
-    tool_files::print(&out, e);
+    tool_files::print(sys, &out, e);
 }
 
-fn abort_all(desk: Desk, from: &[u8], to: &[u8], host: &[u8], realm: &[u8]) {
-    let d = follow(desk, from, to, host, realm);
+fn abort_all(sys: &System, desk: Desk, from: &[u8], to: &[u8], host: &[u8], realm: &[u8]) {
+    let d = follow(sys, desk, from, to, host, realm);
     if !d.well {
         return;
     }
-    if tool_sheets::force_out(desk.requests, to) {
-        summary(d);
+    if tool_sheets::force_out(sys, desk.requests, to) {
+        summary(sys, d);
     }
 }
 
 // THE COMMAND
 
 // Whether the library takes the own names, asked with a notice that has nothing wrong; if not, that is said.
-fn check_names(host: &[u8], realm: &[u8]) -> bool {
+fn check_names(sys: &System, host: &[u8], realm: &[u8]) -> bool {
     let notice = [65u8; answers::NOTICE_LENGTH_2];
     let mut room = [0u8; abort::ROOM_LEAST];
     let w = abort::write(host, realm, &notice, 1, 1, 1, 0, 0, &mut room);
     if w.number == 0 {
         return true;
     }
-    tool_files::refuse(b"number 2: own host or realm is not 1 to 128 bytes; nothing is written");
+    tool_files::refuse(
+        sys,
+        b"number 2: own host or realm is not 1 to 128 bytes; nothing is written",
+    );
     false
 }
 
 // Whether the notices in an open file have realms; why not is said.
-fn check_form(fd: i32, path: &[u8], said: u32) -> bool {
-    let form = tool_notices::form_of(fd, path, said);
+fn check_form(sys: &System, fd: i32, path: &[u8], said: u32) -> bool {
+    let form = tool_notices::form_of(sys, fd, path, said);
     if form == 1 {
         tool_files::refuse_word(
+            sys,
             path,
             b": notices of form 1: a request needs the gateway's realm, which only form 2 has",
         );
@@ -222,18 +243,26 @@ fn check_form(fd: i32, path: &[u8], said: u32) -> bool {
     form == 2
 }
 
-fn open_and_abort(said: u32, first: u32, from: &[u8], to: &[u8], host: &[u8], realm: &[u8]) {
-    if !check_names(host, realm) {
+fn open_and_abort(
+    sys: &System,
+    said: u32,
+    first: u32,
+    from: &[u8],
+    to: &[u8],
+    host: &[u8],
+    realm: &[u8],
+) {
+    if !check_names(sys, host, realm) {
         return;
     }
-    let notices = tool_files::open_plain(from);
+    let notices = tool_files::open_plain(sys, from);
     if notices < 0 {
         return;
     }
-    if !check_form(notices, from, said) {
+    if !check_form(sys, notices, from, said) {
         return;
     }
-    let requests = tool_sheets::open_beside(to, notices);
+    let requests = tool_sheets::open_beside(sys, to, notices);
     if requests < 0 {
         return;
     }
@@ -242,70 +271,79 @@ fn open_and_abort(said: u32, first: u32, from: &[u8], to: &[u8], host: &[u8], re
         requests,
         first,
     };
-    abort_all(desk, from, to, host, realm);
+    abort_all(sys, desk, from, to, host, realm);
 }
 
 // Whether word i, if it is there, is the first that says the identifiers or the first that says a form.
-fn is_word(i: usize) -> bool {
-    if os::arg_count() <= i {
+fn is_word(sys: &System, i: usize) -> bool {
+    if sys.arg_count() <= i {
         return true;
     }
-    if tool_operator::find(6, b"first=") == i {
+    if tool_operator::find(sys, 6, b"first=") == i {
         return true;
     }
-    tool_operator::find(6, b"form=") == i
+    tool_operator::find(sys, 6, b"form=") == i
 }
 
-fn check_words() -> bool {
-    if is_word(6) {
-        if is_word(7) {
+fn check_words(sys: &System) -> bool {
+    if is_word(sys, 6) {
+        if is_word(sys, 7) {
             return true;
         }
     }
     tool_files::refuse(
+        sys,
         b"the last words may be first=N and form=1 or form=2, each once, and nothing else",
     );
     false
 }
 
 // The identifiers that word i says, 1 where there is no such word. One that says no number gets its line.
-fn first_of(i: usize) -> Number {
+fn first_of(sys: &System, i: usize) -> Number {
     if i == 0 {
         return Number::Is(1);
     }
-    let said = tool_operator::number_behind(i, 6);
+    let said = tool_operator::number_behind(sys, i, 6);
     let Number::Is(n) = said else {
-        tool_files::refuse(b"behind first= stands a number, 0 to 99999999");
+        tool_files::refuse(sys, b"behind first= stands a number, 0 to 99999999");
         return Number::Nothing;
     };
     Number::Is(n)
 }
 
 // The four words, under what the others say.
-fn run_under(form: u32, first: u32) {
+fn run_under(sys: &System, form: u32, first: u32) {
     let mut from = io::buffer();
     let mut to = io::buffer();
     let mut host = io::buffer();
     let mut realm = io::buffer();
-    let a = os::arg(2, &mut from);
-    let b = os::arg(3, &mut to);
-    let c = os::arg(4, &mut host);
-    let d = os::arg(5, &mut realm);
-    open_and_abort(form, first, &from[..a], &to[..b], &host[..c], &realm[..d]);
+    let a = sys.arg(2, &mut from);
+    let b = sys.arg(3, &mut to);
+    let c = sys.arg(4, &mut host);
+    let d = sys.arg(5, &mut realm);
+    open_and_abort(
+        sys,
+        form,
+        first,
+        &from[..a],
+        &to[..b],
+        &host[..c],
+        &realm[..d],
+    );
 }
 
 // NOTICES REQUESTS HOST REALM [first=N] [form=F].
-pub fn run() {
-    if !check_words() {
+pub fn run(sys: &System) {
+    if !check_words(sys) {
         return;
     }
-    let word = tool_form::word(tool_operator::find(6, b"form="));
+    let word = tool_form::word(sys, tool_operator::find(sys, 6, b"form="));
     let Number::Is(form) = word else {
         return;
     };
-    let said = first_of(tool_operator::find(6, b"first="));
+    let said = first_of(sys, tool_operator::find(sys, 6, b"first="));
     let Number::Is(first) = said else {
         return;
     };
-    run_under(form, first);
+    run_under(sys, form, first);
 }

@@ -7,6 +7,7 @@ ghost use Rattle.message.specs.CallsThatGetNoAnswer.{message_most};
 
 use message::Span;
 use reader::{Seen, Step};
+use system::System;
 use tool_streams::{Source, Way};
 use tool_words::{number, say};
 
@@ -123,7 +124,7 @@ fn compare_at(all: &[u8], at: usize, n: usize, answer: &[u8]) -> u8 {
 
 // The request that an answer belongs to: where it stands, and its number, counted from 1. If there is none, the number of one that has its identifiers,
 // 0 for none.
-#[derive(Drop)]
+#[derive(Clone, Copy)]
 struct Match {
     found: bool,
     at: usize,
@@ -188,7 +189,7 @@ fn is_request_at(all: &[u8], at: usize, n: usize) -> bool {
     s.at != 0
 }
 
-fn refuse_request(path: &[u8], k: usize) {
+fn refuse_request(sys: &System, path: &[u8], k: usize) {
     let mut out = [0u8; 4096];
     let a = say(&mut out, 0, b"play: ");
     let b = tool_words::text(&mut out, a, path);
@@ -199,12 +200,12 @@ fn refuse_request(path: &[u8], k: usize) {
         d,
         b" is no Abort-Session-Request with its Session-Id first\n",
     );
-    tool_files::note(&out, e);
-    tool_files::mark();
+    tool_files::note(sys, &out, e);
+    tool_files::mark(sys);
 }
 
 // Whether all are such requests; which is not is said.
-fn check_requests(path: &[u8], all: &[u8]) -> bool {
+fn check_requests(sys: &System, path: &[u8], all: &[u8]) -> bool {
     let mut at: usize = 0;
     let mut k: usize = 1;
     while k < 4294967296 {
@@ -213,7 +214,7 @@ fn check_requests(path: &[u8], all: &[u8]) -> bool {
             return true;
         }
         if !is_request_at(all, at, n) {
-            refuse_request(path, k);
+            refuse_request(sys, path, k);
             return false;
         }
         at = sum(at, n);
@@ -249,20 +250,20 @@ fn say_session_at(out: &mut [u8; 4096], at: usize, all: &[u8], from: usize, n: u
 }
 
 // The line of request k where it has no answer; whether it could be said.
-fn tell_open(all: &[u8], at: usize, n: usize, k: usize) -> bool {
+fn tell_open(sys: &System, all: &[u8], at: usize, n: usize, k: usize) -> bool {
     let mut out = [0u8; 4096];
     let a = say(&mut out, 0, b"request ");
     let b = number(&mut out, a, k as u64);
     let c = say(&mut out, b, b", ");
     let d = say_session_at(&mut out, c, all, at, n);
     let e = say(&mut out, d, b": no answer\n");
-    tool_files::print(&out, e)
+    tool_files::print(sys, &out, e)
 }
 
 // THE ANSWERS
 
 // How far the answers are read, and how many of them belong to a request.
-#[derive(Drop)]
+#[derive(Clone, Copy)]
 struct Told {
     way: Way,
     good: usize,
@@ -338,19 +339,19 @@ fn say_match(out: &mut [u8; 4096], at: usize, all: &[u8], f: Match, answer: &[u8
 }
 
 // The line of answer k; whether it could be said.
-fn tell(k: usize, all: &[u8], f: Match, answer: &[u8]) -> bool {
+fn tell(sys: &System, k: usize, all: &[u8], f: Match, answer: &[u8]) -> bool {
     let mut out = [0u8; 4096];
     let a = number(&mut out, 0, k as u64);
     let b = say(&mut out, a, b". ");
     let c = say_match(&mut out, b, all, f, answer);
     let d = say(&mut out, c, b"\n");
-    tool_files::print(&out, d)
+    tool_files::print(sys, &out, d)
 }
 
 // An answer held against the requests, which is said.
-fn hold(all: &mut [u8], answer: &[u8], way: Way, good: usize) -> Told {
+fn hold(sys: &System, all: &mut [u8], answer: &[u8], way: Way, good: usize) -> Told {
     let f = find(all, answer);
-    if !tell(way.messages, all, f, answer) {
+    if !tell(sys, way.messages, all, f, answer) {
         return Told {
             way: tool_streams::over(way, false),
             good,
@@ -367,7 +368,7 @@ fn hold(all: &mut [u8], answer: &[u8], way: Way, good: usize) -> Told {
 }
 
 // The first n bytes of the room as the next answer.
-fn take(all: &mut [u8], room: &[u8; 8192], way: Way, good: usize) -> Told {
+fn take(sys: &System, all: &mut [u8], room: &[u8; 8192], way: Way, good: usize) -> Told {
     let text: &[u8] = room;
     let n = way.last;
     if text.len() < n {
@@ -376,21 +377,21 @@ fn take(all: &mut [u8], room: &[u8; 8192], way: Way, good: usize) -> Told {
             good,
         };
     }
-    hold(all, &text[0..n], way, good)
+    hold(sys, all, &text[0..n], way, good)
 }
 
-fn step(fd: i32, path: &[u8], all: &mut [u8], t: Told) -> Told {
+fn step(sys: &System, fd: i32, path: &[u8], all: &mut [u8], t: Told) -> Told {
     let mut room = [0u8; 8192];
     let before = t.way;
-    let way = tool_streams::look(Source { fd, hex: false }, path, before, &mut room);
+    let way = tool_streams::look(sys, Source { fd, hex: false }, path, before, &mut room);
     if way.last == 0 {
         return Told { way, good: t.good };
     }
-    take(all, &room, way, t.good)
+    take(sys, all, &room, way, t.good)
 }
 
 // A proved loop has to end, and nothing says that a file does, so the turns are counted down.
-fn follow(fd: i32, path: &[u8], all: &mut [u8]) -> Told {
+fn follow(sys: &System, fd: i32, path: &[u8], all: &mut [u8]) -> Told {
     let mut t = Told {
         way: tool_streams::start(),
         good: 0,
@@ -398,7 +399,7 @@ fn follow(fd: i32, path: &[u8], all: &mut [u8]) -> Told {
     let mut turns: usize = 4294967296;
     while turns > 0 {
         turns -= 1;
-        t = step(fd, path, all, t);
+        t = step(sys, fd, path, all, t);
         let way = t.way;
         if way.last == 0 {
             return t;
@@ -410,13 +411,13 @@ fn follow(fd: i32, path: &[u8], all: &mut [u8]) -> Told {
 // THE END
 
 // How many requests there are, and how many of them have no answer, each of which is said.
-#[derive(Drop)]
+#[derive(Clone, Copy)]
 struct Left {
     requests: usize,
     without: usize,
 }
 
-fn list_open(all: &[u8]) -> Left {
+fn list_open(sys: &System, all: &[u8]) -> Left {
     let mut without: usize = 0;
     let mut at: usize = 0;
     let mut k: usize = 1;
@@ -429,7 +430,7 @@ fn list_open(all: &[u8]) -> Left {
             };
         }
         if !is_marked(all, at) {
-            tell_open(all, at, n, k);
+            tell_open(sys, all, at, n, k);
             without = more(without);
         }
         at = sum(at, n);
@@ -441,7 +442,7 @@ fn list_open(all: &[u8]) -> Left {
     }
 }
 
-fn summary(answers: usize, good: usize, l: Left) -> bool {
+fn summary(sys: &System, answers: usize, good: usize, l: Left) -> bool {
     let mut out = [0u8; 4096];
     let a = number(&mut out, 0, answers as u64);
     let b = say(&mut out, a, b" answers, ");
@@ -451,75 +452,75 @@ fn summary(answers: usize, good: usize, l: Left) -> bool {
     let f = say(&mut out, e, b" requests, ");
     let g = number(&mut out, f, l.without as u64);
     let h = say(&mut out, g, b" without an answer\n");
-    tool_files::print(&out, h)
+    tool_files::print(sys, &out, h)
 }
 
 // What is said once all answers are read.
-fn finish(all: &[u8], t: Told) {
+fn finish(sys: &System, all: &[u8], t: Told) {
     let way = t.way;
     if !way.well {
         return;
     }
-    if !summary(way.messages, t.good, list_open(all)) {
+    if !summary(sys, way.messages, t.good, list_open(sys, all)) {
         return;
     }
     if t.good != way.messages {
-        tool_files::refuse(b"answers came that belong to no request");
+        tool_files::refuse(sys, b"answers came that belong to no request");
     }
 }
 
 // THE COMMAND
 
 // The requests of a file put at the start of the room: how many bytes, 0 where they can not be followed, which is then said.
-fn load(path: &[u8], room: &mut [u8]) -> usize {
-    let fd = tool_files::open_plain(path);
+fn load(sys: &System, path: &[u8], room: &mut [u8]) -> usize {
+    let fd = tool_files::open_plain(sys, path);
     if fd < 0 {
         return 0;
     }
-    if tool_inputs::count(Source { fd, hex: false }, path) < 1 {
+    if tool_inputs::count(sys, Source { fd, hex: false }, path) < 1 {
         return 0;
     }
-    if libc::lseek(fd, 0, libc::SEEK_SET) != 0 {
-        tool_files::refuse_file(path);
+    if !sys.seek_to(fd, 0) {
+        tool_files::refuse_file(sys, path);
         return 0;
     }
-    let n = io::read_full(fd, room);
-    libc::close(fd);
+    let n = sys.read_full(fd, room);
+    sys.close(fd);
     if n < room.len() {
         return n;
     }
-    tool_files::refuse_word(path, b": too long for the room that the program has");
+    tool_files::refuse_word(sys, path, b": too long for the room that the program has");
     0
 }
 
-fn answers_to(path: &[u8], answers: &[u8], all: &mut [u8]) {
-    if !check_requests(path, all) {
+fn answers_to(sys: &System, path: &[u8], answers: &[u8], all: &mut [u8]) {
+    if !check_requests(sys, path, all) {
         return;
     }
-    let fd = tool_files::open_plain(answers);
+    let fd = tool_files::open_plain(sys, answers);
     if fd < 0 {
         return;
     }
-    let t = follow(fd, answers, all);
-    finish(all, t);
+    let t = follow(sys, fd, answers, all);
+    finish(sys, all, t);
 }
 
-fn load_and_hold(path: &[u8], answers: &[u8], room: &mut [u8]) {
-    let n = load(path, room);
+fn load_and_hold(sys: &System, path: &[u8], answers: &[u8], room: &mut [u8]) {
+    let n = load(sys, path, room);
     if n == 0 {
         return;
     }
     if room.len() < n {
         return;
     }
-    answers_to(path, answers, &mut room[0..n]);
+    answers_to(sys, path, answers, &mut room[0..n]);
 }
 
 // REQUESTS ANSWERS.
-pub fn run(room: &mut [u8]) {
+pub fn run(sys: &System, room: &mut [u8]) {
     let mut requests = io::buffer();
     let mut answers = io::buffer();
-    let a = os::arg(2, &mut requests);
-    let b = os::arg(3, &mut answers);
-    load_and_hold(&requests[..a], &answers[..b], room);
+    let a = sys.arg(2, &mut requests);
+    let b = sys.arg(3, &mut answers);
+    load_and_hold(sys, &requests[..a], &answers[..b], room);
 }

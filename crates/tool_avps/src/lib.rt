@@ -4,7 +4,7 @@
 use tool_words::{number, say};
 
 // What a value is.
-#[derive(Drop)]
+#[derive(Clone, Copy)]
 pub enum Form {
     Bytes,
     Text,

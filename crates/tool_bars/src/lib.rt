@@ -1,6 +1,7 @@
 // The year by hour as people look at it: a bar for each hour in the terminal, and a picture for a browser, the cuts beside the openings.
 #![tactic(auto)]
 
+use system::System;
 use tool_words::{number, say};
 
 // SCALE
@@ -93,7 +94,7 @@ fn totals(out: &mut [u8; 4096], at: usize, t: [u64; 4]) -> usize {
 }
 
 // The line of an hour; whether it could be said.
-fn write_line(report: &[u64; 96], hour: usize, most: u64) -> bool {
+fn write_line(sys: &System, report: &[u64; 96], hour: usize, most: u64) -> bool {
     if hour > 23 {
         return false;
     }
@@ -105,15 +106,15 @@ fn write_line(report: &[u64; 96], hour: usize, most: u64) -> bool {
     let c = bar(&mut out, b, t[0], t[1], most);
     let d = say(&mut out, c, b" ");
     let e = totals(&mut out, d, t);
-    tool_files::print(&out, e)
+    tool_files::print(sys, &out, e)
 }
 
 // The year's rate in words.
-fn write_rate(report: &[u64; 96]) -> bool {
+fn write_rate(sys: &System, report: &[u64; 96]) -> bool {
     let mut out = [0u8; 4096];
     let r = report::rate(report);
     if r.number != 0 {
-        tool_files::refuse(b"the totals of the year pass 64 bits");
+        tool_files::refuse(sys, b"the totals of the year pass 64 bits");
         return false;
     }
     let a = say(&mut out, 0, b"the year: ");
@@ -121,20 +122,20 @@ fn write_rate(report: &[u64; 96]) -> bool {
     let c = say(&mut out, b, b" cuts to ");
     let d = number(&mut out, c, r.opened);
     let e = say(&mut out, d, b" opened, in lowest terms\n");
-    tool_files::print(&out, e)
+    tool_files::print(sys, &out, e)
 }
 
 // All hours, and the rate; whether it could be said.
-pub fn show(report: &[u64; 96]) -> bool {
+pub fn show(sys: &System, report: &[u64; 96]) -> bool {
     let most = most_of(report);
     let mut hour: usize = 0;
     while hour < 24 {
-        if !write_line(report, hour, most) {
+        if !write_line(sys, report, hour, most) {
             return false;
         }
         hour += 1;
     }
-    write_rate(report)
+    write_rate(sys, report)
 }
 
 // A PICTURE
@@ -171,7 +172,7 @@ fn hour_name(out: &mut [u8; 4096], at: usize, x: u64, hour: usize) -> usize {
     say(out, e, b"</text>\n")
 }
 
-fn draw_hour(report: &[u64; 96], hour: usize, most: u64) -> bool {
+fn draw_hour(sys: &System, report: &[u64; 96], hour: usize, most: u64) -> bool {
     if hour > 23 {
         return false;
     }
@@ -182,11 +183,11 @@ fn draw_hour(report: &[u64; 96], hour: usize, most: u64) -> bool {
     let a = column(&mut out, 0, x, part(opened, most), b"#4477aa");
     let b = column(&mut out, a, x + 15, part(cuts, most), b"#cc3311");
     let c = hour_name(&mut out, b, x + 14, hour);
-    tool_files::print(&out, c)
+    tool_files::print(sys, &out, c)
 }
 
 // The frame: title, base line, the most of an hour, what the colours are.
-fn draw_frame(most: u64) -> bool {
+fn draw_frame(sys: &System, most: u64) -> bool {
     let mut out = [0u8; 4096];
     let a = say(
         &mut out,
@@ -214,21 +215,21 @@ fn draw_frame(most: u64) -> bool {
         e,
         b"</text>\n<text x=\"475\" y=\"298\" text-anchor=\"middle\">hour of the day</text>\n",
     );
-    tool_files::print(&out, f)
+    tool_files::print(sys, &out, f)
 }
 
 // The whole picture; whether it could be written.
-pub fn draw(report: &[u64; 96]) -> bool {
+pub fn draw(sys: &System, report: &[u64; 96]) -> bool {
     let most = most_of(report);
-    if !draw_frame(most) {
+    if !draw_frame(sys, most) {
         return false;
     }
     let mut hour: usize = 0;
     while hour < 24 {
-        if !draw_hour(report, hour, most) {
+        if !draw_hour(sys, report, hour, most) {
             return false;
         }
         hour += 1;
     }
-    tool_files::put(b"</svg>\n")
+    tool_files::put(sys, b"</svg>\n")
 }

@@ -3,6 +3,7 @@
 
 use decision::Outcome;
 use message::Kind;
+use system::System;
 use tool_files::Said;
 use tool_lines::Line;
 use tool_words::{number, say};
@@ -15,7 +16,7 @@ pub const CODES: u8 = 1;
 pub const WAGS: u8 = 2;
 
 // What stands next in the file: a line with a meaning, one without, or nothing more.
-#[derive(Drop)]
+#[derive(Clone, Copy)]
 enum Next {
     Is(usize),
     Wrong,
@@ -83,9 +84,9 @@ fn meaning(kind: u8, text: &[u8]) -> Next {
     Next::Is(n)
 }
 
-fn read(fd: i32, kind: u8) -> Next {
+fn read(sys: &System, fd: i32, kind: u8) -> Next {
     let mut room = [0u8; 64];
-    let line = tool_lines::read(fd, &mut room);
+    let line = tool_lines::read(sys, fd, &mut room);
     match line {
         Line::End => Next::End,
         Line::Long => Next::Wrong,
@@ -100,11 +101,11 @@ fn read(fd: i32, kind: u8) -> Next {
 }
 
 // What the next line says, 0 where there is no file, or nothing more in it.
-pub fn take(fd: i32, kind: u8) -> usize {
+pub fn take(sys: &System, fd: i32, kind: u8) -> usize {
     if fd < 0 {
         return 0;
     }
-    let found = read(fd, kind);
+    let found = read(sys, fd, kind);
     match found {
         Next::Is(n) => n,
         Next::Wrong => 0,
@@ -126,7 +127,7 @@ fn wanted(out: &mut [u8; 4096], at: usize, kind: u8) -> usize {
 }
 
 // What is wrong at line k.
-fn refuse(path: &[u8], k: usize, kind: u8, short: bool) {
+fn refuse(sys: &System, path: &[u8], k: usize, kind: u8, short: bool) {
     let mut out = [0u8; 4096];
     let a = say(&mut out, 0, b"play: ");
     let b = tool_words::text(&mut out, a, path);
@@ -138,55 +139,55 @@ fn refuse(path: &[u8], k: usize, kind: u8, short: bool) {
             d,
             b" is not there, and each message has to have one\n",
         );
-        tool_files::note(&out, e);
-        tool_files::mark();
+        tool_files::note(sys, &out, e);
+        tool_files::mark(sys);
         return;
     }
     let e = wanted(&mut out, d, kind);
-    tool_files::note(&out, e);
-    tool_files::mark();
+    tool_files::note(sys, &out, e);
+    tool_files::mark(sys);
 }
 
 // Whether line k is there and says something; why not is said.
-fn check_line(fd: i32, path: &[u8], k: usize, kind: u8) -> bool {
-    let found = read(fd, kind);
+fn check_line(sys: &System, fd: i32, path: &[u8], k: usize, kind: u8) -> bool {
+    let found = read(sys, fd, kind);
     match found {
         Next::Is(_) => true,
         Next::Wrong => {
-            refuse(path, k, kind, false);
+            refuse(sys, path, k, kind, false);
             false
         }
         Next::End => {
-            refuse(path, k, kind, true);
+            refuse(sys, path, k, kind, true);
             false
         }
     }
 }
 
 // Whether nothing is left of the file; if something is, that is said.
-fn check_end(fd: i32, path: &[u8]) -> bool {
+fn check_end(sys: &System, fd: i32, path: &[u8]) -> bool {
     let mut room = [0u8; 64];
-    let line = tool_lines::read(fd, &mut room);
+    let line = tool_lines::read(sys, fd, &mut room);
     let Line::End = line else {
-        tool_files::refuse_word(path, b": it has more lines than there are messages");
+        tool_files::refuse_word(sys, path, b": it has more lines than there are messages");
         return false;
     };
     true
 }
 
 // Whether the file has a line for each of so many messages, and no more. It is then at its start again.
-pub fn check_lines(fd: i32, path: &[u8], kind: u8, all: usize) -> bool {
+pub fn check_lines(sys: &System, fd: i32, path: &[u8], kind: u8, all: usize) -> bool {
     let mut left = all;
     while left > 0 {
-        if !check_line(fd, path, all - left + 1, kind) {
+        if !check_line(sys, fd, path, all - left + 1, kind) {
             return false;
         }
         left -= 1;
     }
-    if !check_end(fd, path) {
+    if !check_end(sys, fd, path) {
         return false;
     }
-    libc::lseek(fd, 0, libc::SEEK_SET) == 0
+    sys.seek_to(fd, 0)
 }
 
 // WHAT CAME OF A MESSAGE

@@ -5,12 +5,13 @@ use decision::Outcome;
 use effects::Cut;
 use message::{Asked, Kind, Span, Told};
 use screen::Event;
+use system::System;
 use tool_screens::Entry;
 
 // WHAT A MESSAGE IS TO THE BOARD
 
 // The request's kind and where its Session-Id stands.
-#[derive(Drop)]
+#[derive(Clone, Copy)]
 struct About {
     which: u32,
     session: Span,
@@ -60,20 +61,28 @@ fn cut_of(cut: Cut) -> usize {
 
 // FEEDING. Message k moves screens, and each move is said unless all is quiet; whether that could be said. A Session-Id that is on no screen moves none.
 
-fn tell(k: usize, quiet: bool, before: Entry, now: Entry) -> bool {
+fn tell(sys: &System, k: usize, quiet: bool, before: Entry, now: Entry) -> bool {
     if quiet {
         return true;
     }
-    tool_screens::tell_moved(k, before, now)
+    tool_screens::tell_moved(sys, k, before, now)
 }
 
-fn feed_request(k: usize, quiet: bool, screens: &mut [Entry], which: u32, session: &[u8]) -> bool {
+fn feed_request(
+    sys: &System,
+    k: usize,
+    quiet: bool,
+    screens: &mut [Entry],
+    which: u32,
+    session: &[u8],
+) -> bool {
     let before = tool_screens::entry(screens, session);
     tool_screens::feed(screens, session, screen::request_says(which));
-    tell(k, quiet, before, tool_screens::entry(screens, session))
+    tell(sys, k, quiet, before, tool_screens::entry(screens, session))
 }
 
 fn feed_result(
+    sys: &System,
     k: usize,
     quiet: bool,
     screens: &mut [Entry],
@@ -85,28 +94,36 @@ fn feed_result(
     let kind = o.kind;
     let event = screen::result_says(which, o.code, kind_of(kind), place_of(o.place));
     tool_screens::feed(screens, session, event);
-    tell(k, quiet, before, tool_screens::entry(screens, session))
+    tell(sys, k, quiet, before, tool_screens::entry(screens, session))
 }
 
-fn feed_notice(k: usize, quiet: bool, screens: &mut [Entry], session: &[u8]) -> bool {
+fn feed_notice(sys: &System, k: usize, quiet: bool, screens: &mut [Entry], session: &[u8]) -> bool {
     let before = tool_screens::entry(screens, session);
     tool_screens::feed(screens, session, Event::Cuts);
-    tell(k, quiet, before, tool_screens::entry(screens, session))
+    tell(sys, k, quiet, before, tool_screens::entry(screens, session))
 }
 
 // The notice of a cut, of which the Session-Id has n bytes; nothing where there was none.
-fn feed_cut(k: usize, quiet: bool, screens: &mut [Entry], notice: &[u8], n: usize) -> bool {
+fn feed_cut(
+    sys: &System,
+    k: usize,
+    quiet: bool,
+    screens: &mut [Entry],
+    notice: &[u8],
+    n: usize,
+) -> bool {
     if n == 0 {
         return true;
     }
     if notice.len() < n {
         return true;
     }
-    feed_notice(k, quiet, screens, &notice[0..n])
+    feed_notice(sys, k, quiet, screens, &notice[0..n])
 }
 
 // A request about that Session-Id, with what came of it.
 fn feed_all(
+    sys: &System,
     k: usize,
     quiet: bool,
     screens: &mut [Entry],
@@ -115,18 +132,19 @@ fn feed_all(
     o: Outcome,
     notice: &[u8],
 ) -> bool {
-    if !feed_request(k, quiet, screens, which, session) {
+    if !feed_request(sys, k, quiet, screens, which, session) {
         return false;
     }
-    if !feed_result(k, quiet, screens, which, session, o) {
+    if !feed_result(sys, k, quiet, screens, which, session, o) {
         return false;
     }
     let cut = o.cut;
-    feed_cut(k, quiet, screens, notice, cut_of(cut))
+    feed_cut(sys, k, quiet, screens, notice, cut_of(cut))
 }
 
 // The same of a message whose Session-Id is that part of it.
 fn feed_about(
+    sys: &System,
     k: usize,
     quiet: bool,
     screens: &mut [Entry],
@@ -144,12 +162,22 @@ fn feed_about(
     if m.len() - from < n {
         return true;
     }
-    feed_all(k, quiet, screens, a.which, &m[from..from + n], o, notice)
+    feed_all(
+        sys,
+        k,
+        quiet,
+        screens,
+        a.which,
+        &m[from..from + n],
+        o,
+        notice,
+    )
 }
 
 // Message k, handled on a table of that form, fed to a board, if it has screens. A message that is no whole request is refused by the server as it is read, and
 // tells the board nothing.
 pub fn feed(
+    sys: &System,
     k: usize,
     quiet: bool,
     form: u32,
@@ -169,5 +197,5 @@ pub fn feed(
     let Told::Request(_, asked) = told else {
         return true;
     };
-    feed_about(k, quiet, screens, m, about_of(asked), o, notice)
+    feed_about(sys, k, quiet, screens, m, about_of(asked), o, notice)
 }

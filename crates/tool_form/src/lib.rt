@@ -7,6 +7,7 @@ ghost use Rattle.message.specs.TheRooms.{long_notice};
 ghost use Rattle.table.specs.TheTable.{most_rows};
 ghost use Rattle.table.specs.Answers.{row_most, table_most};
 
+use system::System;
 use tool_operator::Number;
 use tool_words::{number, say};
 
@@ -19,53 +20,57 @@ pub const MOST: usize = table::MOST_ROWS * table::ROW_LENGTH_2;
 // THE WORD
 
 // What word i says, 0 where there is no such word. One that says no form gets its line.
-pub fn word(i: usize) -> Number {
+pub fn word(sys: &System, i: usize) -> Number {
     if i == 0 {
         return Number::Is(0);
     }
     let mut room = io::buffer();
-    let n = os::arg(i, &mut room);
+    let n = sys.arg(i, &mut room);
     if octets::same_bytes(&room[..n], b"form=1") {
         return Number::Is(1);
     }
     if octets::same_bytes(&room[..n], b"form=2") {
         return Number::Is(2);
     }
-    tool_files::refuse_word(&room[..n], b": no form: a table has form=1 or form=2");
+    tool_files::refuse_word(sys, &room[..n], b": no form: a table has form=1 or form=2");
     Number::Nothing
 }
 
 // The same of a command that takes no other word at that place.
-pub fn only(i: usize) -> Number {
-    if os::arg_count() <= i {
+pub fn only(sys: &System, i: usize) -> Number {
+    if sys.arg_count() <= i {
         return Number::Is(0);
     }
-    if tool_operator::find(i, b"form=") == i {
-        return word(i);
+    if tool_operator::find(sys, i, b"form=") == i {
+        return word(sys, i);
     }
-    tool_files::refuse(b"the last word may be form=1 or form=2, and nothing else");
+    tool_files::refuse(
+        sys,
+        b"the last word may be form=1 or form=2, and nothing else",
+    );
     Number::Nothing
 }
 
 // Whether word i, if it is there, is the first from `first` on that says an operator, or the first that says a form.
-fn is_of_both(first: usize, i: usize) -> bool {
-    if os::arg_count() <= i {
+fn is_of_both(sys: &System, first: usize, i: usize) -> bool {
+    if sys.arg_count() <= i {
         return true;
     }
-    if tool_operator::find(first, b"operator=") == i {
+    if tool_operator::find(sys, first, b"operator=") == i {
         return true;
     }
-    tool_operator::find(first, b"form=") == i
+    tool_operator::find(sys, first, b"form=") == i
 }
 
 // Whether the two last words, as far as they are there, say an operator and a form; why not is said.
-pub fn check_both(first: usize, second: usize) -> bool {
-    if is_of_both(first, first) {
-        if is_of_both(first, second) {
+pub fn check_both(sys: &System, first: usize, second: usize) -> bool {
+    if is_of_both(sys, first, first) {
+        if is_of_both(sys, first, second) {
             return true;
         }
     }
     tool_files::refuse(
+        sys,
         b"the last words may be operator=N and form=1 or form=2, each once, and nothing else",
     );
     false
@@ -106,37 +111,39 @@ fn fits(bytes: &[u8], form: u32) -> bool {
 }
 
 // The line on a length that fits both forms.
-fn refuse_both(path: &[u8], n: usize) {
+fn refuse_both(sys: &System, path: &[u8], n: usize) {
     let mut out = [0u8; 4096];
     let a = say(&mut out, 0, b": its length is that of ");
     let b = number(&mut out, a, (n / table::ROW_LENGTH_1) as u64);
     let c = say(&mut out, b, b" rows of form 1 and of ");
     let d = number(&mut out, c, (n / table::ROW_LENGTH_2) as u64);
     let e = say(&mut out, d, b" rows of form 2: say form=1 or form=2");
-    refuse_line(path, &out, e);
+    refuse_line(sys, path, &out, e);
 }
 
 // The line that a failure gets: the word that is meant, and the first n bytes of what is said of it.
-fn refuse_line(word: &[u8], out: &[u8; 4096], n: usize) {
+fn refuse_line(sys: &System, word: &[u8], out: &[u8; 4096], n: usize) {
     let line: &[u8] = out;
     if n <= line.len() {
-        tool_files::refuse_word(word, &line[0..n]);
+        tool_files::refuse_word(sys, word, &line[0..n]);
     }
 }
 
 // The form that was said, 0 where the bytes are no table of it, which is then said.
-fn as_said(path: &[u8], bytes: &[u8], said: u32) -> u32 {
+fn as_said(sys: &System, path: &[u8], bytes: &[u8], said: u32) -> u32 {
     if fits(bytes, said) {
         return said;
     }
     if said == 2 {
         tool_files::refuse_word(
+            sys,
             path,
             b": no table of form 2: its length is not that of 1 to 1,024 rows of 8,704 bytes",
         );
         return 0;
     }
     tool_files::refuse_word(
+        sys,
         path,
         b": no table of form 1: its length is not that of 1 to 1,024 rows of 4,608 bytes",
     );
@@ -144,10 +151,10 @@ fn as_said(path: &[u8], bytes: &[u8], said: u32) -> u32 {
 }
 
 // The form that the length tells, 0 where it tells none, which is then said.
-fn as_told(path: &[u8], bytes: &[u8]) -> u32 {
+fn as_told(sys: &System, path: &[u8], bytes: &[u8]) -> u32 {
     if fits(bytes, 1) {
         if fits(bytes, 2) {
-            refuse_both(path, bytes.len());
+            refuse_both(sys, path, bytes.len());
             return 0;
         }
         return 1;
@@ -156,23 +163,24 @@ fn as_told(path: &[u8], bytes: &[u8]) -> u32 {
         return 2;
     }
     tool_files::refuse_word(
+        sys,
         path,
         b": no table: its length is not that of 1 to 1,024 rows of 4,608 bytes, form 1, or of 8,704, form 2",
     );
     0
 }
 
-fn form_of(path: &[u8], bytes: &[u8], said: u32) -> u32 {
+fn form_of(sys: &System, path: &[u8], bytes: &[u8], said: u32) -> u32 {
     if said == 0 {
-        return as_told(path, bytes);
+        return as_told(sys, path, bytes);
     }
-    as_said(path, bytes, said)
+    as_said(sys, path, bytes, said)
 }
 
 // READING
 
 // A table as it was read: its form, and how many bytes it has; 0 and 0 where there is none.
-#[derive(Drop)]
+#[derive(Clone, Copy)]
 pub struct Found {
     pub form: u32,
     pub length: usize,
@@ -183,18 +191,20 @@ fn nothing() -> Found {
 }
 
 // Whether the program has room for so many bytes, and one more by which a longer file is told; if not, that is said.
-pub fn check_room(word: &[u8], n: usize, room: &[u8]) -> bool {
+pub fn check_room(sys: &System, word: &[u8], n: usize, room: &[u8]) -> bool {
     if n < room.len() {
         return true;
     }
     if MOST < room.len() {
         tool_files::refuse_word(
+            sys,
             word,
             b": no table: it is longer than 1,024 rows of 8,704 bytes",
         );
         return false;
     }
     tool_files::refuse_word(
+        sys,
         word,
         b": too large for the stack that the program has: it needs one of 28 MB (ulimit -s 28672)",
     );
@@ -202,12 +212,12 @@ pub fn check_room(word: &[u8], n: usize, room: &[u8]) -> bool {
 }
 
 // The table in an open file, put at the start of the room; nothing where there is none, which is then said. What was said of its form is 0 for nothing.
-pub fn fill(fd: i32, path: &[u8], said: u32, room: &mut [u8]) -> Found {
-    let n = io::read_full(fd, room);
-    if !check_room(path, n, room) {
+pub fn fill(sys: &System, fd: i32, path: &[u8], said: u32, room: &mut [u8]) -> Found {
+    let n = sys.read_full(fd, room);
+    if !check_room(sys, path, n, room) {
         return nothing();
     }
-    let form = form_of(path, &room[..n], said);
+    let form = form_of(sys, path, &room[..n], said);
     if form == 0 {
         return nothing();
     }
@@ -215,12 +225,12 @@ pub fn fill(fd: i32, path: &[u8], said: u32, room: &mut [u8]) -> Found {
 }
 
 // The same of the file at a path.
-pub fn read(path: &[u8], said: u32, room: &mut [u8]) -> Found {
-    let fd = tool_files::open_plain(path);
+pub fn read(sys: &System, path: &[u8], said: u32, room: &mut [u8]) -> Found {
+    let fd = tool_files::open_plain(sys, path);
     if fd < 0 {
         return nothing();
     }
-    let found = fill(fd, path, said, room);
-    libc::close(fd);
+    let found = fill(sys, fd, path, said, room);
+    sys.close(fd);
     found
 }

@@ -4,10 +4,11 @@
 mod following;
 
 pub use following::count;
+use system::System;
 use tool_streams::Source;
 
 // What is open, -1 for a file that was not asked for.
-#[derive(Drop)]
+#[derive(Clone, Copy)]
 pub struct Inputs {
     pub requests: i32,
     pub wags: i32,
@@ -15,27 +16,33 @@ pub struct Inputs {
     pub screens: i32,
 }
 
-pub fn is_hex() -> bool {
-    tool_options::find(tool_options::HEX) != 0
+pub fn is_hex(sys: &System) -> bool {
+    tool_options::find(sys, tool_options::HEX) != 0
 }
 
-pub fn source(fd: i32) -> Source {
-    Source { fd, hex: is_hex() }
+pub fn source(sys: &System, fd: i32) -> Source {
+    Source {
+        fd,
+        hex: is_hex(sys),
+    }
 }
 
 // A file that is not well, in the place of one that is: -1 is one that was not asked for.
 pub const BAD: i32 = -2;
 
 // A file that a word names, open at its start.
-fn open_file(path: &[u8]) -> i32 {
+fn open_file(sys: &System, path: &[u8]) -> i32 {
     if path.len() < 1 {
-        tool_files::refuse(b"behind wags=, codes= and board= stands the name of a file");
+        tool_files::refuse(
+            sys,
+            b"behind wags=, codes= and board= stands the name of a file",
+        );
         return BAD;
     }
-    if !tool_files::check_mark() {
+    if !tool_files::check_mark(sys) {
         return BAD;
     }
-    let fd = tool_files::open_plain(path);
+    let fd = tool_files::open_plain(sys, path);
     if fd < 0 {
         return BAD;
     }
@@ -43,12 +50,12 @@ fn open_file(path: &[u8]) -> i32 {
 }
 
 // A file with a line for each of so many messages, open at its start.
-fn open_lines(path: &[u8], kind: u8, all: usize) -> i32 {
-    let fd = open_file(path);
+fn open_lines(sys: &System, path: &[u8], kind: u8, all: usize) -> i32 {
+    let fd = open_file(sys, path);
     if fd == BAD {
         return BAD;
     }
-    if tool_expected::check_lines(fd, path, kind, all) {
+    if tool_expected::check_lines(sys, fd, path, kind, all) {
         return fd;
     }
     BAD
@@ -64,35 +71,35 @@ fn name(room: &[u8; 4096], n: usize) -> &[u8] {
 }
 
 // What the gateway says to each message, where word i names a file that has it.
-pub fn open_wags(i: usize, all: usize) -> i32 {
-    if !tool_options::is_file_of_wags(i) {
+pub fn open_wags(sys: &System, i: usize, all: usize) -> i32 {
+    if !tool_options::is_file_of_wags(sys, i) {
         return -1;
     }
     let mut path = [0u8; 4096];
-    let n = tool_options::wags(i, &mut path);
-    open_lines(name(&path, n), tool_expected::WAGS, all)
+    let n = tool_options::wags(sys, i, &mut path);
+    open_lines(sys, name(&path, n), tool_expected::WAGS, all)
 }
 
 // The codes that are expected, where a file has them.
-fn open_codes(all: usize) -> i32 {
-    let i = tool_options::find(tool_options::CODES);
+fn open_codes(sys: &System, all: usize) -> i32 {
+    let i = tool_options::find(sys, tool_options::CODES);
     if i == 0 {
         return -1;
     }
     let mut path = [0u8; 4096];
-    let n = tool_options::codes(i, &mut path);
-    open_lines(name(&path, n), tool_expected::CODES, all)
+    let n = tool_options::codes(sys, i, &mut path);
+    open_lines(sys, name(&path, n), tool_expected::CODES, all)
 }
 
 // The screens of a board, where there is one.
-fn open_screens() -> i32 {
-    let i = tool_options::find(tool_options::BOARD);
+fn open_screens(sys: &System) -> i32 {
+    let i = tool_options::find(sys, tool_options::BOARD);
     if i == 0 {
         return -1;
     }
     let mut path = [0u8; 4096];
-    let n = tool_options::board(i, &mut path);
-    open_file(name(&path, n))
+    let n = tool_options::board(sys, i, &mut path);
+    open_file(sys, name(&path, n))
 }
 
 fn bad(requests: i32) -> Inputs {
@@ -105,12 +112,12 @@ fn bad(requests: i32) -> Inputs {
 }
 
 // What is read besides the requests, which are so many. Why one of the files is not well is said, and those behind it are not opened.
-pub fn open(requests: i32, all: usize) -> Inputs {
-    let wags = open_wags(tool_options::find(tool_options::WAG), all);
+pub fn open(sys: &System, requests: i32, all: usize) -> Inputs {
+    let wags = open_wags(sys, tool_options::find(sys, tool_options::WAG), all);
     if wags == BAD {
         return bad(requests);
     }
-    let codes = open_codes(all);
+    let codes = open_codes(sys, all);
     if codes == BAD {
         return bad(requests);
     }
@@ -118,7 +125,7 @@ pub fn open(requests: i32, all: usize) -> Inputs {
         requests,
         wags,
         codes,
-        screens: open_screens(),
+        screens: open_screens(sys),
     }
 }
 

@@ -2,6 +2,7 @@
 // ours does, and the first mismatch is said in words. All files are only read, and followed to their end before anything is said.
 #![tactic(auto)]
 
+use system::System;
 use tool_judge_all::Desk;
 use tool_judge_words::how_many;
 use tool_operator::Number;
@@ -10,8 +11,8 @@ use tool_words::say;
 // THE TABLES
 
 // The table at a path, with a row for each of so many cases, put at the start of the room: its form, 0 where there is none, which is then said.
-fn read_rows(path: &[u8], said: u32, cases: usize, room: &mut [u8]) -> u32 {
-    let found = tool_form::read(path, said, room);
+fn read_rows(sys: &System, path: &[u8], said: u32, cases: usize, room: &mut [u8]) -> u32 {
+    let found = tool_form::read(sys, path, said, room);
     if found.length == 0 {
         return 0;
     }
@@ -19,11 +20,11 @@ fn read_rows(path: &[u8], said: u32, cases: usize, room: &mut [u8]) -> u32 {
     if rows == cases {
         return found.form;
     }
-    refuse_rows(path, rows, cases);
+    refuse_rows(sys, path, rows, cases);
     0
 }
 
-fn refuse_rows(path: &[u8], rows: usize, cases: usize) {
+fn refuse_rows(sys: &System, path: &[u8], rows: usize, cases: usize) {
     let mut out = [0u8; 4096];
     let a = say(&mut out, 0, b"play: ");
     let b = tool_words::text(&mut out, a, path);
@@ -32,8 +33,8 @@ fn refuse_rows(path: &[u8], rows: usize, cases: usize) {
     let e = say(&mut out, d, b", and ");
     let f = how_many(&mut out, e, cases, b"case");
     let g = say(&mut out, f, b": each has one\n");
-    tool_files::note(&out, g);
-    tool_files::mark();
+    tool_files::note(sys, &out, g);
+    tool_files::mark(sys);
 }
 
 // THE COMMAND
@@ -52,26 +53,27 @@ fn is_taken(kind: usize) -> bool {
 }
 
 // Whether word i, if it is there, is the first of a kind that the command takes.
-fn is_word(i: usize) -> bool {
-    if os::arg_count() <= i {
+fn is_word(sys: &System, i: usize) -> bool {
+    if sys.arg_count() <= i {
         return true;
     }
-    let kind = tool_options::kind_at(i);
+    let kind = tool_options::kind_at(sys, i);
     if is_taken(kind) {
-        return tool_options::find_from(FIRST, kind) == i;
+        return tool_options::find_from(sys, FIRST, kind) == i;
     }
     false
 }
 
-fn check_words() -> bool {
-    if is_word(7) {
-        if is_word(8) {
-            if is_word(9) {
+fn check_words(sys: &System) -> bool {
+    if is_word(sys, 7) {
+        if is_word(sys, 8) {
+            if is_word(sys, 9) {
                 return true;
             }
         }
     }
     tool_files::refuse(
+        sys,
         b"the last words may be operator=N, form=1 or form=2, and wag=yes, wag=no or wags=FILE, each once, and nothing else",
     );
     false
@@ -79,6 +81,7 @@ fn check_words() -> bool {
 
 // Both tables read, and what the gateway says opened.
 fn read_and_judge(
+    sys: &System,
     op: u32,
     said: u32,
     fd: i32,
@@ -89,61 +92,71 @@ fn read_and_judge(
 ) {
     let mut first = io::buffer();
     let mut second = io::buffer();
-    let a = os::arg(3, &mut first);
-    let b = os::arg(4, &mut second);
-    let form = read_rows(&first[..a], said, cases, before);
+    let a = sys.arg(3, &mut first);
+    let b = sys.arg(4, &mut second);
+    let form = read_rows(sys, &first[..a], said, cases, before);
     if form == 0 {
         return;
     }
-    if read_rows(&second[..b], form, cases, after) == 0 {
+    if read_rows(sys, &second[..b], form, cases, after) == 0 {
         return;
     }
-    let gateway = tool_options::find_from(FIRST, tool_options::WAG);
-    let wags = tool_inputs::open_wags(gateway, cases);
+    let gateway = tool_options::find_from(sys, FIRST, tool_options::WAG);
+    let wags = tool_inputs::open_wags(sys, gateway, cases);
     if wags == tool_inputs::BAD {
         return;
     }
     let d = Desk {
         cases: fd,
         wags,
-        wag: tool_options::is_wag(gateway),
+        wag: tool_options::is_wag(sys, gateway),
         form,
         op,
     };
-    tool_judge_all::judge_in(d, path, cases, before, after);
+    tool_judge_all::judge_in(sys, d, path, cases, before, after);
 }
 
 // The cases followed to their end, and read from their start again.
-fn open_and_judge(op: u32, said: u32, path: &[u8], before: &mut [u8], after: &mut [u8]) {
-    let fd = tool_files::open_plain(path);
+fn open_and_judge(
+    sys: &System,
+    op: u32,
+    said: u32,
+    path: &[u8],
+    before: &mut [u8],
+    after: &mut [u8],
+) {
+    let fd = tool_files::open_plain(sys, path);
     if fd < 0 {
         return;
     }
-    let cases = tool_judge_cases::count(fd, path);
+    let cases = tool_judge_cases::count(sys, fd, path);
     if cases == 0 {
         return;
     }
-    if libc::lseek(fd, 0, libc::SEEK_SET) != 0 {
-        tool_files::refuse_file(path);
+    if !sys.seek_to(fd, 0) {
+        tool_files::refuse_file(sys, path);
         return;
     }
-    read_and_judge(op, said, fd, path, cases, before, after);
+    read_and_judge(sys, op, said, fd, path, cases, before, after);
 }
 
 // CASES BEFORE AFTER HOST REALM [operator=N] [form=F] [wag=yes|wag=no|wags=FILE]. The rooms are for the two tables.
-pub fn run(before: &mut [u8], after: &mut [u8]) {
-    if !check_words() {
+pub fn run(sys: &System, before: &mut [u8], after: &mut [u8]) {
+    if !check_words(sys) {
         return;
     }
-    let told = tool_operator::operator(tool_options::find_from(FIRST, tool_options::OPERATOR));
+    let told = tool_operator::operator(
+        sys,
+        tool_options::find_from(sys, FIRST, tool_options::OPERATOR),
+    );
     let Number::Is(op) = told else {
         return;
     };
-    let said = tool_form::word(tool_options::find_from(FIRST, tool_options::FORM));
+    let said = tool_form::word(sys, tool_options::find_from(sys, FIRST, tool_options::FORM));
     let Number::Is(form) = said else {
         return;
     };
     let mut path = io::buffer();
-    let n = os::arg(2, &mut path);
-    open_and_judge(op, form, &path[..n], before, after);
+    let n = sys.arg(2, &mut path);
+    open_and_judge(sys, op, form, &path[..n], before, after);
 }

@@ -142,7 +142,7 @@ fn is_group(s: Seen) -> bool {
 }
 
 // Where a walk is, inside so many groups; and whether it ended there.
-#[derive(Drop)]
+#[derive(Clone, Copy)]
 struct Walk {
     at: usize,
     depth: usize,
@@ -225,7 +225,7 @@ fn walk_on(m: &[u8], ends: &mut [usize; 5], w: Walk) -> Walk {
 }
 
 // Where the walk ends, at an AVP that fails one of the four tests or a group that is too deep; and the end of the group around it, or of the message.
-#[derive(Drop)]
+#[derive(Clone, Copy)]
 pub struct Stop {
     pub at: usize,
     pub end: usize,

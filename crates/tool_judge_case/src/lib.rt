@@ -2,6 +2,7 @@
 #![tactic(auto)]
 
 use likeness::Found;
+use system::System;
 use tool_words::{number, say};
 
 // What is said of a case begins with its number and what its request asks.
@@ -14,6 +15,7 @@ fn begin(out: &mut [u8; 4096], k: usize, m: &[u8], form: u32) -> usize {
 
 // An accepted case, and a result of theirs that was passed over.
 fn tell_accepted(
+    sys: &System,
     out: &mut [u8; 4096],
     at: usize,
     ours: &[u8],
@@ -22,10 +24,10 @@ fn tell_accepted(
 ) -> bool {
     tool_judge_tally::count(tally, tool_judge_tally::ACCEPTED);
     let n = say(out, at, b"accepted\n");
-    if !tool_files::print(out, n) {
+    if !tool_files::print(sys, out, n) {
         return false;
     }
-    if tool_judge_lines::tell_second(ours, theirs) != 0 {
+    if tool_judge_lines::tell_second(sys, ours, theirs) != 0 {
         tool_judge_tally::count(tally, tool_judge_tally::WARNED);
     }
     true
@@ -40,6 +42,7 @@ fn begin_refused(out: &mut [u8; 4096], at: usize, n: u32) -> usize {
 
 // What came of a case is said: ours stands in the rooms, and the row due in place of the one before.
 fn tell(
+    sys: &System,
     k: usize,
     form: u32,
     f: Found,
@@ -55,18 +58,18 @@ fn tell(
     let mut out = [0u8; 4096];
     let a = begin(&mut out, k, m, form);
     if f.number == 0 {
-        return tell_accepted(&mut out, a, ours, theirs, tally);
+        return tell_accepted(sys, &mut out, a, ours, theirs, tally);
     }
     tool_judge_tally::count(tally, f.mismatch as usize);
     let b = begin_refused(&mut out, a, f.number);
     if f.number == 31 {
-        return tool_judge_lines::tell_deep(&mut out, b, theirs);
+        return tool_judge_lines::tell_deep(sys, &mut out, b, theirs);
     }
     let kind = f.mismatch;
     match kind {
-        5 => tool_judge_notice::tell_notice(&mut out, b, form, our_notice, their_notice, f.at),
-        6 => tool_judge_row::tell_row(&mut out, b, form, row, after, f.at),
-        _ => tool_judge_lines::tell_answer(&mut out, b, f, m, ours, theirs),
+        5 => tool_judge_notice::tell_notice(sys, &mut out, b, form, our_notice, their_notice, f.at),
+        6 => tool_judge_row::tell_row(sys, &mut out, b, form, row, after, f.at),
+        _ => tool_judge_lines::tell_answer(sys, &mut out, b, f, m, ours, theirs),
     }
 }
 
@@ -95,6 +98,7 @@ fn our_notice(room: &[u8; answers::NOTICE_LENGTH_2], form: u32) -> &[u8] {
 
 // The judgement, under the names that the words say.
 fn ask(
+    sys: &System,
     form: u32,
     op: u32,
     wag: bool,
@@ -108,8 +112,8 @@ fn ask(
 ) -> Found {
     let mut host = io::buffer();
     let mut realm = io::buffer();
-    let a = os::arg(5, &mut host);
-    let b = os::arg(6, &mut realm);
+    let a = sys.arg(5, &mut host);
+    let b = sys.arg(6, &mut realm);
     judge::judge(
         row,
         after,
@@ -127,7 +131,7 @@ fn ask(
 }
 
 // Whether a judgement is about the old server; a number of the words themselves is said.
-fn check_words_taken(f: Found) -> bool {
+fn check_words_taken(sys: &System, f: Found) -> bool {
     let n = f.number;
     match n {
         0 | 31 | 32 => true,
@@ -138,8 +142,8 @@ fn check_words_taken(f: Found) -> bool {
             let c = say(&mut out, b, b": ");
             let e = tool_names::no_answer(&mut out, c, f.number);
             let g = say(&mut out, e, b"\n");
-            tool_files::note(&out, g);
-            tool_files::mark();
+            tool_files::note(sys, &out, g);
+            tool_files::mark(sys);
             false
         }
     }
@@ -147,6 +151,7 @@ fn check_words_taken(f: Found) -> bool {
 
 // Case k judged and said; whether it could be. The rows are its own, and the one before becomes the one due.
 pub fn judge_one(
+    sys: &System,
     form: u32,
     op: u32,
     wag: bool,
@@ -161,6 +166,7 @@ pub fn judge_one(
     let mut answer = [0u8; answers::ANSWER_LEAST];
     let mut notice = [0u8; answers::NOTICE_LENGTH_2];
     let f = ask(
+        sys,
         form,
         op,
         wag,
@@ -172,10 +178,11 @@ pub fn judge_one(
         &mut answer,
         &mut notice,
     );
-    if !check_words_taken(f) {
+    if !check_words_taken(sys, f) {
         return false;
     }
     tell(
+        sys,
         k,
         form,
         f,

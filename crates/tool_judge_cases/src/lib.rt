@@ -2,13 +2,14 @@
 // Empty lines and those that begin with # are passed over.
 #![tactic(auto)]
 
+use system::System;
 use tool_lines::Line;
 use tool_words::{number, say};
 
 // ONE LINE
 
 // What a line says: so many bytes, put at the start of the room, 0 for none; a remark, which says nothing; something without a meaning. Or there is no line any more.
-#[derive(Drop)]
+#[derive(Clone, Copy)]
 enum Next {
     Bytes(usize),
     Remark,
@@ -43,9 +44,9 @@ fn meaning(text: &[u8], n: usize, room: &mut [u8; 8192]) -> Next {
 }
 
 // A line has room for 5,461 bytes with a blank behind each, and for as many as the room has without.
-fn read(fd: i32, room: &mut [u8; 8192]) -> Next {
+fn read(sys: &System, fd: i32, room: &mut [u8; 8192]) -> Next {
     let mut text = [0u8; 16385];
-    let line = tool_lines::read(fd, &mut text);
+    let line = tool_lines::read(sys, fd, &mut text);
     match line {
         Line::End => Next::End,
         Line::Long => Next::Wrong,
@@ -63,18 +64,18 @@ fn says_nothing(found: Next) -> bool {
 }
 
 // A line that says something, and its number in the file.
-#[derive(Drop)]
+#[derive(Clone, Copy)]
 struct Told {
     found: Next,
     line: usize,
 }
 
 // The next line behind `line` that says something. A proved loop has to end, and nothing says that a file does, so the lines are counted.
-fn next_told(fd: i32, line: usize, room: &mut [u8; 8192]) -> Told {
+fn next_told(sys: &System, fd: i32, line: usize, room: &mut [u8; 8192]) -> Told {
     let mut k: usize = line;
     while k < 4294967296 {
         k += 1;
-        let found = read(fd, room);
+        let found = read(sys, fd, room);
         if !says_nothing(found) {
             return Told { found, line: k };
         }
@@ -89,7 +90,7 @@ fn next_told(fd: i32, line: usize, room: &mut [u8; 8192]) -> Told {
 
 // How far a file was read: the cases so far, the last line of them, and how long the parts of the last case are. `there` is false once there is none any more, and `well` says whether
 // the file ended behind a case.
-#[derive(Drop)]
+#[derive(Clone, Copy)]
 pub struct Way {
     pub cases: usize,
     pub line: usize,
@@ -127,19 +128,19 @@ pub fn over(w: Way, well: bool) -> Way {
 }
 
 // What is wrong at a line.
-fn refuse(path: &[u8], line: usize, what: &[u8]) {
+fn refuse(sys: &System, path: &[u8], line: usize, what: &[u8]) {
     let mut out = [0u8; 4096];
     let a = say(&mut out, 0, b"play: ");
     let b = tool_words::text(&mut out, a, path);
     let c = say(&mut out, b, b": line ");
     let d = number(&mut out, c, line as u64);
     let e = say(&mut out, d, what);
-    tool_files::note(&out, e);
-    tool_files::mark();
+    tool_files::note(sys, &out, e);
+    tool_files::mark(sys);
 }
 
 // A part of a case that is there.
-#[derive(Drop)]
+#[derive(Clone, Copy)]
 struct Part {
     n: usize,
     line: usize,
@@ -155,11 +156,11 @@ fn no_part(line: usize) -> Part {
 }
 
 // The answer or the notice of a case, put at the start of the room. If it is not there, that is said.
-fn take_part(fd: i32, path: &[u8], before: Part, room: &mut [u8; 8192]) -> Part {
+fn take_part(sys: &System, fd: i32, path: &[u8], before: Part, room: &mut [u8; 8192]) -> Part {
     if !before.well {
         return before;
     }
-    let told = next_told(fd, before.line, room);
+    let told = next_told(sys, fd, before.line, room);
     let found = told.found;
     match found {
         Next::Bytes(n) => Part {
@@ -169,6 +170,7 @@ fn take_part(fd: i32, path: &[u8], before: Part, room: &mut [u8; 8192]) -> Part 
         },
         Next::End => {
             refuse(
+                sys,
                 path,
                 told.line,
                 b" is not there, and a case has three: request, answer, notice\n",
@@ -177,6 +179,7 @@ fn take_part(fd: i32, path: &[u8], before: Part, room: &mut [u8; 8192]) -> Part 
         }
         _ => {
             refuse(
+                sys,
                 path,
                 told.line,
                 b" has no bytes in hex, two digits for each, 16384 signs at most, and is not - for none\n",
@@ -187,7 +190,7 @@ fn take_part(fd: i32, path: &[u8], before: Part, room: &mut [u8; 8192]) -> Part 
 }
 
 // The request of a case, which has bytes. If it has none, that is said.
-fn request(path: &[u8], told: Told) -> Part {
+fn request(sys: &System, path: &[u8], told: Told) -> Part {
     let found = told.found;
     if let Next::Bytes(n) = found {
         if 0 < n {
@@ -199,6 +202,7 @@ fn request(path: &[u8], told: Told) -> Part {
         }
     }
     refuse(
+        sys,
         path,
         told.line,
         b" has no request in hex: two digits for each byte, 16384 signs at most\n",
@@ -225,6 +229,7 @@ fn more(n: usize) -> usize {
 
 // The next case, each of its three parts put at the start of a room. A file that can not be read is said to be so.
 pub fn look(
+    sys: &System,
     fd: i32,
     path: &[u8],
     w: Way,
@@ -232,14 +237,14 @@ pub fn look(
     answers: &mut [u8; 8192],
     notices: &mut [u8; 8192],
 ) -> Way {
-    let told = next_told(fd, w.line, requests);
+    let told = next_told(sys, fd, w.line, requests);
     let found = told.found;
     if is_end(found) {
         return over(w, true);
     }
-    let r = request(path, told);
-    let a = take_part(fd, path, r, answers);
-    let n = take_part(fd, path, a, notices);
+    let r = request(sys, path, told);
+    let a = take_part(sys, fd, path, r, answers);
+    let n = take_part(sys, fd, path, a, notices);
     if !n.well {
         return over(w, false);
     }
@@ -256,33 +261,33 @@ pub fn look(
 
 // ALL CASES
 
-fn step(fd: i32, path: &[u8], w: Way) -> Way {
+fn step(sys: &System, fd: i32, path: &[u8], w: Way) -> Way {
     let mut request = [0u8; 8192];
     let mut answer = [0u8; 8192];
     let mut notice = [0u8; 8192];
-    look(fd, path, w, &mut request, &mut answer, &mut notice)
+    look(sys, fd, path, w, &mut request, &mut answer, &mut notice)
 }
 
 // How many cases a file has that was read to its end; 0 where it could not be, or has none, which is then said.
-fn all_of(path: &[u8], w: Way) -> usize {
+fn all_of(sys: &System, path: &[u8], w: Way) -> usize {
     if !w.well {
         return 0;
     }
     if w.cases == 0 {
-        tool_files::refuse_word(path, b": there is no case in it");
+        tool_files::refuse_word(sys, path, b": there is no case in it");
     }
     w.cases
 }
 
 // How many cases a file has, 0 where it can not be read to its end. A proved loop has to end, so the turns are counted down.
-pub fn count(fd: i32, path: &[u8]) -> usize {
+pub fn count(sys: &System, fd: i32, path: &[u8]) -> usize {
     let mut w = start();
     let mut turns: usize = 4294967296;
     while turns > 0 {
         turns -= 1;
-        w = step(fd, path, w);
+        w = step(sys, fd, path, w);
         if !w.there {
-            return all_of(path, w);
+            return all_of(sys, path, w);
         }
     }
     0

@@ -1,6 +1,7 @@
 // What a judgement says of an answer by its header alone: where that differs from ours, or that no answer is due.
 #![tactic(auto)]
 
+use system::System;
 use tool_judge_words::end_line;
 use tool_words::{number, say};
 
@@ -75,26 +76,33 @@ fn say_difference(
 }
 
 // A header that differs at a byte, or ends there, said behind what the line has; whether it could be said.
-pub fn tell_byte(out: &mut [u8; 4096], at: usize, ours: &[u8], theirs: &[u8], byte: usize) -> bool {
+pub fn tell_byte(
+    sys: &System,
+    out: &mut [u8; 4096],
+    at: usize,
+    ours: &[u8],
+    theirs: &[u8],
+    byte: usize,
+) -> bool {
     if theirs.len() <= byte {
         let a = say(out, at, b"the answer ends inside its header, at byte ");
         let b = number(out, a, byte as u64);
-        return end_line(out, b, b"");
+        return end_line(sys, out, b, b"");
     }
     let a = say(out, at, b"the header differs at byte ");
     let b = number(out, a, byte as u64);
     let c = say(out, b, b", ");
     let d = field_name(out, c, byte);
     let e = say_difference(out, d, ours, theirs, byte);
-    end_line(out, e, b"")
+    end_line(sys, out, e, b"")
 }
 
 // An answer to a request that gets none, by its number.
-pub fn tell_not_due(out: &mut [u8; 4096], at: usize, m: &[u8]) -> bool {
+pub fn tell_not_due(sys: &System, out: &mut [u8; 4096], at: usize, m: &[u8]) -> bool {
     let n = message::number(m);
     let a = say(out, at, b"an answer, and none is due, number ");
     let b = number(out, a, n as u64);
     let c = say(out, b, b": ");
     let d = tool_names::no_answer(out, c, n);
-    end_line(out, d, b"")
+    end_line(sys, out, d, b"")
 }

@@ -3,13 +3,14 @@
 
 use likeness::Found;
 use reader::{Fault, Seen, Step};
+use system::System;
 use tool_judge_words::end_line;
 use tool_words::{number, say};
 
 // LINES
 
 // The AVP at a place of a message, behind a margin, and those of a group below it; nothing for place 0.
-fn tell_avp(margin: &[u8], m: &[u8], at: usize) -> bool {
+fn tell_avp(sys: &System, margin: &[u8], m: &[u8], at: usize) -> bool {
     if at == 0 {
         return true;
     }
@@ -19,24 +20,30 @@ fn tell_avp(margin: &[u8], m: &[u8], at: usize) -> bool {
     };
     let mut out = [0u8; 4096];
     let n = tool_avp_line::avp(&mut out, margin, m, s);
-    if !tool_files::print(&out, n) {
+    if !tool_files::print(sys, &out, n) {
         return false;
     }
-    tool_decode::group(m, at);
+    tool_decode::group(sys, m, at);
     true
 }
 
 // THE HEADER
 
 // No answer; what ours says is told.
-fn tell_none(out: &mut [u8; 4096], at: usize, ours: &[u8]) -> bool {
-    if !end_line(out, at, b"no answer, and one is due") {
+fn tell_none(sys: &System, out: &mut [u8; 4096], at: usize, ours: &[u8]) -> bool {
+    if !end_line(sys, out, at, b"no answer, and one is due") {
         return false;
     }
-    tell_avp(b"  ours: ", ours, tool_judge_avps::other_result(b"", ours))
+    tell_avp(
+        sys,
+        b"  ours: ",
+        ours,
+        tool_judge_avps::other_result(b"", ours),
+    )
 }
 
 fn tell_header(
+    sys: &System,
     out: &mut [u8; 4096],
     at: usize,
     m: &[u8],
@@ -45,12 +52,12 @@ fn tell_header(
     byte: usize,
 ) -> bool {
     if ours.len() < message::HEADER_LENGTH {
-        return tool_judge_header::tell_not_due(out, at, m);
+        return tool_judge_header::tell_not_due(sys, out, at, m);
     }
     if theirs.len() < 1 {
-        return tell_none(out, at, ours);
+        return tell_none(sys, out, at, ours);
     }
-    tool_judge_header::tell_byte(out, at, ours, theirs, byte)
+    tool_judge_header::tell_byte(sys, out, at, ours, theirs, byte)
 }
 
 // THE WALK
@@ -82,26 +89,27 @@ fn say_fault_at(out: &mut [u8; 4096], at: usize, theirs: &[u8], byte: usize, end
     say_fault(out, at, f, end < theirs.len())
 }
 
-fn tell_walk(out: &mut [u8; 4096], at: usize, theirs: &[u8]) -> bool {
+fn tell_walk(sys: &System, out: &mut [u8; 4096], at: usize, theirs: &[u8]) -> bool {
     let s = tool_judge_avps::walk_end(theirs);
     let a = say(out, at, b"the AVP at byte ");
     let b = number(out, a, s.at as u64);
     let c = say_fault_at(out, b, theirs, s.at, s.end);
-    end_line(out, c, b"")
+    end_line(sys, out, c, b"")
 }
 
 // A group that is too deep.
-pub fn tell_deep(out: &mut [u8; 4096], at: usize, theirs: &[u8]) -> bool {
+pub fn tell_deep(sys: &System, out: &mut [u8; 4096], at: usize, theirs: &[u8]) -> bool {
     let s = tool_judge_avps::walk_end(theirs);
     let a = say(out, at, b"the group at byte ");
     let b = number(out, a, s.at as u64);
-    end_line(out, b, b" is the fifth, each inside another")
+    end_line(sys, out, b, b" is the fifth, each inside another")
 }
 
 // THE AVPS BY PLACE
 
 // What is wrong with the AVP at a byte, the AVP of ours at a place where it is not 0, and the AVP itself.
 fn tell_wrong(
+    sys: &System,
     out: &mut [u8; 4096],
     at: usize,
     wrong: &[u8],
@@ -112,13 +120,13 @@ fn tell_wrong(
 ) -> bool {
     let a = say(out, at, b"the AVP at byte ");
     let b = number(out, a, byte as u64);
-    if !end_line(out, b, wrong) {
+    if !end_line(sys, out, b, wrong) {
         return false;
     }
-    if !tell_avp(b"  ours: ", ours, place) {
+    if !tell_avp(sys, b"  ours: ", ours, place) {
         return false;
     }
-    tell_avp(b"  theirs: ", theirs, byte)
+    tell_avp(sys, b"  theirs: ", theirs, byte)
 }
 
 // Where our result stands, if an AVP of theirs is a result too; else 0.
@@ -131,6 +139,7 @@ fn our_result(ours: &[u8], s: Seen) -> usize {
 
 // One whose name ours has, or has not.
 fn tell_named(
+    sys: &System,
     out: &mut [u8; 4096],
     at: usize,
     ours: &[u8],
@@ -140,14 +149,23 @@ fn tell_named(
 ) -> bool {
     let place = tool_judge_avps::place_of(ours, s, tool_judge_avps::named_before(theirs, byte, s));
     if place != 0 {
-        return tell_wrong(out, at, b" differs from ours", ours, place, theirs, byte);
+        return tell_wrong(
+            sys,
+            out,
+            at,
+            b" differs from ours",
+            ours,
+            place,
+            theirs,
+            byte,
+        );
     }
     if tool_judge_avps::place_of(ours, s, 0) != 0 {
         let wrong = b" is one more of its name than ours has";
-        return tell_wrong(out, at, wrong, ours, 0, theirs, byte);
+        return tell_wrong(sys, out, at, wrong, ours, 0, theirs, byte);
     }
     let wrong = b" has M, and ours has none of its name";
-    tell_wrong(out, at, wrong, ours, our_result(ours, s), theirs, byte)
+    tell_wrong(sys, out, at, wrong, ours, our_result(ours, s), theirs, byte)
 }
 
 // Whether an AVP is a Session-Id.
@@ -168,6 +186,7 @@ fn starts_with_session(m: &[u8]) -> bool {
 }
 
 fn tell_place(
+    sys: &System,
     out: &mut [u8; 4096],
     at: usize,
     ours: &[u8],
@@ -176,19 +195,20 @@ fn tell_place(
     s: Seen,
 ) -> bool {
     if byte != message::HEADER_LENGTH {
-        return tell_named(out, at, ours, theirs, byte, s);
+        return tell_named(sys, out, at, ours, theirs, byte, s);
     }
     if !starts_with_session(ours) {
-        return tell_named(out, at, ours, theirs, byte, s);
+        return tell_named(sys, out, at, ours, theirs, byte, s);
     }
     if is_session(s) {
-        return tell_named(out, at, ours, theirs, byte, s);
+        return tell_named(sys, out, at, ours, theirs, byte, s);
     }
     let wrong = b" is the first, and no Session-Id";
-    tell_wrong(out, at, wrong, ours, 0, theirs, byte)
+    tell_wrong(sys, out, at, wrong, ours, 0, theirs, byte)
 }
 
 fn tell_avp_wrong(
+    sys: &System,
     out: &mut [u8; 4096],
     at: usize,
     ours: &[u8],
@@ -199,22 +219,28 @@ fn tell_avp_wrong(
     let Step::One(s) = step else {
         return false;
     };
-    tell_place(out, at, ours, theirs, byte, s)
+    tell_place(sys, out, at, ours, theirs, byte, s)
 }
 
 // A MISSING ONE
 
-fn tell_missing(out: &mut [u8; 4096], at: usize, ours: &[u8], theirs: &[u8]) -> bool {
-    if !end_line(out, at, b"an AVP of ours is missing") {
+fn tell_missing(sys: &System, out: &mut [u8; 4096], at: usize, ours: &[u8], theirs: &[u8]) -> bool {
+    if !end_line(sys, out, at, b"an AVP of ours is missing") {
         return false;
     }
-    tell_avp(b"  ours: ", ours, tool_judge_avps::missing(ours, theirs))
+    tell_avp(
+        sys,
+        b"  ours: ",
+        ours,
+        tool_judge_avps::missing(ours, theirs),
+    )
 }
 
 // THE ANSWER AS A WHOLE
 
 // The first mismatch of an answer, said behind what the line has; whether it could be said. `m` is the request.
 pub fn tell_answer(
+    sys: &System,
     out: &mut [u8; 4096],
     at: usize,
     f: Found,
@@ -224,18 +250,19 @@ pub fn tell_answer(
 ) -> bool {
     let kind = f.mismatch;
     match kind {
-        1 => tell_header(out, at, m, ours, theirs, f.at),
-        2 => tell_walk(out, at, theirs),
-        3 => tell_avp_wrong(out, at, ours, theirs, f.at),
-        _ => tell_missing(out, at, ours, theirs),
+        1 => tell_header(sys, out, at, m, ours, theirs, f.at),
+        2 => tell_walk(sys, out, at, theirs),
+        3 => tell_avp_wrong(sys, out, at, ours, theirs, f.at),
+        _ => tell_missing(sys, out, at, ours, theirs),
     }
 }
 
 // A result beside the one of ours that is passed over, since it is of a name that ours lacks and has no M: where it stands, 0 for none. It is warned of.
-pub fn tell_second(ours: &[u8], theirs: &[u8]) -> usize {
+pub fn tell_second(sys: &System, ours: &[u8], theirs: &[u8]) -> usize {
     let at = tool_judge_avps::other_result(ours, theirs);
     if at != 0 {
         tell_avp(
+            sys,
             b"  WARNING: a second result, without M and so passed over: ",
             theirs,
             at,

@@ -1,11 +1,12 @@
 // What a judgement says of a notice that is not the one due: where it first differs from ours, with the tunnels of both.
 #![tactic(auto)]
 
+use system::System;
 use tool_judge_words::{end_line, how_many};
 use tool_words::{number, say};
 
 // The tunnel that a notice names, behind a margin. One of another length than a notice has is only said to be so.
-fn tell_tunnel(margin: &[u8], form: u32, notice: &[u8]) -> bool {
+fn tell_tunnel(sys: &System, margin: &[u8], form: u32, notice: &[u8]) -> bool {
     let mut out = [0u8; 4096];
     let mut room = [0u8; answers::NOTICE_LENGTH_2];
     let a = say(&mut out, 0, margin);
@@ -13,7 +14,7 @@ fn tell_tunnel(margin: &[u8], form: u32, notice: &[u8]) -> bool {
         let b = how_many(&mut out, a, notice.len(), b"byte");
         let c = say(&mut out, b, b", and a notice has ");
         let d = number(&mut out, c, tool_form::notice_length(form) as u64);
-        return end_line(&mut out, d, b"");
+        return end_line(sys, &mut out, d, b"");
     }
     if answers::NOTICE_LENGTH_2 < notice.len() {
         return true;
@@ -22,10 +23,11 @@ fn tell_tunnel(margin: &[u8], form: u32, notice: &[u8]) -> bool {
     let l = tool_notice_line::lengths_of(&room);
     let b = say(&mut out, a, b"cut ");
     let c = tool_notice_line::tunnel(&mut out, b, form, &room, l);
-    end_line(&mut out, c, b"")
+    end_line(sys, &mut out, c, b"")
 }
 
 fn tell_notice_byte(
+    sys: &System,
     out: &mut [u8; 4096],
     at: usize,
     form: u32,
@@ -35,17 +37,18 @@ fn tell_notice_byte(
 ) -> bool {
     let a = say(out, at, b"the notice differs at byte ");
     let b = number(out, a, byte as u64);
-    if !end_line(out, b, b"") {
+    if !end_line(sys, out, b, b"") {
         return false;
     }
-    if !tell_tunnel(b"  ours: ", form, ours) {
+    if !tell_tunnel(sys, b"  ours: ", form, ours) {
         return false;
     }
-    tell_tunnel(b"  theirs: ", form, theirs)
+    tell_tunnel(sys, b"  theirs: ", form, theirs)
 }
 
 // A notice that is not the one due, said behind what the line has; ours is no bytes where none is due.
 pub fn tell_notice(
+    sys: &System,
     out: &mut [u8; 4096],
     at: usize,
     form: u32,
@@ -54,16 +57,16 @@ pub fn tell_notice(
     byte: usize,
 ) -> bool {
     if theirs.len() < 1 {
-        if !end_line(out, at, b"no notice, and one is due") {
+        if !end_line(sys, out, at, b"no notice, and one is due") {
             return false;
         }
-        return tell_tunnel(b"  ours: ", form, ours);
+        return tell_tunnel(sys, b"  ours: ", form, ours);
     }
     if ours.len() < 1 {
-        if !end_line(out, at, b"a notice, and none is due") {
+        if !end_line(sys, out, at, b"a notice, and none is due") {
             return false;
         }
-        return tell_tunnel(b"  theirs: ", form, theirs);
+        return tell_tunnel(sys, b"  theirs: ", form, theirs);
     }
-    tell_notice_byte(out, at, form, ours, theirs, byte)
+    tell_notice_byte(sys, out, at, form, ours, theirs, byte)
 }

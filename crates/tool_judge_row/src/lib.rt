@@ -1,6 +1,7 @@
 // What a judgement says of a row that is not the one due: where it first differs from ours, what stands there, and the order lines of both.
 #![tactic(auto)]
 
+use system::System;
 use tool_judge_words::end_line;
 use tool_words::{number, say};
 
@@ -88,11 +89,11 @@ fn octet(out: &mut [u8; 4096], at: usize, row: &[u8], byte: usize) -> usize {
 }
 
 // The order line of a row, behind a margin.
-fn tell_line(margin: &[u8], row: &[u8]) -> bool {
+fn tell_line(sys: &System, margin: &[u8], row: &[u8]) -> bool {
     let mut out = [0u8; 4096];
     let a = say(&mut out, 0, margin);
     let b = tool_reply_line::line(&mut out, a, row);
-    end_line(&mut out, b, b"")
+    end_line(sys, &mut out, b, b"")
 }
 
 fn are_same(a: &[u8; 4096], b: &[u8; 4096]) -> bool {
@@ -100,7 +101,7 @@ fn are_same(a: &[u8; 4096], b: &[u8; 4096]) -> bool {
 }
 
 // The order lines of both, where they are not the same.
-fn tell_lines(ours: &[u8], theirs: &[u8]) -> bool {
+fn tell_lines(sys: &System, ours: &[u8], theirs: &[u8]) -> bool {
     let mut a = [0u8; 4096];
     let mut b = [0u8; 4096];
     tool_reply_line::line(&mut a, 0, ours);
@@ -108,14 +109,15 @@ fn tell_lines(ours: &[u8], theirs: &[u8]) -> bool {
     if are_same(&a, &b) {
         return true;
     }
-    if !tell_line(b"  ours: ", ours) {
+    if !tell_line(sys, b"  ours: ", ours) {
         return false;
     }
-    tell_line(b"  theirs: ", theirs)
+    tell_line(sys, b"  theirs: ", theirs)
 }
 
 // A row that is not the one due, said behind what the line has: the first byte that differs, and the order lines.
 pub fn tell_row(
+    sys: &System,
     out: &mut [u8; 4096],
     at: usize,
     form: u32,
@@ -131,8 +133,8 @@ pub fn tell_row(
     let f = octet(out, e, ours, byte);
     let g = say(out, f, b", theirs ");
     let h = octet(out, g, theirs, byte);
-    if !end_line(out, h, b"") {
+    if !end_line(sys, out, h, b"") {
         return false;
     }
-    tell_lines(ours, theirs)
+    tell_lines(sys, ours, theirs)
 }

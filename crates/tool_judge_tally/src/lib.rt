@@ -1,6 +1,7 @@
 // How many cases were accepted, and how many refused in which way: counted, and said at the end.
 #![tactic(auto)]
 
+use system::System;
 use tool_judge_words::how_many;
 use tool_words::{number, say};
 
@@ -68,7 +69,7 @@ fn refused_of(all: usize, accepted: usize) -> usize {
 }
 
 // The last line; the status is 1 where a case was refused.
-pub fn summary(all: usize, tally: &[usize; 9]) {
+pub fn summary(sys: &System, all: usize, tally: &[usize; 9]) {
     let mut out = [0u8; 4096];
     let refused = refused_of(all, tally[ACCEPTED]);
     let a = how_many(&mut out, 0, all, b"case");
@@ -81,10 +82,10 @@ pub fn summary(all: usize, tally: &[usize; 9]) {
     let h = say(&mut out, g, b"; warnings: ");
     let i = number(&mut out, h, tally[WARNED] as u64);
     let j = say(&mut out, i, b"\n");
-    if !tool_files::print(&out, j) {
+    if !tool_files::print(sys, &out, j) {
         return;
     }
     if 0 < refused {
-        tool_files::refuse(b"the old server did not always do what ours does");
+        tool_files::refuse(sys, b"the old server did not always do what ours does");
     }
 }

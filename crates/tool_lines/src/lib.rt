@@ -3,8 +3,10 @@
 
 ghost use Rattle.std.specs.Prelude.{◌≤◌, length};
 
+use system::System;
+
 // What stands next: a line of so many bytes, put at the start of the room; nothing more; or a line that is longer than the room.
-#[derive(Drop)]
+#[derive(Clone, Copy)]
 pub enum Line {
     Text(usize),
     End,
@@ -27,25 +29,25 @@ fn before_end(text: &[u8]) -> usize
 
 // The file goes on n bytes before where it is: the complement of n - 1 is -n. Only a plain file can be set back; of another the rest of what was
 // read is lost, so none is read by lines here.
-fn set_back(fd: i32, n: usize) {
+fn set_back(sys: &System, fd: i32, n: usize) {
     if n < 1 {
         return;
     }
     if 65536 < n {
         return;
     }
-    libc::lseek(fd, !((n - 1) as i64), libc::SEEK_CUR);
+    sys.seek_by(fd, !((n - 1) as i64));
 }
 
 // The next line of a plain file, without its end. The last line needs none.
-pub fn read(fd: i32, room: &mut [u8]) -> Line {
-    let got = io::read_full(fd, room);
+pub fn read(sys: &System, fd: i32, room: &mut [u8]) -> Line {
+    let got = sys.read_full(fd, room);
     if got == 0 {
         return Line::End;
     }
     let n = before_end(&room[..got]);
     if n < got {
-        set_back(fd, got - n - 1);
+        set_back(sys, fd, got - n - 1);
         return Line::Text(n);
     }
     if got < room.len() {
@@ -68,7 +70,7 @@ fn digit(x: u8) -> u8 {
 
 // The bytes that were said so far, and the first digit of the next one, 16 where there is none yet. `well` is false from the first sign on
 // that has no meaning.
-#[derive(Drop)]
+#[derive(Clone, Copy)]
 struct Half {
     bytes: usize,
     high: u8,

@@ -5,6 +5,7 @@ ghost use Rattle.std.specs.Prelude.{◌≡◌, true, ◌≤◌, length};
 ghost use Rattle.table.specs.Soundness.{is_row};
 ghost use Rattle.table.specs.TheTable.{block_length};
 
+use system::System;
 use tool_operator::Number;
 use tool_words::{number, say};
 
@@ -22,7 +23,7 @@ fn begin(out: &mut [u8; 4096], n: u32, i: usize) -> usize {
 }
 
 // Row i, where it is unsound and not wholly zero; whether it is. Which clause it breaks is said.
-fn is_unsound(i: usize, row: &[u8]) -> bool
+fn is_unsound(sys: &System, i: usize, row: &[u8]) -> bool
     requires { (is_row row.now ≡ true) × (block_length ≤ length row.now) }
 {
     if octets::all_zero(row) {
@@ -35,13 +36,13 @@ fn is_unsound(i: usize, row: &[u8]) -> bool
     let a = begin(&mut out, 20, i);
     let b = say(&mut out, a, b" is not sound: ");
     let c = tool_faults::reason(&mut out, b, row, clauses::broken(row));
-    tool_files::note(&out, c);
-    tool_files::mark();
+    tool_files::note(sys, &out, c);
+    tool_files::mark(sys);
     true
 }
 
 // What the access at place k holds that form 1 has no room for, said of row i; whether it holds such a thing.
-fn is_wide_at(i: usize, row: &[u8], k: usize) -> bool
+fn is_wide_at(sys: &System, i: usize, row: &[u8], k: usize) -> bool
     requires { (is_row row.now ≡ true) × (1 ≤ k) × (k ≤ 8) }
 {
     let more = row::second(row, k);
@@ -49,33 +50,33 @@ fn is_wide_at(i: usize, row: &[u8], k: usize) -> bool
         return false;
     }
     if more[1] != 0 {
-        tell_wide(i, k, b" holds a realm\n");
+        tell_wide(sys, i, k, b" holds a realm\n");
         return true;
     }
     if more[3] != 0 {
-        tell_wide(i, k, b" holds a second policy\n");
+        tell_wide(sys, i, k, b" holds a second policy\n");
         return true;
     }
     false
 }
 
-fn tell_wide(i: usize, k: usize, what: &[u8]) {
+fn tell_wide(sys: &System, i: usize, k: usize, what: &[u8]) {
     let mut out = [0u8; 4096];
     let a = begin(&mut out, 21, i);
     let b = say(&mut out, a, b" has no room in form 1: the access at place ");
     let c = number(&mut out, b, k as u64);
     let d = say(&mut out, c, what);
-    tool_files::note(&out, d);
-    tool_files::mark();
+    tool_files::note(sys, &out, d);
+    tool_files::mark(sys);
 }
 
 // Row i, where it holds a realm or a second policy; whether it does. At which place is said.
-fn is_wide(i: usize, row: &[u8]) -> bool
+fn is_wide(sys: &System, i: usize, row: &[u8]) -> bool
     requires { is_row row.now ≡ true }
 {
     let mut k: usize = 1;
     while k < 9 {
-        if is_wide_at(i, row, k) {
+        if is_wide_at(sys, i, row, k) {
             return true;
         }
         k += 1;
@@ -84,7 +85,7 @@ fn is_wide(i: usize, row: &[u8]) -> bool
 }
 
 // Whether row i is the one that the number is given for, which is then said.
-fn is_meant(table: &[u8], form: u32, number: u32, i: usize) -> bool {
+fn is_meant(sys: &System, table: &[u8], form: u32, number: u32, i: usize) -> bool {
     if tool_form::MOST_ROWS < i {
         return false;
     }
@@ -98,16 +99,16 @@ fn is_meant(table: &[u8], form: u32, number: u32, i: usize) -> bool {
         return false;
     }
     if number == 20 {
-        return is_unsound(i, row);
+        return is_unsound(sys, i, row);
     }
-    is_wide(i, row)
+    is_wide(sys, i, row)
 }
 
 // The first row that the number is given for, said.
-fn tell_row(table: &[u8], form: u32, number: u32) {
+fn tell_row(sys: &System, table: &[u8], form: u32, number: u32) {
     let mut i: usize = 0;
     while i < tool_form::MOST_ROWS {
-        if is_meant(table, form, number, i) {
+        if is_meant(sys, table, form, number, i) {
             return;
         }
         i += 1;
@@ -115,22 +116,22 @@ fn tell_row(table: &[u8], form: u32, number: u32) {
 }
 
 // Why nothing is moved.
-fn refuse(table: &[u8], form: u32, number: u32) {
+fn refuse(sys: &System, table: &[u8], form: u32, number: u32) {
     if number == 20 {
-        tell_row(table, form, number);
+        tell_row(sys, table, form, number);
         return;
     }
     if number == 21 {
-        tell_row(table, form, number);
+        tell_row(sys, table, form, number);
         return;
     }
-    tool_files::refuse(b"number 1 or 19: the table can not be moved");
+    tool_files::refuse(sys, b"number 1 or 19: the table can not be moved");
 }
 
 // MOVING
 
 // What was done, in a line.
-fn tell(to: &[u8], rows: usize, form: u32) -> bool {
+fn tell(sys: &System, to: &[u8], rows: usize, form: u32) -> bool {
     let mut out = [0u8; 4096];
     let a = tool_words::text(&mut out, 0, to);
     let b = say(&mut out, a, b": the table in form ");
@@ -138,21 +139,21 @@ fn tell(to: &[u8], rows: usize, form: u32) -> bool {
     let d = say(&mut out, c, b", rows: ");
     let e = number(&mut out, d, rows as u64);
     let f = say(&mut out, e, b"\n");
-    tool_files::print(&out, f)
+    tool_files::print(sys, &out, f)
 }
 
 // The moved table written under its name, which no file has yet.
-fn keep(to: &[u8], rows: usize, form: u32, target: &[u8]) {
-    let h = tool_hold::hold_name(to);
+fn keep(sys: &System, to: &[u8], rows: usize, form: u32, target: &[u8]) {
+    let h = tool_hold::hold_name(sys, to);
     if !tool_hold::is_held(h) {
         return;
     }
-    if tool_hold::write_new(to, h, target) {
-        if tell(to, rows, form) {
-            tool_hold::replace(to);
+    if tool_hold::write_new(sys, to, h, target) {
+        if tell(sys, to, rows, form) {
+            tool_hold::replace(sys, to);
         }
     }
-    tool_hold::leave(to, h);
+    tool_hold::leave(sys, to, h);
 }
 
 // The form that a table does not have.
@@ -164,14 +165,14 @@ fn other(form: u32) -> u32 {
 }
 
 // A table moved to the start of the room.
-fn move_table(path: &[u8], to: &[u8], form: u32, table: &[u8], room: &mut [u8]) {
+fn move_table(sys: &System, path: &[u8], to: &[u8], form: u32, table: &[u8], room: &mut [u8]) {
     let rows = table.len() / tool_form::row_length(form);
     if tool_form::MOST_ROWS < rows {
         return;
     }
     let goal = other(form);
     let n = tool_form::length_of(goal, rows);
-    if !tool_form::check_room(path, n, room) {
+    if !tool_form::check_room(sys, path, n, room) {
         return;
     }
     if room.len() < n {
@@ -179,15 +180,15 @@ fn move_table(path: &[u8], to: &[u8], form: u32, table: &[u8], room: &mut [u8]) 
     }
     let number = moving::move_table(table, &mut room[0..n], goal);
     if number != 0 {
-        refuse(table, form, number);
+        refuse(sys, table, form, number);
         return;
     }
-    keep(to, rows, goal, &room[0..n]);
+    keep(sys, to, rows, goal, &room[0..n]);
 }
 
 // The table at a path, read to the start of one room and moved to the start of the other.
-fn move_from(path: &[u8], to: &[u8], said: u32, table: &mut [u8], room: &mut [u8]) {
-    let found = tool_form::read(path, said, table);
+fn move_from(sys: &System, path: &[u8], to: &[u8], said: u32, table: &mut [u8], room: &mut [u8]) {
+    let found = tool_form::read(sys, path, said, table);
     let n = found.length;
     if n < 1 {
         return;
@@ -195,18 +196,18 @@ fn move_from(path: &[u8], to: &[u8], said: u32, table: &mut [u8], room: &mut [u8
     if table.len() < n {
         return;
     }
-    move_table(path, to, found.form, &table[0..n], room);
+    move_table(sys, path, to, found.form, &table[0..n], room);
 }
 
 // TABLE TO [form=F], which is the form of TABLE.
-pub fn run(table: &mut [u8], room: &mut [u8]) {
-    let said = tool_form::only(4);
+pub fn run(sys: &System, table: &mut [u8], room: &mut [u8]) {
+    let said = tool_form::only(sys, 4);
     let Number::Is(form) = said else {
         return;
     };
     let mut path = io::buffer();
     let mut to = io::buffer();
-    let n = os::arg(2, &mut path);
-    let k = os::arg(3, &mut to);
-    move_from(&path[..n], &to[..k], form, table, room);
+    let n = sys.arg(2, &mut path);
+    let k = sys.arg(3, &mut to);
+    move_from(sys, &path[..n], &to[..k], form, table, room);
 }

@@ -7,7 +7,7 @@ ghost use Rattle.std.specs.Prelude.{◌≤◌};
 use tool_words::{say, text};
 
 // How long the three texts are. The realm's length is 0 in form 1, and in form 2 where the tunnel came from a table of form 1.
-#[derive(Drop)]
+#[derive(Clone, Copy)]
 pub struct Lengths {
     pub session: usize,
     pub host: usize,

@@ -2,6 +2,7 @@
 #![tactic(auto)]
 
 use reader::{Seen, Step};
+use system::System;
 
 // Whether the value of an AVP is a text.
 fn is_value(m: &[u8], s: Seen, text: &[u8]) -> bool {
@@ -25,7 +26,7 @@ fn is_user(s: Seen) -> bool {
 }
 
 // What the AVP at a byte says: that the message is the name's, or another's, or nothing, and the next one stands at a byte.
-#[derive(Drop)]
+#[derive(Clone, Copy)]
 enum Found {
     Own,
     Other,
@@ -78,11 +79,11 @@ fn is_named(m: &[u8], room: &[u8; 4096], n: usize) -> bool {
 }
 
 // Whether a message is to be served: word i of the command line has the User-Name, and without such a word all are.
-pub fn is_chosen(i: usize, m: &[u8]) -> bool {
+pub fn is_chosen(sys: &System, i: usize, m: &[u8]) -> bool {
     if i == 0 {
         return true;
     }
     let mut name = [0u8; 4096];
-    let n = tool_options::only(i, &mut name);
+    let n = tool_options::only(sys, i, &mut name);
     is_named(m, &name, n)
 }

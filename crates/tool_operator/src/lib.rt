@@ -1,22 +1,23 @@
 // The words that say for which operator something is done, and how the rows are shared out: operator=N, and shares=A,B,..
 #![tactic(auto)]
 
+use system::System;
 use tool_files::Said;
 
 // The last of all words has the number 14.
 const BEHIND: usize = 15;
 
-fn is_at(i: usize, start: &[u8]) -> bool {
+fn is_at(sys: &System, i: usize, start: &[u8]) -> bool {
     let mut word = io::buffer();
-    let n = os::arg(i, &mut word);
+    let n = sys.arg(i, &mut word);
     tool_files::is_begun(&word[..n], start)
 }
 
 // The number of the first word from `first` on that begins so, 0 where there is none.
-pub fn find(first: usize, start: &[u8]) -> usize {
+pub fn find(sys: &System, first: usize, start: &[u8]) -> usize {
     let mut i: usize = first;
     while i < BEHIND {
-        if is_at(i, start) {
+        if is_at(sys, i, start) {
             return i;
         }
         i += 1;
@@ -25,7 +26,7 @@ pub fn find(first: usize, start: &[u8]) -> usize {
 }
 
 // A number for the server, which tests it.
-#[derive(Drop)]
+#[derive(Clone, Copy)]
 pub enum Number {
     Is(u32),
     Nothing,
@@ -50,9 +51,9 @@ fn number_in(text: &[u8], from: usize, end: usize) -> Number {
 }
 
 // The number that stands behind the first `skip` bytes of word i.
-pub fn number_behind(i: usize, skip: usize) -> Number {
+pub fn number_behind(sys: &System, i: usize, skip: usize) -> Number {
     let mut word = io::buffer();
-    let n = os::arg(i, &mut word);
+    let n = sys.arg(i, &mut word);
     let all: &[u8] = &word[..n];
     number_in(all, skip, all.len())
 }
@@ -60,16 +61,16 @@ pub fn number_behind(i: usize, skip: usize) -> Number {
 // THE OPERATOR
 
 // What word i says, operator 0 where there is no such word. One that says no number gets its line.
-pub fn operator(i: usize) -> Number {
+pub fn operator(sys: &System, i: usize) -> Number {
     if i == 0 {
         return Number::Is(0);
     }
     let mut word = io::buffer();
-    let n = os::arg(i, &mut word);
+    let n = sys.arg(i, &mut word);
     let all: &[u8] = &word[..n];
     let said = number_in(all, 9, all.len());
     let Number::Is(op) = said else {
-        tool_files::refuse_word(all, b": no operator, 0 to 15");
+        tool_files::refuse_word(sys, all, b": no operator, 0 to 15");
         return Number::Nothing;
     };
     Number::Is(op)
@@ -123,15 +124,19 @@ fn all_for(op: u32, rows: usize, shares: &mut [u32; 17]) -> usize {
 
 // What word i says, put into the room, which has zeros: how many shares, 0 where one is no number, which is then said. Where there is no such word the
 // operator has all rows.
-pub fn shares(i: usize, op: u32, rows: usize, shares: &mut [u32; 17]) -> usize {
+pub fn shares(sys: &System, i: usize, op: u32, rows: usize, shares: &mut [u32; 17]) -> usize {
     if i == 0 {
         return all_for(op, rows, shares);
     }
     let mut word = io::buffer();
-    let n = os::arg(i, &mut word);
+    let n = sys.arg(i, &mut word);
     let k = list(&word[..n], shares);
     if k == 0 {
-        tool_files::refuse_word(&word[..n], b": shares are numbers with a comma between two");
+        tool_files::refuse_word(
+            sys,
+            &word[..n],
+            b": shares are numbers with a comma between two",
+        );
     }
     k
 }

@@ -4,6 +4,8 @@
 
 // THE KINDS
 
+use system::System;
+
 pub const HEX: usize = 1;
 
 pub const QUIET: usize = 2;
@@ -76,17 +78,17 @@ fn kind_of(word: &[u8]) -> usize {
 }
 
 // The kind of word i.
-pub fn kind_at(i: usize) -> usize {
+pub fn kind_at(sys: &System, i: usize) -> usize {
     let mut word = io::buffer();
-    let n = os::arg(i, &mut word);
+    let n = sys.arg(i, &mut word);
     kind_of(&word[..n])
 }
 
 // The number of the first word of a kind from `first` on.
-pub fn find_from(first: usize, kind: usize) -> usize {
+pub fn find_from(sys: &System, first: usize, kind: usize) -> usize {
     let mut i: usize = first;
     while i < BEHIND {
-        if kind_at(i) == kind {
+        if kind_at(sys, i) == kind {
             return i;
         }
         i += 1;
@@ -95,34 +97,38 @@ pub fn find_from(first: usize, kind: usize) -> usize {
 }
 
 // The same among all the words of `handle`.
-pub fn find(kind: usize) -> usize {
-    find_from(FIRST, kind)
+pub fn find(sys: &System, kind: usize) -> usize {
+    find_from(sys, FIRST, kind)
 }
 
 // Whether word i, if it is there, has a meaning; why not is said.
-fn check_word(i: usize) -> bool {
-    if os::arg_count() <= i {
+fn check_word(sys: &System, i: usize) -> bool {
+    if sys.arg_count() <= i {
         return true;
     }
     let mut word = io::buffer();
-    let n = os::arg(i, &mut word);
+    let n = sys.arg(i, &mut word);
     let kind = kind_of(&word[..n]);
     if kind == 0 {
-        tool_files::refuse_word(&word[..n], b": no word that handle takes: see play help");
+        tool_files::refuse_word(
+            sys,
+            &word[..n],
+            b": no word that handle takes: see play help",
+        );
         return false;
     }
-    if find(kind) == i {
+    if find(sys, kind) == i {
         return true;
     }
-    tool_files::refuse_word(&word[..n], b": a word for the same stands before it");
+    tool_files::refuse_word(sys, &word[..n], b": a word for the same stands before it");
     false
 }
 
 // Whether all the words have a meaning.
-pub fn check_words() -> bool {
+pub fn check_words(sys: &System) -> bool {
     let mut i: usize = FIRST;
     while i < BEHIND {
-        if !check_word(i) {
+        if !check_word(sys, i) {
             return false;
         }
         i += 1;
@@ -133,9 +139,9 @@ pub fn check_words() -> bool {
 // WHAT THEY SAY
 
 // What stands behind the first `skip` bytes of word i, put at the start of the room: its length.
-fn value(i: usize, skip: usize, room: &mut [u8; 4096]) -> usize {
+fn value(sys: &System, i: usize, skip: usize, room: &mut [u8; 4096]) -> usize {
     let mut word = io::buffer();
-    let n = os::arg(i, &mut word);
+    let n = sys.arg(i, &mut word);
     let all: &[u8] = &word[..n];
     let k = all.len();
     if k < skip {
@@ -158,57 +164,57 @@ fn given(text: &[u8], room: &mut [u8; 4096]) -> usize {
 }
 
 // The server's own host: word i, or the one it has otherwise.
-pub fn host(i: usize, room: &mut [u8; 4096]) -> usize {
+pub fn host(sys: &System, i: usize, room: &mut [u8; 4096]) -> usize {
     if i == 0 {
         return given(b"wm.example", room);
     }
-    value(i, 5, room)
+    value(sys, i, 5, room)
 }
 
 // The server's own realm, likewise.
-pub fn realm(i: usize, room: &mut [u8; 4096]) -> usize {
+pub fn realm(sys: &System, i: usize, room: &mut [u8; 4096]) -> usize {
     if i == 0 {
         return given(b"example", room);
     }
-    value(i, 6, room)
+    value(sys, i, 6, room)
 }
 
 // The User-Name of the messages to be served.
-pub fn only(i: usize, room: &mut [u8; 4096]) -> usize {
-    value(i, 5, room)
+pub fn only(sys: &System, i: usize, room: &mut [u8; 4096]) -> usize {
+    value(sys, i, 5, room)
 }
 
 // The file of expected codes.
-pub fn codes(i: usize, room: &mut [u8; 4096]) -> usize {
-    value(i, 6, room)
+pub fn codes(sys: &System, i: usize, room: &mut [u8; 4096]) -> usize {
+    value(sys, i, 6, room)
 }
 
 // The file of screens.
-pub fn board(i: usize, room: &mut [u8; 4096]) -> usize {
-    value(i, 6, room)
+pub fn board(sys: &System, i: usize, room: &mut [u8; 4096]) -> usize {
+    value(sys, i, 6, room)
 }
 
 // The file with what the gateway says to each message.
-pub fn wags(i: usize, room: &mut [u8; 4096]) -> usize {
-    value(i, 5, room)
+pub fn wags(sys: &System, i: usize, room: &mut [u8; 4096]) -> usize {
+    value(sys, i, 5, room)
 }
 
 // Whether word i names such a file.
-pub fn is_file_of_wags(i: usize) -> bool {
+pub fn is_file_of_wags(sys: &System, i: usize) -> bool {
     if i == 0 {
         return false;
     }
     let mut word = io::buffer();
-    let n = os::arg(i, &mut word);
+    let n = sys.arg(i, &mut word);
     tool_files::is_begun(&word[..n], b"wags=")
 }
 
 // Whether the gateway takes every policy: it does unless word i says no.
-pub fn is_wag(i: usize) -> bool {
+pub fn is_wag(sys: &System, i: usize) -> bool {
     if i == 0 {
         return true;
     }
     let mut word = io::buffer();
-    let n = os::arg(i, &mut word);
+    let n = sys.arg(i, &mut word);
     !octets::same_bytes(&word[..n], b"wag=no")
 }

@@ -3,22 +3,23 @@
 
 use decision::Outcome;
 use reasons::Why;
+use system::System;
 use tool_words::{number, say};
 
 // The first n bytes of a room, written; why not is said of the file.
-fn put(fd: i32, path: &[u8], room: &[u8], n: usize) -> bool {
+fn put(sys: &System, fd: i32, path: &[u8], room: &[u8], n: usize) -> bool {
     if room.len() < n {
         return false;
     }
-    if io::write_all(fd, &room[0..n]) {
+    if sys.write_all(fd, &room[0..n]) {
         return true;
     }
-    tool_files::refuse_file(path);
+    tool_files::refuse_file(sys, path);
     false
 }
 
 // The files that answers and notices go to.
-#[derive(Drop)]
+#[derive(Clone, Copy)]
 pub struct Sheets {
     pub answers: i32,
     pub notices: i32,
@@ -26,6 +27,7 @@ pub struct Sheets {
 
 // The answer and, where there was a cut, its notice, as long as the form has it; whether both are written.
 pub fn keep(
+    sys: &System,
     s: Sheets,
     answers: &[u8],
     notices: &[u8],
@@ -34,18 +36,24 @@ pub fn keep(
     answer: &[u8],
     notice: &[u8],
 ) -> bool {
-    if !put(s.answers, answers, answer, o.length) {
+    if !put(sys, s.answers, answers, answer, o.length) {
         return false;
     }
     let cut = o.cut;
     if tool_totals::is_cut(cut) {
-        return put(s.notices, notices, notice, tool_form::notice_length(form));
+        return put(
+            sys,
+            s.notices,
+            notices,
+            notice,
+            tool_form::notice_length(form),
+        );
     }
     true
 }
 
 // The line of a message: what it asks of a table of that form, what came of it, and why; whether it could be said.
-fn tell(k: usize, m: &[u8], form: u32, o: Outcome, why: Why, notice: &[u8]) -> bool {
+fn tell(sys: &System, k: usize, m: &[u8], form: u32, o: Outcome, why: Why, notice: &[u8]) -> bool {
     let mut out = [0u8; 4096];
     let a = number(&mut out, 0, k as u64);
     let b = say(&mut out, a, b". ");
@@ -53,11 +61,12 @@ fn tell(k: usize, m: &[u8], form: u32, o: Outcome, why: Why, notice: &[u8]) -> b
     let d = say(&mut out, c, b": ");
     let e = tool_reply_line::outcome(&mut out, d, form, o, why, notice);
     let f = say(&mut out, e, b"\n");
-    tool_files::print(&out, f)
+    tool_files::print(sys, &out, f)
 }
 
 // The line of a message, and below it that something else was expected. Where all is quiet only such a message has a line.
 pub fn tell_unless_quiet(
+    sys: &System,
     quiet: bool,
     expected: usize,
     k: usize,
@@ -71,12 +80,12 @@ pub fn tell_unless_quiet(
         if quiet {
             return true;
         }
-        return tell(k, m, form, o, why, notice);
+        return tell(sys, k, m, form, o, why, notice);
     }
-    if !tell(k, m, form, o, why, notice) {
+    if !tell(sys, k, m, form, o, why, notice) {
         return false;
     }
     let mut out = [0u8; 4096];
     let n = tool_expected::tell(&mut out, o, expected);
-    tool_files::print(&out, n)
+    tool_files::print(sys, &out, n)
 }

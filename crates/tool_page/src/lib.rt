@@ -2,11 +2,12 @@
 #![tactic(auto)]
 
 use reasons::{Reason, Why};
+use system::System;
 use tool_streams::Source;
 
 // The files that are open, -1 for one that was not asked for; the words that were said, by their numbers; what the gateway says where no
 // file has it; the form of the table, and the operator.
-#[derive(Drop)]
+#[derive(Clone, Copy)]
 pub struct Desk {
     pub requests: i32,
     pub answers: i32,
@@ -24,7 +25,7 @@ pub struct Desk {
 }
 
 // What goes with a message: what the gateway says to a policy, yes or no, and the code that is expected; 0 for nothing.
-#[derive(Drop)]
+#[derive(Clone, Copy)]
 pub struct Beside {
     pub wag: usize,
     pub expected: usize,
@@ -32,7 +33,7 @@ pub struct Beside {
 
 // How far a page is filled: its slots, the messages of the burst and their bytes; whether the last slot has a message that is put to the server by
 // itself, whose bytes stand behind those; whether no more can be added, and whether the next message or a line for it could not be read again.
-#[derive(Drop)]
+#[derive(Clone, Copy)]
 pub struct Page {
     pub slots: usize,
     pub messages: usize,
@@ -106,9 +107,9 @@ pub fn sum(a: usize, b: usize) -> usize {
 // WHAT GOES WITH A MESSAGE
 
 // What the gateway says to the next message: its line of the file, or where there is none what it says to all.
-fn take_wag(d: Desk) -> usize {
+fn take_wag(sys: &System, d: Desk) -> usize {
     if 0 <= d.wags {
-        return tool_expected::take(d.wags, tool_expected::WAGS);
+        return tool_expected::take(sys, d.wags, tool_expected::WAGS);
     }
     if d.wag {
         return tool_expected::YES;
@@ -116,10 +117,10 @@ fn take_wag(d: Desk) -> usize {
     tool_expected::NO
 }
 
-fn take_beside(d: Desk) -> Beside {
+fn take_beside(sys: &System, d: Desk) -> Beside {
     Beside {
-        wag: take_wag(d),
-        expected: tool_expected::take(d.codes, tool_expected::CODES),
+        wag: take_wag(sys, d),
+        expected: tool_expected::take(sys, d.codes, tool_expected::CODES),
     }
 }
 
@@ -250,6 +251,7 @@ fn added(p: Page, n: usize, alone: bool) -> Page {
 
 // A message with what goes with it, in the next slot.
 fn add(
+    sys: &System,
     d: Desk,
     table: &[u8],
     host: &[u8],
@@ -261,7 +263,7 @@ fn add(
     b: Beside,
     p: Page,
 ) -> Page {
-    if !tool_only::is_chosen(d.only, m) {
+    if !tool_only::is_chosen(sys, d.only, m) {
         put_slot(slots, p.slots, 0, b);
         return passed(p);
     }
@@ -275,6 +277,7 @@ fn add(
 
 // The first n bytes of the room as the next message. Its lines of the other files are taken in any case.
 fn add_read(
+    sys: &System,
     d: Desk,
     table: &[u8],
     host: &[u8],
@@ -290,11 +293,12 @@ fn add_read(
     if all.len() < n {
         return without_message(p);
     }
-    let b = take_beside(d);
+    let b = take_beside(sys, d);
     if is_lost(d, b) {
         return without_line(p);
     }
     add(
+        sys,
         d,
         table,
         host,
@@ -328,6 +332,7 @@ fn has_room(messages: usize, slots: usize, p: Page) -> bool {
 
 // The next message of the file.
 fn turn(
+    sys: &System,
     d: Desk,
     table: &[u8],
     host: &[u8],
@@ -341,15 +346,18 @@ fn turn(
         return closed(p);
     }
     let mut room = [0u8; 8192];
-    let n = tool_streams::read(source(d), &mut room);
+    let n = tool_streams::read(sys, source(d), &mut room);
     if n == 0 {
         return without_message(p);
     }
-    add_read(d, table, host, realm, messages, slots, wags, &room, n, p)
+    add_read(
+        sys, d, table, host, realm, messages, slots, wags, &room, n, p,
+    )
 }
 
 // The next messages of the file, of which `left` are left: up to the end of the page or of the file, or to one that goes by itself.
 pub fn gather(
+    sys: &System,
     d: Desk,
     table: &[u8],
     host: &[u8],
@@ -363,7 +371,7 @@ pub fn gather(
     let mut turns = left;
     while turns > 0 {
         turns -= 1;
-        p = turn(d, table, host, realm, messages, slots, wags, p);
+        p = turn(sys, d, table, host, realm, messages, slots, wags, p);
         if p.full {
             return p;
         }

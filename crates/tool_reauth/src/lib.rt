@@ -4,12 +4,13 @@
 
 use gateway::Reauthorized;
 use message::Kind;
+use system::System;
 use tool_operator::Number;
 use tool_streams::{Source, Way};
 use tool_words::{number, say};
 
 // The files that are open, and the identifiers of the first AA-Request.
-#[derive(Drop)]
+#[derive(Clone, Copy)]
 struct Desk {
     from: i32,
     answers: i32,
@@ -18,7 +19,7 @@ struct Desk {
 }
 
 // How far the messages are read, and how many answers and AA-Requests were written.
-#[derive(Drop)]
+#[derive(Clone, Copy)]
 struct Told {
     way: Way,
     answers: usize,
@@ -54,6 +55,7 @@ fn identifier(first: u32, before: usize) -> u32 {
 
 // A call for the access that the words say, with this visited network.
 fn ask_from(
+    sys: &System,
     visited: &[u8],
     m: &[u8],
     id: u32,
@@ -65,11 +67,11 @@ fn ask_from(
     let mut session = io::buffer();
     let mut user = io::buffer();
     let mut label = io::buffer();
-    let a = os::arg(5, &mut host);
-    let b = os::arg(6, &mut realm);
-    let c = os::arg(7, &mut session);
-    let d = os::arg(8, &mut user);
-    let e = os::arg(9, &mut label);
+    let a = sys.arg(5, &mut host);
+    let b = sys.arg(6, &mut realm);
+    let c = sys.arg(7, &mut session);
+    let d = sys.arg(8, &mut user);
+    let e = sys.arg(9, &mut label);
     gateway::reauthorize(
         &host[..a],
         &realm[..b],
@@ -87,23 +89,24 @@ fn ask_from(
 
 // The same with the visited network that a word says, or without one.
 fn ask(
+    sys: &System,
     m: &[u8],
     id: u32,
     answer: &mut [u8; answers::ANSWER_LEAST],
     request: &mut [u8; answers::ANSWER_LEAST],
 ) -> Reauthorized {
-    let i = tool_operator::find(10, b"visited=");
+    let i = tool_operator::find(sys, 10, b"visited=");
     let mut word = io::buffer();
-    let n = os::arg(i, &mut word);
+    let n = sys.arg(i, &mut word);
     let all: &[u8] = &word[..n];
     let end = all.len();
     if i == 0 {
-        return ask_from(b"", m, id, answer, request);
+        return ask_from(sys, b"", m, id, answer, request);
     }
     if end < 8 {
-        return ask_from(b"", m, id, answer, request);
+        return ask_from(sys, b"", m, id, answer, request);
     }
-    ask_from(&all[8..end], m, id, answer, request)
+    ask_from(sys, &all[8..end], m, id, answer, request)
 }
 
 // The number of a message that gets no answer.
@@ -138,7 +141,7 @@ fn say_given(out: &mut [u8; 4096], at: usize, g: Reauthorized, id: u32) -> usize
 }
 
 // The line of message k; whether it could be said.
-fn tell(k: usize, m: &[u8], g: Reauthorized, id: u32) -> bool {
+fn tell(sys: &System, k: usize, m: &[u8], g: Reauthorized, id: u32) -> bool {
     let mut out = [0u8; 4096];
     let a = number(&mut out, 0, k as u64);
     let b = say(&mut out, a, b". ");
@@ -146,35 +149,43 @@ fn tell(k: usize, m: &[u8], g: Reauthorized, id: u32) -> bool {
     let d = say(&mut out, c, b": ");
     let e = say_given(&mut out, d, g, id);
     let f = say(&mut out, e, b"\n");
-    tool_files::print(&out, f)
+    tool_files::print(sys, &out, f)
 }
 
 // The first n bytes of a room, written; why not is said of the file.
-fn put(fd: i32, path: &[u8], room: &[u8; answers::ANSWER_LEAST], n: usize) -> bool {
+fn put(sys: &System, fd: i32, path: &[u8], room: &[u8; answers::ANSWER_LEAST], n: usize) -> bool {
     let all: &[u8] = room;
     if all.len() < n {
         return false;
     }
-    if io::write_all(fd, &all[0..n]) {
+    if sys.write_all(fd, &all[0..n]) {
         return true;
     }
-    tool_files::refuse_file(path);
+    tool_files::refuse_file(sys, path);
     false
 }
 
 // A message answered, what came of it written and said.
-fn serve(desk: Desk, answers: &[u8], requests: &[u8], m: &[u8], t: Told, way: Way) -> Told {
+fn serve(
+    sys: &System,
+    desk: Desk,
+    answers: &[u8],
+    requests: &[u8],
+    m: &[u8],
+    t: Told,
+    way: Way,
+) -> Told {
     let mut answer = [0u8; answers::ANSWER_LEAST];
     let mut request = [0u8; answers::ANSWER_LEAST];
     let id = identifier(desk.first, t.requests);
-    let g = ask(m, id, &mut answer, &mut request);
-    if !put(desk.answers, answers, &answer, g.length) {
+    let g = ask(sys, m, id, &mut answer, &mut request);
+    if !put(sys, desk.answers, answers, &answer, g.length) {
         return stop(t, way);
     }
-    if !put(desk.requests, requests, &request, g.request_length) {
+    if !put(sys, desk.requests, requests, &request, g.request_length) {
         return stop(t, way);
     }
-    if !tell(way.messages, m, g, id) {
+    if !tell(sys, way.messages, m, g, id) {
         return stop(t, way);
     }
     Told {
@@ -187,23 +198,31 @@ fn serve(desk: Desk, answers: &[u8], requests: &[u8], m: &[u8], t: Told, way: Wa
 // ALL MESSAGES
 
 // The first bytes of the room as the next message.
-fn take(desk: Desk, answers: &[u8], requests: &[u8], room: &[u8; 8192], t: Told, way: Way) -> Told {
+fn take(
+    sys: &System,
+    desk: Desk,
+    answers: &[u8],
+    requests: &[u8],
+    room: &[u8; 8192],
+    t: Told,
+    way: Way,
+) -> Told {
     let all: &[u8] = room;
     let n = way.last;
     if all.len() < n {
         return stop(t, way);
     }
-    serve(desk, answers, requests, &all[0..n], t, way)
+    serve(sys, desk, answers, requests, &all[0..n], t, way)
 }
 
-fn step(desk: Desk, from: &[u8], answers: &[u8], requests: &[u8], t: Told) -> Told {
+fn step(sys: &System, desk: Desk, from: &[u8], answers: &[u8], requests: &[u8], t: Told) -> Told {
     let mut room = [0u8; 8192];
     let before = t.way;
     let source = Source {
         fd: desk.from,
         hex: false,
     };
-    let way = tool_streams::look(source, from, before, &mut room);
+    let way = tool_streams::look(sys, source, from, before, &mut room);
     if way.last == 0 {
         return Told {
             way,
@@ -211,11 +230,11 @@ fn step(desk: Desk, from: &[u8], answers: &[u8], requests: &[u8], t: Told) -> To
             requests: t.requests,
         };
     }
-    take(desk, answers, requests, &room, t, way)
+    take(sys, desk, answers, requests, &room, t, way)
 }
 
 // A proved loop has to end, and nothing says that a file does, so the turns are counted down.
-fn follow(desk: Desk, from: &[u8], answers: &[u8], requests: &[u8]) -> Told {
+fn follow(sys: &System, desk: Desk, from: &[u8], answers: &[u8], requests: &[u8]) -> Told {
     let mut t = Told {
         way: tool_streams::start(),
         answers: 0,
@@ -224,7 +243,7 @@ fn follow(desk: Desk, from: &[u8], answers: &[u8], requests: &[u8]) -> Told {
     let mut turns: usize = 4294967296;
     while turns > 0 {
         turns -= 1;
-        t = step(desk, from, answers, requests, t);
+        t = step(sys, desk, from, answers, requests, t);
         let way = t.way;
         if way.last == 0 {
             return t;
@@ -233,7 +252,7 @@ fn follow(desk: Desk, from: &[u8], answers: &[u8], requests: &[u8]) -> Told {
     t
 }
 
-fn summary(t: Told) {
+fn summary(sys: &System, t: Told) {
     let way = t.way;
     let mut out = [0u8; 4096];
     let a = number(&mut out, 0, way.messages as u64);
@@ -242,38 +261,40 @@ fn summary(t: Told) {
     let d = say(&mut out, c, b" answers and ");
     let e = number(&mut out, d, t.requests as u64);
     let f = say(&mut out, e, b" AA-Requests written\n");
-    tool_files::print(&out, f);
+    tool_files::print(sys, &out, f);
 }
 
-fn play(desk: Desk, from: &[u8], answers: &[u8], requests: &[u8]) {
-    let t = follow(desk, from, answers, requests);
+fn play(sys: &System, desk: Desk, from: &[u8], answers: &[u8], requests: &[u8]) {
+    let t = follow(sys, desk, from, answers, requests);
     let way = t.way;
     if !way.well {
         return;
     }
-    if !tool_sheets::force_out(desk.answers, answers) {
+    if !tool_sheets::force_out(sys, desk.answers, answers) {
         return;
     }
-    if tool_sheets::force_out(desk.requests, requests) {
-        summary(t);
+    if tool_sheets::force_out(sys, desk.requests, requests) {
+        summary(sys, t);
     }
 }
 
 // THE COMMAND
 
 // Whether the library takes the own names and the access, asked with a message of no bytes, which has number 5; if not, that is said.
-fn check_access() -> bool {
+fn check_access(sys: &System) -> bool {
     let mut answer = [0u8; answers::ANSWER_LEAST];
     let mut request = [0u8; answers::ANSWER_LEAST];
-    let g = ask(b"", 0, &mut answer, &mut request);
+    let g = ask(sys, b"", 0, &mut answer, &mut request);
     if g.code == 2 {
         tool_files::refuse(
+            sys,
             b"number 2: own host or realm is not 1 to 128 bytes; nothing is written",
         );
         return false;
     }
     if g.code == 22 {
         tool_files::refuse(
+            sys,
             b"number 22: SESSION and USER have 1 to 128 bytes, LABEL 1 to 100, a visited network at most 128; nothing is written",
         );
         return false;
@@ -282,30 +303,30 @@ fn check_access() -> bool {
 }
 
 // The messages of a file, known to be whole, from its start; -1 where they can not be followed, which is then said.
-fn open_messages(path: &[u8]) -> i32 {
-    let fd = tool_files::open_plain(path);
+fn open_messages(sys: &System, path: &[u8]) -> i32 {
+    let fd = tool_files::open_plain(sys, path);
     if fd < 0 {
         return -1;
     }
-    if tool_inputs::count(Source { fd, hex: false }, path) < 1 {
+    if tool_inputs::count(sys, Source { fd, hex: false }, path) < 1 {
         return -1;
     }
-    if libc::lseek(fd, 0, libc::SEEK_SET) != 0 {
-        tool_files::refuse_file(path);
+    if !sys.seek_to(fd, 0) {
+        tool_files::refuse_file(sys, path);
         return -1;
     }
     fd
 }
 
-fn open_and_play(first: u32, from: &[u8], answers: &[u8], requests: &[u8]) {
-    if !check_access() {
+fn open_and_play(sys: &System, first: u32, from: &[u8], answers: &[u8], requests: &[u8]) {
+    if !check_access(sys) {
         return;
     }
-    let fd = open_messages(from);
+    let fd = open_messages(sys, from);
     if fd < 0 {
         return;
     }
-    let sheets = tool_sheets::open_two_beside(answers, requests, fd);
+    let sheets = tool_sheets::open_two_beside(sys, answers, requests, fd);
     if !sheets.well {
         return;
     }
@@ -315,59 +336,60 @@ fn open_and_play(first: u32, from: &[u8], answers: &[u8], requests: &[u8]) {
         requests: sheets.notices,
         first,
     };
-    play(desk, from, answers, requests);
+    play(sys, desk, from, answers, requests);
 }
 
 // Whether word i, if it is there, is the first that says the visited network or the first that says the identifiers.
-fn is_word(i: usize) -> bool {
-    if os::arg_count() <= i {
+fn is_word(sys: &System, i: usize) -> bool {
+    if sys.arg_count() <= i {
         return true;
     }
-    if tool_operator::find(10, b"visited=") == i {
+    if tool_operator::find(sys, 10, b"visited=") == i {
         return true;
     }
-    tool_operator::find(10, b"first=") == i
+    tool_operator::find(sys, 10, b"first=") == i
 }
 
-fn check_words() -> bool {
-    if is_word(10) {
-        if is_word(11) {
+fn check_words(sys: &System) -> bool {
+    if is_word(sys, 10) {
+        if is_word(sys, 11) {
             return true;
         }
     }
     tool_files::refuse(
+        sys,
         b"the last words may be visited=NETWORK and first=N, each once, and nothing else",
     );
     false
 }
 
 // The identifiers that word i says, 1 where there is no such word. One that says no number gets its line.
-fn first_of(i: usize) -> Number {
+fn first_of(sys: &System, i: usize) -> Number {
     if i == 0 {
         return Number::Is(1);
     }
-    let said = tool_operator::number_behind(i, 6);
+    let said = tool_operator::number_behind(sys, i, 6);
     let Number::Is(n) = said else {
-        tool_files::refuse(b"behind first= stands a number, 0 to 99999999");
+        tool_files::refuse(sys, b"behind first= stands a number, 0 to 99999999");
         return Number::Nothing;
     };
     Number::Is(n)
 }
 
 // REQUESTS ANSWERS AA-REQUESTS HOST REALM SESSION USER LABEL [visited=NETWORK] [first=N].
-pub fn run() {
-    if !check_words() {
+pub fn run(sys: &System) {
+    if !check_words(sys) {
         return;
     }
-    let said = first_of(tool_operator::find(10, b"first="));
+    let said = first_of(sys, tool_operator::find(sys, 10, b"first="));
     let Number::Is(first) = said else {
         return;
     };
     let mut from = io::buffer();
     let mut answers = io::buffer();
     let mut requests = io::buffer();
-    let a = os::arg(2, &mut from);
-    let b = os::arg(3, &mut answers);
-    let c = os::arg(4, &mut requests);
-    open_and_play(first, &from[..a], &answers[..b], &requests[..c]);
+    let a = sys.arg(2, &mut from);
+    let b = sys.arg(3, &mut answers);
+    let c = sys.arg(4, &mut requests);
+    open_and_play(sys, first, &from[..a], &answers[..b], &requests[..c]);
 }

@@ -4,6 +4,7 @@
 ghost use Rattle.std.specs.Prelude.{◌+◌, ◌≤◌};
 
 use screen::{Count, Event, Screen};
+use system::System;
 use tool_lines::Line;
 use tool_words::{number, say, text};
 
@@ -151,11 +152,11 @@ fn length_of(next: Line) -> usize {
 }
 
 // The screens of a file, as many as the list has room for: how many they are.
-fn fill(fd: i32, screens: &mut [Entry]) -> usize {
+fn fill(sys: &System, fd: i32, screens: &mut [Entry]) -> usize {
     let mut i: usize = 0;
     while i < screens.len() {
         let mut line = [0u8; 4096];
-        let n = length_of(tool_lines::read(fd, &mut line));
+        let n = length_of(tool_lines::read(sys, fd, &mut line));
         if n > 4096 {
             return i;
         }
@@ -166,12 +167,13 @@ fn fill(fd: i32, screens: &mut [Entry]) -> usize {
 }
 
 // Whether they make a board; why not is said.
-fn check(path: &[u8], screens: &[Entry]) -> bool {
+fn check(sys: &System, path: &[u8], screens: &[Entry]) -> bool {
     let c = connected(screens);
     if c.number == 0 {
         return true;
     }
     tool_files::refuse_word(
+        sys,
         path,
         b": over 64 lines, or a Session-Id that stands twice or has not 1 to 128 bytes (number 25)",
     );
@@ -179,16 +181,16 @@ fn check(path: &[u8], screens: &[Entry]) -> bool {
 }
 
 // The screens of an open file: how many they are, 0 where they make no board, which is said. With room for 65 of them too many are told.
-pub fn read(fd: i32, path: &[u8], screens: &mut [Entry]) -> usize {
-    let n = fill(fd, screens);
+pub fn read(sys: &System, fd: i32, path: &[u8], screens: &mut [Entry]) -> usize {
+    let n = fill(sys, fd, screens);
     if n == 0 {
-        tool_files::refuse_word(path, b": no screens: it has no line");
+        tool_files::refuse_word(sys, path, b": no screens: it has no line");
         return 0;
     }
     if screens.len() < n {
         return 0;
     }
-    if check(path, &screens[0..n]) {
+    if check(sys, path, &screens[0..n]) {
         return n;
     }
     0
@@ -224,7 +226,7 @@ pub fn state(out: &mut [u8; 4096], at: usize, e: Entry) -> usize {
 }
 
 // A screen, with what a sales desk wants to know before it; whether it could be said.
-fn draw_one(e: Entry) -> bool {
+fn draw_one(sys: &System, e: Entry) -> bool {
     let mut out = [0u8; 4096];
     let mut at: usize = 0;
     if e[0] == 2 {
@@ -236,29 +238,29 @@ fn draw_one(e: Entry) -> bool {
     let b = say(&mut out, a, b": ");
     let c = state(&mut out, b, e);
     let d = say(&mut out, c, b"\n");
-    tool_files::print(&out, d)
+    tool_files::print(sys, &out, d)
 }
 
-fn draw_count(connected: u32, all: usize) -> bool {
+fn draw_count(sys: &System, connected: u32, all: usize) -> bool {
     let mut out = [0u8; 4096];
     let a = number(&mut out, 0, connected as u64);
     let b = say(&mut out, a, b" of ");
     let c = number(&mut out, b, all as u64);
     let d = say(&mut out, c, b" screens are lit\n");
-    tool_files::print(&out, d)
+    tool_files::print(sys, &out, d)
 }
 
 // The board, a line a screen, and how many of them are connected; whether it could be said.
-pub fn draw(screens: &[Entry]) -> bool {
+pub fn draw(sys: &System, screens: &[Entry]) -> bool {
     let mut i: usize = 0;
     while i < screens.len() {
-        if !draw_one(screens[i]) {
+        if !draw_one(sys, screens[i]) {
             return false;
         }
         i += 1;
     }
     let c = connected(screens);
-    draw_count(c.screens, screens.len())
+    draw_count(sys, c.screens, screens.len())
 }
 
 // ONE SESSION-ID
@@ -296,7 +298,7 @@ fn shows_other(a: Entry, b: Entry) -> bool {
 }
 
 // That message k has moved a screen, if it shows something else than before; whether it could be said.
-pub fn tell_moved(k: usize, before: Entry, now: Entry) -> bool {
+pub fn tell_moved(sys: &System, k: usize, before: Entry, now: Entry) -> bool {
     if !shows_other(before, now) {
         return true;
     }
@@ -307,5 +309,5 @@ pub fn tell_moved(k: usize, before: Entry, now: Entry) -> bool {
     let d = say(&mut out, c, b": ");
     let e = state(&mut out, d, now);
     let f = say(&mut out, e, b"\n");
-    tool_files::print(&out, f)
+    tool_files::print(sys, &out, f)
 }

@@ -6,6 +6,7 @@ use decision::Outcome;
 use effects::Cut;
 use message::Kind;
 use reasons::{Reason, Why};
+use system::System;
 use tool_outcomes::Sheets;
 use tool_page::{Beside, Desk, Page};
 use tool_screens::Entry;
@@ -34,6 +35,7 @@ fn part(s: &[u8], from: usize, n: usize) -> &[u8] {
 
 // What came of a message, written, counted, said and fed to the board.
 fn report(
+    sys: &System,
     d: Desk,
     answers: &[u8],
     notices: &[u8],
@@ -46,16 +48,25 @@ fn report(
     notice: &[u8],
     t: Totals,
 ) -> Totals {
-    if !tool_outcomes::keep(written_to(d), answers, notices, d.form, o, answer, notice) {
+    if !tool_outcomes::keep(
+        sys,
+        written_to(d),
+        answers,
+        notices,
+        d.form,
+        o,
+        answer,
+        notice,
+    ) {
         return tool_totals::broken(t);
     }
     let u = tool_totals::counted(t, o, tool_expected::is_expected(o, b.expected));
     if !tool_outcomes::tell_unless_quiet(
-        d.quiet, b.expected, u.messages, m, d.form, o, why, notice,
+        sys, d.quiet, b.expected, u.messages, m, d.form, o, why, notice,
     ) {
         return tool_totals::broken(u);
     }
-    if tool_feed::feed(u.messages, d.quiet, d.form, screens, m, o, notice) {
+    if tool_feed::feed(sys, u.messages, d.quiet, d.form, screens, m, o, notice) {
         return u;
     }
     tool_totals::broken(u)
@@ -63,6 +74,7 @@ fn report(
 
 // A message put to the server by itself, and what comes of it.
 fn serve_one(
+    sys: &System,
     d: Desk,
     answers: &[u8],
     notices: &[u8],
@@ -90,7 +102,7 @@ fn serve_one(
         &mut notice,
     );
     report(
-        d, answers, notices, screens, m, b, o, why, &answer, &notice, t,
+        sys, d, answers, notices, screens, m, b, o, why, &answer, &notice, t,
     )
 }
 
@@ -189,7 +201,7 @@ fn why_told(
 // A PAGE
 
 // How far a page is told: the slot, the message of the burst, and where the next message, answer and notice stand.
-#[derive(Drop)]
+#[derive(Clone, Copy)]
 struct At {
     slot: usize,
     message: usize,
@@ -248,6 +260,7 @@ fn next(form: u32, slots: &[[usize; 3]], results: &[[u32; 8]], a: At) -> At {
 
 // A message that the burst took.
 fn tell_taken(
+    sys: &System,
     d: Desk,
     answers: &[u8],
     notices: &[u8],
@@ -267,12 +280,13 @@ fn tell_taken(
     let answer = part(said, a.answers, o.length);
     let notice = part(cuts, a.notices, noticed(d.form, o));
     report(
-        d, answers, notices, screens, m, b, o, why, answer, notice, t,
+        sys, d, answers, notices, screens, m, b, o, why, answer, notice, t,
     )
 }
 
 // The slot at which the page is: passed over, taken by the burst, or put to the server by itself.
 fn tell_slot(
+    sys: &System,
     d: Desk,
     answers: &[u8],
     notices: &[u8],
@@ -300,14 +314,17 @@ fn tell_slot(
     if a.message < taken {
         let o = outcome_of(result_at(results, a.message));
         return tell_taken(
-            d, answers, notices, table, screens, host, realm, m, b, said, cuts, o, a, t,
+            sys, d, answers, notices, table, screens, host, realm, m, b, said, cuts, o, a, t,
         );
     }
-    serve_one(d, answers, notices, table, screens, host, realm, m, b, t)
+    serve_one(
+        sys, d, answers, notices, table, screens, host, realm, m, b, t,
+    )
 }
 
 // All slots of a page, in order, up to the first of which something could not be written.
 fn tell_page(
+    sys: &System,
     d: Desk,
     answers: &[u8],
     notices: &[u8],
@@ -332,13 +349,13 @@ fn tell_page(
         left -= 1;
         let s = slot_at(slots, a.slot);
         t = tell_slot(
-            d, answers, notices, table, screens, host, realm, messages, s, said, cuts, results,
-            taken, a, t,
+            sys, d, answers, notices, table, screens, host, realm, messages, s, said, cuts,
+            results, taken, a, t,
         );
         if !t.whole {
             return t;
         }
-        tool_totals::progress(t.messages, all);
+        tool_totals::progress(sys, t.messages, all);
         a = next(d.form, slots, results, a);
     }
     t
@@ -391,6 +408,7 @@ fn call(
 
 // A page put to the server. What the burst does not take, because it is refused or would not be cut the same way, goes by itself.
 fn serve_page(
+    sys: &System,
     d: Desk,
     answers: &[u8],
     notices: &[u8],
@@ -421,6 +439,7 @@ fn serve_page(
         &mut results,
     );
     tell_page(
+        sys,
         d,
         answers,
         notices,
@@ -441,16 +460,16 @@ fn serve_page(
 }
 
 // What could not be read again, said.
-fn check_page(requests: &[u8], p: Page, t: Totals) -> Totals {
+fn check_page(sys: &System, requests: &[u8], p: Page, t: Totals) -> Totals {
     if !t.whole {
         return t;
     }
     if p.no_message {
-        tool_files::refuse_word(requests, b": a message could not be read again");
+        tool_files::refuse_word(sys, requests, b": a message could not be read again");
         return tool_totals::broken(t);
     }
     if p.no_line {
-        tool_files::refuse(b"a line of wags= or codes= could not be read again");
+        tool_files::refuse(sys, b"a line of wags= or codes= could not be read again");
         return tool_totals::broken(t);
     }
     t
@@ -468,6 +487,7 @@ fn left_of(all: usize, done: usize) -> usize {
 
 // A page read, put to the server and told.
 fn turn_in(
+    sys: &System,
     d: Desk,
     requests: &[u8],
     answers: &[u8],
@@ -485,6 +505,7 @@ fn turn_in(
     t: Totals,
 ) -> Totals {
     let p = tool_page::gather(
+        sys,
         d,
         table,
         host,
@@ -495,14 +516,15 @@ fn turn_in(
         left_of(all, t.messages),
     );
     let u = serve_page(
-        d, answers, notices, table, screens, host, realm, messages, slots, wags, p, said, cuts,
-        all, t,
+        sys, d, answers, notices, table, screens, host, realm, messages, slots, wags, p, said,
+        cuts, all, t,
     );
-    check_page(requests, p, u)
+    check_page(sys, requests, p, u)
 }
 
 // The next page.
 fn turn(
+    sys: &System,
     d: Desk,
     requests: &[u8],
     answers: &[u8],
@@ -520,13 +542,14 @@ fn turn(
     let mut slots = [[0usize; 3]; 128];
     let mut wags = [0u8; 128];
     turn_in(
-        d, requests, answers, notices, table, screens, host, realm, messages, &mut slots,
+        sys, d, requests, answers, notices, table, screens, host, realm, messages, &mut slots,
         &mut wags, said, cuts, all, t,
     )
 }
 
 // All pages of the file, up to the first of which something could not be served, which is then said.
 fn serve_pages(
+    sys: &System,
     d: Desk,
     requests: &[u8],
     answers: &[u8],
@@ -545,8 +568,8 @@ fn serve_pages(
     while left > 0 {
         left -= 1;
         t = turn(
-            d, requests, answers, notices, table, screens, host, realm, messages, said, cuts, all,
-            t,
+            sys, d, requests, answers, notices, table, screens, host, realm, messages, said, cuts,
+            all, t,
         );
         if !t.whole {
             return t;
@@ -559,6 +582,7 @@ fn serve_pages(
 }
 
 fn lend(
+    sys: &System,
     d: Desk,
     requests: &[u8],
     answers: &[u8],
@@ -573,12 +597,13 @@ fn lend(
     all: usize,
 ) -> Totals {
     serve_pages(
-        d, requests, answers, notices, table, screens, host, realm, messages, said, cuts, all,
+        sys, d, requests, answers, notices, table, screens, host, realm, messages, said, cuts, all,
     )
 }
 
 // The rooms of a page: 128 messages with all that they can ask for, so that a file of a hundred is one burst.
 fn in_rooms(
+    sys: &System,
     d: Desk,
     requests: &[u8],
     answers: &[u8],
@@ -593,6 +618,7 @@ fn in_rooms(
     let mut said = [0u8; 655360];
     let mut cuts = [0u8; 49152];
     lend(
+        sys,
         d,
         requests,
         answers,
@@ -609,7 +635,7 @@ fn in_rooms(
 }
 
 // How long the server's own names are, each of which stands at the start of its room.
-#[derive(Drop)]
+#[derive(Clone, Copy)]
 struct Lengths {
     host: usize,
     realm: usize,
@@ -617,6 +643,7 @@ struct Lengths {
 
 // All messages of the file, in order, under the names that the words say.
 pub fn serve_all(
+    sys: &System,
     d: Desk,
     requests: &[u8],
     answers: &[u8],
@@ -628,15 +655,16 @@ pub fn serve_all(
     let mut host = [0u8; 4096];
     let mut realm = [0u8; 4096];
     let n = Lengths {
-        host: tool_options::host(d.host, &mut host),
-        realm: tool_options::realm(d.realm, &mut realm),
+        host: tool_options::host(sys, d.host, &mut host),
+        realm: tool_options::realm(sys, d.realm, &mut realm),
     };
     serve_under(
-        d, requests, answers, notices, table, screens, &host, &realm, n, all,
+        sys, d, requests, answers, notices, table, screens, &host, &realm, n, all,
     )
 }
 
 fn serve_under(
+    sys: &System,
     d: Desk,
     requests: &[u8],
     answers: &[u8],
@@ -651,6 +679,6 @@ fn serve_under(
     let own = part(host, 0, n.host);
     let ours = part(realm, 0, n.realm);
     in_rooms(
-        d, requests, answers, notices, table, screens, own, ours, all,
+        sys, d, requests, answers, notices, table, screens, own, ours, all,
     )
 }

@@ -1,18 +1,19 @@
 // The files that a command writes, as ANSWERS and NOTICES of `handle`: opened as they are, emptied only once they are known to be files of their own.
 #![tactic(auto)]
 
+use system::System;
 use tool_hold::Held;
 use tool_inputs::Inputs;
 
 // A file to be written, -1 where there is none, and whether it was made here.
-#[derive(Drop)]
+#[derive(Clone, Copy)]
 struct Sheet {
     fd: i32,
     made: bool,
 }
 
 // Both, open and empty, if `well`.
-#[derive(Drop)]
+#[derive(Clone, Copy)]
 pub struct Sheets {
     pub answers: i32,
     pub notices: i32,
@@ -27,18 +28,18 @@ fn none() -> Sheet {
 }
 
 // A file that is there, as it is, or a new one. Why there is none is said.
-fn open_one(path: &[u8]) -> Sheet {
-    let fd = os::open_update(path);
+fn open_one(sys: &System, path: &[u8]) -> Sheet {
+    let fd = sys.open_update(path);
     if 0 <= fd {
         return Sheet { fd, made: false };
     }
-    if os::errno() != libc::ENOENT {
-        tool_files::refuse_file(path);
+    if sys.errno() != system::ENOENT {
+        tool_files::refuse_file(sys, path);
         return none();
     }
-    let fresh = os::create(path);
+    let fresh = sys.create(path);
     if fresh < 0 {
-        tool_files::refuse_file(path);
+        tool_files::refuse_file(sys, path);
         return none();
     }
     Sheet {
@@ -48,125 +49,135 @@ fn open_one(path: &[u8]) -> Sheet {
 }
 
 // The file closed, and gone if it was made here.
-fn give_up(s: Sheet, path: &[u8]) {
+fn give_up(sys: &System, s: Sheet, path: &[u8]) {
     if s.fd < 0 {
         return;
     }
-    libc::close(s.fd);
+    sys.close(s.fd);
     if s.made {
-        os::unlink(path);
+        sys.unlink(path);
     }
 }
 
 // Whether two open files are not one and the same plain file. What is no plain file, as /dev/null, loses nothing when it is written twice.
-fn is_apart(a: i32, b: i32) -> bool {
-    let s = tool_status::of(a);
+fn is_apart(sys: &System, a: i32, b: i32) -> bool {
+    let s = tool_status::of(sys, a);
     if !tool_status::is_plain(s) {
         return true;
     }
-    !tool_status::are_one(s, tool_status::of(b))
+    !tool_status::are_one(s, tool_status::of(sys, b))
 }
 
 // Whether a file is none of those that are read.
-fn is_none_of(fd: i32, i: Inputs) -> bool {
-    if !is_apart(fd, i.requests) {
+fn is_none_of(sys: &System, fd: i32, i: Inputs) -> bool {
+    if !is_apart(sys, fd, i.requests) {
         return false;
     }
-    if !is_apart(fd, i.wags) {
+    if !is_apart(sys, fd, i.wags) {
         return false;
     }
-    if !is_apart(fd, i.screens) {
+    if !is_apart(sys, fd, i.screens) {
         return false;
     }
-    is_apart(fd, i.codes)
+    is_apart(sys, fd, i.codes)
 }
 
 // Whether a file is none that the lines go to.
-fn is_unheard(fd: i32) -> bool {
-    if is_apart(fd, libc::STDOUT_FILENO) {
-        return is_apart(fd, libc::STDERR_FILENO);
+fn is_unheard(sys: &System, fd: i32) -> bool {
+    if is_apart(sys, fd, system::STDOUT_FILENO) {
+        return is_apart(sys, fd, system::STDERR_FILENO);
     }
     false
 }
 
 // Whether a file is none of those that are in use otherwise: the table, its lock, the new table, what is read, and what the lines go to.
-fn is_own(fd: i32, h: Held, i: Inputs) -> bool {
-    if !is_apart(fd, h.table) {
+fn is_own(sys: &System, fd: i32, h: Held, i: Inputs) -> bool {
+    if !is_apart(sys, fd, h.table) {
         return false;
     }
-    if !is_apart(fd, h.lock) {
+    if !is_apart(sys, fd, h.lock) {
         return false;
     }
-    if !is_apart(fd, h.new) {
+    if !is_apart(sys, fd, h.new) {
         return false;
     }
-    if !is_none_of(fd, i) {
+    if !is_none_of(sys, fd, i) {
         return false;
     }
-    is_unheard(fd)
+    is_unheard(sys, fd)
 }
 
 // Whether the mode of a file lets it be written; if not, that is said.
-fn check_mode(fd: i32, path: &[u8]) -> bool {
-    let s = tool_status::of(fd);
+fn check_mode(sys: &System, fd: i32, path: &[u8]) -> bool {
+    let s = tool_status::of(sys, fd);
     if !tool_status::is_plain(s) {
         return true;
     }
     if !tool_status::is_writable(s) {
-        tool_files::refuse_word(path, b": its mode does not let it be written");
+        tool_files::refuse_word(sys, path, b": its mode does not let it be written");
         return false;
     }
     true
 }
 
 // Whether a file may be written: it is none of the others, and its mode lets it be written. Why not is said.
-fn check_free(fd: i32, path: &[u8], h: Held, i: Inputs) -> bool {
-    if !is_own(fd, h, i) {
+fn check_free(sys: &System, fd: i32, path: &[u8], h: Held, i: Inputs) -> bool {
+    if !is_own(sys, fd, h, i) {
         tool_files::refuse_word(
+            sys,
             path,
             b": in use here already: ANSWERS and NOTICES have to be files of their own",
         );
         return false;
     }
-    check_mode(fd, path)
+    check_mode(sys, fd, path)
 }
 
 // Whether a file is empty from here on; what is no plain file has nothing that could be lost.
-fn empty(fd: i32, path: &[u8]) -> bool {
-    if !tool_status::is_plain(tool_status::of(fd)) {
+fn empty(sys: &System, fd: i32, path: &[u8]) -> bool {
+    if !tool_status::is_plain(tool_status::of(sys, fd)) {
         return true;
     }
-    if libc::ftruncate(fd, 0) == 0 {
+    if sys.ftruncate(fd, 0) {
         return true;
     }
-    tool_files::refuse_file(path);
+    tool_files::refuse_file(sys, path);
     false
 }
 
 // Whether what was written to a file is forced out. Only a plain file can be asked for that.
-pub fn force_out(fd: i32, path: &[u8]) -> bool {
-    if !tool_status::is_plain(tool_status::of(fd)) {
+pub fn force_out(sys: &System, fd: i32, path: &[u8]) -> bool {
+    if !tool_status::is_plain(tool_status::of(sys, fd)) {
         return true;
     }
-    if libc::fsync(fd) == 0 {
+    if sys.fsync(fd) {
         return true;
     }
-    tool_files::refuse_file(path);
+    tool_files::refuse_file(sys, path);
     false
 }
 
 // Whether both may be written.
-fn are_free(a: i32, n: i32, answers: &[u8], notices: &[u8], h: Held, i: Inputs) -> bool {
-    if !check_free(a, answers, h, i) {
+fn are_free(
+    sys: &System,
+    a: i32,
+    n: i32,
+    answers: &[u8],
+    notices: &[u8],
+    h: Held,
+    i: Inputs,
+) -> bool {
+    if !check_free(sys, a, answers, h, i) {
         return false;
     }
-    if !check_free(n, notices, h, i) {
+    if !check_free(sys, n, notices, h, i) {
         return false;
     }
-    if is_apart(a, n) {
+    if is_apart(sys, a, n) {
         return true;
     }
     tool_files::refuse_word(
+        sys,
         notices,
         b": in use here already: ANSWERS and NOTICES have to be files of their own",
     );
@@ -182,11 +193,11 @@ fn bad() -> Sheets {
 }
 
 // Both emptied, once it is known that they may be.
-fn start(a: i32, n: i32, answers: &[u8], notices: &[u8]) -> Sheets {
-    if !empty(a, answers) {
+fn start(sys: &System, a: i32, n: i32, answers: &[u8], notices: &[u8]) -> Sheets {
+    if !empty(sys, a, answers) {
         return bad();
     }
-    if !empty(n, notices) {
+    if !empty(sys, n, notices) {
         return bad();
     }
     Sheets {
@@ -197,34 +208,35 @@ fn start(a: i32, n: i32, answers: &[u8], notices: &[u8]) -> Sheets {
 }
 
 // ANSWERS and NOTICES, or nothing made and nothing changed, which is then said.
-pub fn open(h: Held, i: Inputs, answers: &[u8], notices: &[u8]) -> Sheets {
-    let a = open_one(answers);
+pub fn open(sys: &System, h: Held, i: Inputs, answers: &[u8], notices: &[u8]) -> Sheets {
+    let a = open_one(sys, answers);
     if a.fd < 0 {
         return bad();
     }
-    let n = open_one(notices);
+    let n = open_one(sys, notices);
     if n.fd < 0 {
-        give_up(a, answers);
+        give_up(sys, a, answers);
         return bad();
     }
-    if are_free(a.fd, n.fd, answers, notices, h, i) {
-        return start(a.fd, n.fd, answers, notices);
+    if are_free(sys, a.fd, n.fd, answers, notices, h, i) {
+        return start(sys, a.fd, n.fd, answers, notices);
     }
-    give_up(n, notices);
-    give_up(a, answers);
+    give_up(sys, n, notices);
+    give_up(sys, a, answers);
     bad()
 }
 
 // BESIDE ONE FILE THAT IS READ
 
 // Whether a file may be written beside one that is read; why not is said.
-fn check_beside(fd: i32, path: &[u8], read: i32) -> bool {
-    if is_apart(fd, read) {
-        if is_unheard(fd) {
-            return check_mode(fd, path);
+fn check_beside(sys: &System, fd: i32, path: &[u8], read: i32) -> bool {
+    if is_apart(sys, fd, read) {
+        if is_unheard(sys, fd) {
+            return check_mode(sys, fd, path);
         }
     }
     tool_files::refuse_word(
+        sys,
         path,
         b": in use here already: what is written has to be a file of its own",
     );
@@ -232,47 +244,47 @@ fn check_beside(fd: i32, path: &[u8], read: i32) -> bool {
 }
 
 // Whether two files may be written there; why not is said.
-fn are_beside(a: i32, n: i32, first: &[u8], second: &[u8], read: i32) -> bool {
-    if !check_beside(a, first, read) {
+fn are_beside(sys: &System, a: i32, n: i32, first: &[u8], second: &[u8], read: i32) -> bool {
+    if !check_beside(sys, a, first, read) {
         return false;
     }
-    if !check_beside(n, second, read) {
+    if !check_beside(sys, n, second, read) {
         return false;
     }
-    check_beside(n, second, a)
+    check_beside(sys, n, second, a)
 }
 
 // A file to be written beside one that is read, open and empty; -1 where nothing is made and nothing changed, which is then said.
-pub fn open_beside(path: &[u8], read: i32) -> i32 {
-    let s = open_one(path);
+pub fn open_beside(sys: &System, path: &[u8], read: i32) -> i32 {
+    let s = open_one(sys, path);
     if s.fd < 0 {
         return -1;
     }
-    if !check_beside(s.fd, path, read) {
-        give_up(s, path);
+    if !check_beside(sys, s.fd, path, read) {
+        give_up(sys, s, path);
         return -1;
     }
-    if empty(s.fd, path) {
+    if empty(sys, s.fd, path) {
         return s.fd;
     }
     -1
 }
 
 // Two files to be written beside one that is read, open and empty; or nothing made and nothing changed, which is then said.
-pub fn open_two_beside(first: &[u8], second: &[u8], read: i32) -> Sheets {
-    let a = open_one(first);
+pub fn open_two_beside(sys: &System, first: &[u8], second: &[u8], read: i32) -> Sheets {
+    let a = open_one(sys, first);
     if a.fd < 0 {
         return bad();
     }
-    let n = open_one(second);
+    let n = open_one(sys, second);
     if n.fd < 0 {
-        give_up(a, first);
+        give_up(sys, a, first);
         return bad();
     }
-    if are_beside(a.fd, n.fd, first, second, read) {
-        return start(a.fd, n.fd, first, second);
+    if are_beside(sys, a.fd, n.fd, first, second, read) {
+        return start(sys, a.fd, n.fd, first, second);
     }
-    give_up(n, second);
-    give_up(a, first);
+    give_up(sys, n, second);
+    give_up(sys, a, first);
     bad()
 }

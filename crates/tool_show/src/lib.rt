@@ -5,62 +5,63 @@ ghost use Rattle.std.specs.Prelude.{◌≡◌, true, ◌≤◌, length};
 ghost use Rattle.table.specs.Soundness.{is_row};
 ghost use Rattle.table.specs.TheTable.{block_length};
 
+use system::System;
 use table::RowFound;
 use tool_operator::Number;
 use tool_words::say;
 
 // The labels of a sound row.
-fn entries(row: &[u8], out: &mut [u8; 4096])
+fn entries(sys: &System, row: &[u8], out: &mut [u8; 4096])
     requires { (is_row row.now ≡ true) × (block_length ≤ length row.now) }
 {
     let mut e: usize = 1;
     while e < 5 {
         let n = tool_row_lines::entry(out, row, e);
-        tool_files::print(out, n);
+        tool_files::print(sys, out, n);
         e += 1;
     }
 }
 
 // The accesses of a sound row, from the oldest on.
-fn accesses(row: &[u8], out: &mut [u8; 4096])
+fn accesses(sys: &System, row: &[u8], out: &mut [u8; 4096])
     requires { (is_row row.now ≡ true) × (block_length ≤ length row.now) }
 {
     let mut i: usize = 1;
     while i < 9 {
         let n = tool_row_lines::access(out, row, i);
-        tool_files::print(out, n);
+        tool_files::print(sys, out, n);
         i += 1;
     }
 }
 
 // The line below a row that no lookup finds.
-fn say_hidden(table: &[u8], form: u32, i: usize, row: &[u8], out: &mut [u8; 4096])
+fn say_hidden(sys: &System, table: &[u8], form: u32, i: usize, row: &[u8], out: &mut [u8; 4096])
     requires { block_length ≤ length row.now }
 {
     let n = tool_faults::hidden(out, table, form, i, row);
-    tool_files::print(out, n);
+    tool_files::print(sys, out, n);
 }
 
 // A row that is not free.
-fn show_row(table: &[u8], form: u32, i: usize, row: &[u8], out: &mut [u8; 4096])
+fn show_row(sys: &System, table: &[u8], form: u32, i: usize, row: &[u8], out: &mut [u8; 4096])
     requires { (is_row row.now ≡ true) × (block_length ≤ length row.now) }
 {
     if !soundness::row_sound(row) {
         let n = tool_row_lines::unsound(out, i, row);
         let end = tool_faults::reason(out, n, row, clauses::broken(row));
-        tool_files::print(out, end);
-        say_hidden(table, form, i, row, out);
+        tool_files::print(sys, out, end);
+        say_hidden(sys, table, form, i, row, out);
         return;
     }
     let n = tool_row_lines::head(out, i, row);
-    tool_files::print(out, n);
-    say_hidden(table, form, i, row, out);
-    entries(row, out);
-    accesses(row, out);
+    tool_files::print(sys, out, n);
+    say_hidden(sys, table, form, i, row, out);
+    entries(sys, row, out);
+    accesses(sys, row, out);
 }
 
 // Row i, said; whether it is free, and nothing is said.
-fn show_or_skip(table: &[u8], form: u32, i: usize, out: &mut [u8; 4096]) -> bool {
+fn show_or_skip(sys: &System, table: &[u8], form: u32, i: usize, out: &mut [u8; 4096]) -> bool {
     if tool_form::MOST_ROWS < i {
         return false;
     }
@@ -74,7 +75,7 @@ fn show_or_skip(table: &[u8], form: u32, i: usize, out: &mut [u8; 4096]) -> bool
         return true;
     }
     if tool_row_lines::is_row(row) {
-        show_row(table, form, i, row, out);
+        show_row(sys, table, form, i, row, out);
     }
     false
 }
@@ -88,11 +89,11 @@ fn more(n: usize) -> usize {
 }
 
 // All rows: how many are free.
-fn free_rows(table: &[u8], form: u32, out: &mut [u8; 4096]) -> usize {
+fn free_rows(sys: &System, table: &[u8], form: u32, out: &mut [u8; 4096]) -> usize {
     let mut free: usize = 0;
     let mut i: usize = 0;
     while i < tool_form::MOST_ROWS {
-        if show_or_skip(table, form, i, out) {
+        if show_or_skip(sys, table, form, i, out) {
             free = more(free);
         }
         i += 1;
@@ -101,43 +102,43 @@ fn free_rows(table: &[u8], form: u32, out: &mut [u8; 4096]) -> usize {
 }
 
 // The end of the last line: the form of the table.
-fn say_form(form: u32, out: &mut [u8; 4096], at: usize) {
+fn say_form(sys: &System, form: u32, out: &mut [u8; 4096], at: usize) {
     let a = say(out, at, b"form ");
     let b = tool_words::number(out, a, form as u64);
     let c = say(out, b, b"\n");
-    tool_files::print(out, c);
+    tool_files::print(sys, out, c);
 }
 
-fn show_all(table: &[u8], form: u32, out: &mut [u8; 4096]) {
-    let free = free_rows(table, form, out);
+fn show_all(sys: &System, table: &[u8], form: u32, out: &mut [u8; 4096]) {
+    let free = free_rows(sys, table, form, out);
     let rows = table.len() / tool_form::row_length(form);
     let a = tool_words::number(out, 0, free as u64);
     let b = say(out, a, b" of ");
     let c = tool_words::number(out, b, rows as u64);
     let d = say(out, c, b" rows free, ");
-    say_form(form, out, d);
+    say_form(sys, form, out, d);
 }
 
-fn show_one(table: &[u8], form: u32, op: u32, name: &[u8], out: &mut [u8; 4096]) {
+fn show_one(sys: &System, table: &[u8], form: u32, op: u32, name: &[u8], out: &mut [u8; 4096]) {
     if table::table_number(table, form) != 0 {
         return;
     }
     if table::number_for(table, form, op) != 0 {
-        tool_files::refuse(b"number 33: the operator is over 15");
+        tool_files::refuse(sys, b"number 33: the operator is over 15");
         return;
     }
     let found = table::lookup(table, form as usize, op, name);
     let RowFound::At(i) = found else {
-        tool_files::refuse_word(name, b": the operator has no such subscriber");
+        tool_files::refuse_word(sys, name, b": the operator has no such subscriber");
         return;
     };
-    show_or_skip(table, form, i, out);
-    say_form(form, out, 0);
+    show_or_skip(sys, table, form, i, out);
+    say_form(sys, form, out, 0);
 }
 
 // What is shown of the table at a path: the subscriber that word 3 names, or all where it names none.
-fn shown(path: &[u8], said: u32, op: u32, named: bool, table: &mut [u8]) {
-    let found = tool_form::read(path, said, table);
+fn shown(sys: &System, path: &[u8], said: u32, op: u32, named: bool, table: &mut [u8]) {
+    let found = tool_form::read(sys, path, said, table);
     let n = found.length;
     if n < 1 {
         return;
@@ -147,39 +148,39 @@ fn shown(path: &[u8], said: u32, op: u32, named: bool, table: &mut [u8]) {
     }
     let mut out = [0u8; 4096];
     if !named {
-        show_all(&table[0..n], found.form, &mut out);
+        show_all(sys, &table[0..n], found.form, &mut out);
         return;
     }
     let mut name = io::buffer();
-    let k = os::arg(3, &mut name);
-    show_one(&table[0..n], found.form, op, &name[..k], &mut out);
+    let k = sys.arg(3, &mut name);
+    show_one(sys, &table[0..n], found.form, op, &name[..k], &mut out);
 }
 
 // Whether word 3 is there and is a name. A form may stand in its place, and then nothing stands behind it.
-fn is_named() -> bool {
-    if os::arg_count() < 4 {
+fn is_named(sys: &System) -> bool {
+    if sys.arg_count() < 4 {
         return false;
     }
-    if 4 < os::arg_count() {
+    if 4 < sys.arg_count() {
         return true;
     }
-    tool_operator::find(3, b"form=") != 3
+    tool_operator::find(sys, 3, b"form=") != 3
 }
 
 // TABLE [form=F], or TABLE NAME [operator=N] [form=F].
-pub fn show(table: &mut [u8]) {
-    if !tool_form::check_both(4, 5) {
+pub fn show(sys: &System, table: &mut [u8]) {
+    if !tool_form::check_both(sys, 4, 5) {
         return;
     }
-    let said = tool_operator::operator(tool_operator::find(4, b"operator="));
+    let said = tool_operator::operator(sys, tool_operator::find(sys, 4, b"operator="));
     let Number::Is(op) = said else {
         return;
     };
-    let word = tool_form::word(tool_operator::find(3, b"form="));
+    let word = tool_form::word(sys, tool_operator::find(sys, 3, b"form="));
     let Number::Is(form) = word else {
         return;
     };
     let mut path = io::buffer();
-    let n = os::arg(2, &mut path);
-    shown(&path[..n], form, op, is_named(), table);
+    let n = sys.arg(2, &mut path);
+    shown(sys, &path[..n], form, op, is_named(sys), table);
 }

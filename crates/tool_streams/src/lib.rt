@@ -2,10 +2,11 @@
 // may have any length up to that of the room.
 #![tactic(auto)]
 
+use system::System;
 use tool_lines::Line;
 
 // An open file, and whether its messages are lines of hex.
-#[derive(Drop)]
+#[derive(Clone, Copy)]
 pub struct Source {
     pub fd: i32,
     pub hex: bool,
@@ -13,7 +14,7 @@ pub struct Source {
 
 // What stands next: a message of so many bytes, put at the start of the room; nothing more; a header whose length no message has; less
 // than the header announces; or a line that is no message in hex.
-#[derive(Drop)]
+#[derive(Clone, Copy)]
 enum Next {
     Message(usize),
     End,
@@ -22,11 +23,11 @@ enum Next {
     NoHex,
 }
 
-fn cut_next(fd: i32, m: &mut [u8]) -> Next {
+fn cut_next(sys: &System, fd: i32, m: &mut [u8]) -> Next {
     if m.len() < message::LENGTH_MOST {
         return Next::Short;
     }
-    let got = io::read_full(fd, &mut m[0..message::HEADER_LENGTH]);
+    let got = sys.read_full(fd, &mut m[0..message::HEADER_LENGTH]);
     if got == 0 {
         return Next::End;
     }
@@ -40,7 +41,7 @@ fn cut_next(fd: i32, m: &mut [u8]) -> Next {
     if message::LENGTH_MOST < n {
         return Next::Length(n);
     }
-    let rest = io::read_full(fd, &mut m[message::HEADER_LENGTH..n]);
+    let rest = sys.read_full(fd, &mut m[message::HEADER_LENGTH..n]);
     if rest < n - message::HEADER_LENGTH {
         return Next::Short;
     }
@@ -60,9 +61,9 @@ fn in_hex(text: &[u8], n: usize, room: &mut [u8; 8192]) -> Next {
 }
 
 // A line has room for 5,461 bytes with a blank behind each, and for the longest message without.
-fn read_line(fd: i32, room: &mut [u8; 8192]) -> Next {
+fn read_line(sys: &System, fd: i32, room: &mut [u8; 8192]) -> Next {
     let mut text = [0u8; 16385];
-    let line = tool_lines::read(fd, &mut text);
+    let line = tool_lines::read(sys, fd, &mut text);
     match line {
         Line::End => Next::End,
         Line::Long => Next::NoHex,
@@ -70,16 +71,16 @@ fn read_line(fd: i32, room: &mut [u8; 8192]) -> Next {
     }
 }
 
-fn find_next(s: Source, room: &mut [u8; 8192]) -> Next {
+fn find_next(sys: &System, s: Source, room: &mut [u8; 8192]) -> Next {
     if s.hex {
-        return read_line(s.fd, room);
+        return read_line(sys, s.fd, room);
     }
-    cut_next(s.fd, room)
+    cut_next(sys, s.fd, room)
 }
 
 // The length of the next message, put at the start of the room; 0 where there is none.
-pub fn read(s: Source, room: &mut [u8; 8192]) -> usize {
-    let found = find_next(s, room);
+pub fn read(sys: &System, s: Source, room: &mut [u8; 8192]) -> usize {
+    let found = find_next(sys, s, room);
     match found {
         Next::Message(n) => n,
         Next::End => 0,
@@ -91,7 +92,7 @@ pub fn read(s: Source, room: &mut [u8; 8192]) -> usize {
 
 // How far a file was followed: the messages so far, where the last of them stands (at which byte, or, in hex, on which line) and how long it
 // is. Once the file is over that length is 0, and `well` says whether it ended behind a message.
-#[derive(Drop)]
+#[derive(Clone, Copy)]
 pub struct Way {
     pub messages: usize,
     pub from: usize,
@@ -155,7 +156,7 @@ fn reason(out: &mut [u8; 4096], at: usize, why: Next) -> usize {
     }
 }
 
-fn refuse(path: &[u8], hex: bool, at: usize, why: Next) {
+fn refuse(sys: &System, path: &[u8], hex: bool, at: usize, why: Next) {
     let mut out = [0u8; 4096];
     let a = tool_words::say(&mut out, 0, b"play: ");
     let b = tool_words::text(&mut out, a, path);
@@ -163,8 +164,8 @@ fn refuse(path: &[u8], hex: bool, at: usize, why: Next) {
     let d = place_name(&mut out, c, hex);
     let e = tool_words::number(&mut out, d, at as u64);
     let f = reason(&mut out, e, why);
-    tool_files::note(&out, f);
-    tool_files::mark();
+    tool_files::note(sys, &out, f);
+    tool_files::mark(sys);
 }
 
 // Nothing is left to follow.
@@ -178,14 +179,14 @@ pub fn over(w: Way, well: bool) -> Way {
 }
 
 // The file can not be followed any further, which is said.
-fn end_badly(s: Source, path: &[u8], w: Way, why: Next) -> Way {
-    refuse(path, s.hex, place(s, w), why);
+fn end_badly(sys: &System, s: Source, path: &[u8], w: Way, why: Next) -> Way {
+    refuse(sys, path, s.hex, place(s, w), why);
     over(w, false)
 }
 
 // The next message of the file, put at the start of the room. A file that can not be followed is said to be so.
-pub fn look(s: Source, path: &[u8], w: Way, room: &mut [u8; 8192]) -> Way {
-    let found = find_next(s, room);
+pub fn look(sys: &System, s: Source, path: &[u8], w: Way, room: &mut [u8; 8192]) -> Way {
+    let found = find_next(sys, s, room);
     match found {
         Next::Message(n) => Way {
             messages: sum(w.messages, 1),
@@ -197,10 +198,10 @@ pub fn look(s: Source, path: &[u8], w: Way, room: &mut [u8; 8192]) -> Way {
             if w.messages > 0 {
                 return over(w, true);
             }
-            end_badly(s, path, w, Next::End)
+            end_badly(sys, s, path, w, Next::End)
         }
-        Next::Length(n) => end_badly(s, path, w, Next::Length(n)),
-        Next::Short => end_badly(s, path, w, Next::Short),
-        Next::NoHex => end_badly(s, path, w, Next::NoHex),
+        Next::Length(n) => end_badly(sys, s, path, w, Next::Length(n)),
+        Next::Short => end_badly(sys, s, path, w, Next::Short),
+        Next::NoHex => end_badly(sys, s, path, w, Next::NoHex),
     }
 }

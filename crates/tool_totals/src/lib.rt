@@ -4,11 +4,12 @@
 use decision::Outcome;
 use effects::Cut;
 use message::Kind;
+use system::System;
 use tool_words::{number, say};
 
 // What was done so far, and of the messages how many were passed over, and how many came out otherwise than expected; `whole` is false once
 // something could not be read or written.
-#[derive(Drop)]
+#[derive(Clone, Copy)]
 pub struct Totals {
     pub messages: usize,
     pub passed: usize,
@@ -100,7 +101,7 @@ pub fn broken(t: Totals) -> Totals {
 }
 
 // The running count, every 10,000 messages. How many there will be is 0 where nobody knows.
-pub fn progress(done: usize, all: usize) {
+pub fn progress(sys: &System, done: usize, all: usize) {
     if done % 10000 != 0 {
         return;
     }
@@ -109,7 +110,7 @@ pub fn progress(done: usize, all: usize) {
     let b = number(&mut out, a, done as u64);
     let c = of_all(&mut out, b, all);
     let d = say(&mut out, c, b" messages\n");
-    tool_files::note(&out, d);
+    tool_files::note(sys, &out, d);
 }
 
 fn of_all(out: &mut [u8; 4096], at: usize, all: usize) -> usize {
@@ -139,7 +140,7 @@ fn other(out: &mut [u8; 4096], at: usize, what: &[u8], n: usize, asked: bool) ->
 
 // What was done, in a line, with what was passed over if only some were asked for, and what differs if something was expected; whether it
 // could be said.
-pub fn summary(t: Totals, some: bool, expected: bool) -> bool {
+pub fn summary(sys: &System, t: Totals, some: bool, expected: bool) -> bool {
     let mut out = [0u8; 4096];
     let a = number(&mut out, 0, served(t) as u64);
     let b = say(&mut out, a, b" messages, ");
@@ -151,5 +152,5 @@ pub fn summary(t: Totals, some: bool, expected: bool) -> bool {
     let h = other(&mut out, g, b"; passed over: ", t.passed, some);
     let i = other(&mut out, h, b"; not as expected: ", t.wrong, expected);
     let j = say(&mut out, i, b"\n");
-    tool_files::print(&out, j)
+    tool_files::print(sys, &out, j)
 }

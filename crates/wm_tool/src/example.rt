@@ -1,6 +1,8 @@
 // The built-in example: the worked cases on a fresh table.
 
-pub fn play() {
+use system::System;
+
+pub fn play(sys: &System) {
     let mut table = [0u8; table::ROW_LENGTH_1];
     let mut room = [0u8; 4100];
     let mut answer = [0u8; answers::ANSWER_LEAST];
@@ -9,7 +11,7 @@ pub fn play() {
     let mut k: usize = 0;
     while k < 41 {
         let n = tool_cases::step(k, &mut table, &mut room, &mut answer, &mut notice, &mut out);
-        tool_files::print(&out, n);
+        tool_files::print(sys, &out, n);
         k += 1;
     }
 }

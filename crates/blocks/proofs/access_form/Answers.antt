@@ -1,6 +1,5 @@
 -- The form in four parts: `access-parts` of Tests.
 use lib.ListN.{get_or}
-use borrow.Author.Rules.{rules}
 use borrow.Author.Tests.{le-leb, lt-leb}
 use Rattle.table.proofs.Tests.{access-parts, fails, lengths-fit, passes_on}
 use Rattle.blocks.proofs.access_form.Goals as goal

@@ -1,6 +1,5 @@
 -- The clauses in order; each way out is the first that fails.
 use lib.ListN.{get_or}
-use borrow.Author.Rules.{rules}
 use borrow.Author.Tests.{eq-eqb, ne_eqb}
 use Rattle.table.proofs.Tests.{fails, passes_on}
 use Rattle.blocks.proofs.access_lengths.Goals as goal

@@ -2,7 +2,6 @@
 use native.Mathlib.Omega.{arith}
 use lib.ListN.{get_or}
 use mathlib.Core.Path.{◌∙◌}
-use borrow.Author.Rules.{rules}
 use Rattle.octets.specs.Texts.{part}
 use Rattle.octets.proofs.Texts.{length_part}
 use Rattle.table.proofs.Tests.{behind-said, fails, passes_on}

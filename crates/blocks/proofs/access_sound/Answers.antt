@@ -3,7 +3,6 @@ use mathlib.Core.Path.{◌≡◌}
 use mathlib.Core.Bool.{false, true}
 use lib.ListN.{get_or}
 use lib.Dec.{eqb, leb}
-use borrow.Author.Rules.{rules}
 use Rattle.octets.specs.Choice.{pick, within}
 use Rattle.blocks.specs.RowTests.{access_sound}
 use Rattle.table.proofs.Tests.{fails, passes_on}

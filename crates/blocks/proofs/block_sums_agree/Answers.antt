@@ -1,7 +1,6 @@
 -- The two sums as `sums_of` gives them are compared byte by byte: `two_bytes` of Tests.
 use mathlib.Core.Path.{◌∙◌, sym}
 use lib.ListN.{get_or}
-use borrow.Author.Rules.{rules}
 use borrow.Author.Tests.{eq-eqb, ne_eqb}
 use Rattle.table.specs.Soundness.{sums_agree}
 use Rattle.table.proofs.Tests.{two_bytes}

@@ -1,9 +1,5 @@
-use mathlib.Core.Path.{◌∙◌, ◌≡◌, sym}
-use Prim.Native.Nat.{◌-◌, ◌≤◌}
+use mathlib.Core.Path.{◌∙◌, sym}
 use native.Mathlib.Omega.{arith}
-use lib.ListN.{drop, length}
-use borrow.Author.Rules.{rules}
-use Rattle.octets.specs.Lists.{every}
 use Rattle.table.specs.Soundness.{is_digit}
 use Rattle.table.proofs.Tests.{every-end, every-on-true, every-out, fails, passes_on}
 use Rattle.blocks.proofs.digits.Goals as goal

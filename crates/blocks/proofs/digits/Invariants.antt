@@ -1,12 +1,9 @@
 -- The invariant: the test of what is left has the answer of the whole test.
-use mathlib.Core.Path.{◌∙◌, ◌≡◌, sym}
+use mathlib.Core.Path.{◌≡◌}
 use Prim.Native.Nat.{◌-◌, ◌≤◌}
-use native.Mathlib.Omega.{arith}
 use lib.ListN.{drop, length}
-use borrow.Author.Rules.{rules}
 use Rattle.octets.specs.Lists.{every}
 use Rattle.table.specs.Soundness.{is_digit}
-use Rattle.table.proofs.Tests.{every-end, every-on-true, every-out, fails, passes_on}
 use Rattle.blocks.proofs.digits.Given as goal
 
 abbrev pub invariant-loop-i : goal.invariant-loop-i

@@ -1,12 +1,11 @@
 use Rattle.table.proofs.Rows.{lent_at, lent_length}
 use mathlib.Core.Path.{◌∙◌, ◌≡◌, ap, sym}
 use mathlib.Core.Bool.{false, true}
-use Prim.Native.Nat.{◌*◌, ◌-◌, ◌≤◌}
+use Prim.Native.Nat.{◌*◌}
 use native.Mathlib.Omega.{arith}
 use lib.ListN.{drop}
-use borrow.Author.Rules.{rules}
 use Rattle.octets.specs.Texts.{part}
-use Rattle.table.specs.Soundness.{entries_form, entry_form}
+use Rattle.table.specs.Soundness.{entry_form}
 use Rattle.table.proofs.Tests.{fails, passes_on, rest-zero}
 use Rattle.table.proofs.Entries.{entries-all, entries-end, entries-turn}
 use Rattle.blocks.proofs.entries_form.Goals as goal

@@ -1,7 +1,6 @@
 -- The clauses of an entry in the paper's order; each way out is the first that fails.
 use native.Mathlib.Omega.{arith}
 use lib.ListN.{get_or}
-use borrow.Author.Rules.{rules}
 use borrow.Author.Tests.{le-leb, lt-leb}
 use Rattle.octets.specs.Texts.{part}
 use Rattle.octets.proofs.Lists.{within-high}

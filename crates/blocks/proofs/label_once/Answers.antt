@@ -1,15 +1,13 @@
 use mathlib.Core.Path.{◌∙◌, ◌≡◌, ap, sym}
 use mathlib.Core.Bool.{not}
 use mathlib.Core.List.{List, []}
-use Prim.Native.Nat.{◌+◌, ◌-◌, ◌<◌, ◌≤◌, ℕ}
+use Prim.Native.Nat.{ℕ}
 use native.Mathlib.Omega.{arith}
-use lib.ListN.{drop, get_or}
-use Rattle.octets.specs.Lists.{every}
+use lib.ListN.{get_or}
 use Rattle.table.specs.Soundness.{labels, same_label}
 use Rattle.table.specs.TheTable.{read_entries}
 use Rattle.table.proofs.Tests.{every-end, every-on-true, every-out}
 use Rattle.table.proofs.Entries.{label-size, labels_at, length-labels}
-use borrow.Author.Rules.{rules}
 use Rattle.blocks.proofs.label_once.Goals as goal
 
 pub label-this-requires : goal.label-this-requires

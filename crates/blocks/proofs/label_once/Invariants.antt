@@ -1,16 +1,12 @@
 -- The invariant: the test of what is left has the answer of the whole test; the texts compared are the labels: `labels_at` of Entries.
-use mathlib.Core.Path.{◌∙◌, ◌≡◌, ap, sym}
+use mathlib.Core.Path.{◌≡◌}
 use mathlib.Core.Bool.{not}
-use mathlib.Core.List.{List, []}
-use Prim.Native.Nat.{◌+◌, ◌-◌, ◌<◌, ◌≤◌, ℕ}
-use native.Mathlib.Omega.{arith}
+use mathlib.Core.List.{[]}
+use Prim.Native.Nat.{◌+◌, ◌-◌, ◌<◌, ◌≤◌}
 use lib.ListN.{drop, get_or}
 use Rattle.octets.specs.Lists.{every}
 use Rattle.table.specs.Soundness.{labels, same_label}
 use Rattle.table.specs.TheTable.{read_entries}
-use Rattle.table.proofs.Tests.{every-end, every-on-true, every-out}
-use Rattle.table.proofs.Entries.{label-size, labels_at, length-labels}
-use borrow.Author.Rules.{rules}
 use Rattle.blocks.proofs.label_once.Given as goal
 
 abbrev pub invariant-loop-j : goal.invariant-loop-j

@@ -1,11 +1,10 @@
 use mathlib.Core.Path.{◌∙◌, ◌≡◌, sym}
 use mathlib.Core.Bool.{false, not, true}
 use mathlib.Core.List.{List, []}
-use Prim.Native.Nat.{◌+◌, ◌-◌, ◌≤◌, ℕ}
+use Prim.Native.Nat.{◌+◌, ℕ}
 use native.Mathlib.Omega.{arith}
 use lib.ListN.{drop, get_or}
-use borrow.Author.Rules.{rules}
-use Rattle.octets.specs.Lists.{distinct, every}
+use Rattle.octets.specs.Lists.{every}
 use Rattle.table.specs.Soundness.{labels, same_label}
 use Rattle.table.specs.TheTable.{read_entries}
 use Rattle.table.proofs.Tests.{distinct-end, distinct-turn, fails, passes_on}

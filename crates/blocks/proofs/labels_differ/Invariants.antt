@@ -1,16 +1,10 @@
 -- The invariant: the test of what is left has the answer of the whole test.
-use mathlib.Core.Path.{◌∙◌, ◌≡◌, sym}
-use mathlib.Core.Bool.{false, not, true}
-use mathlib.Core.List.{List, []}
-use Prim.Native.Nat.{◌+◌, ◌-◌, ◌≤◌, ℕ}
-use native.Mathlib.Omega.{arith}
-use lib.ListN.{drop, get_or}
-use borrow.Author.Rules.{rules}
-use Rattle.octets.specs.Lists.{distinct, every}
+use mathlib.Core.Path.{◌≡◌}
+use Prim.Native.Nat.{◌-◌, ◌≤◌}
+use lib.ListN.{drop}
+use Rattle.octets.specs.Lists.{distinct}
 use Rattle.table.specs.Soundness.{labels, same_label}
 use Rattle.table.specs.TheTable.{read_entries}
-use Rattle.table.proofs.Tests.{distinct-end, distinct-turn, fails, passes_on}
-use Rattle.table.proofs.Entries.{length-labels}
 use Rattle.blocks.proofs.labels_differ.Given as goal
 
 abbrev pub invariant-loop-i : goal.invariant-loop-i

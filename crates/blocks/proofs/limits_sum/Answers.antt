@@ -1,13 +1,12 @@
 use mathlib.Core.Path.{◌≡◌, ◌∙◌, sym}
 use mathlib.Core.List.{List}
-use Prim.Native.Nat.{ℕ, ◌+◌, ◌-◌, ◌*◌, ◌<◌, ◌≤◌}
+use Prim.Native.Nat.{ℕ, ◌+◌}
 use native.Mathlib.Omega.{arith}
-use lib.ListN.{length, get_or, drop}
+use lib.ListN.{get_or, drop}
 use Rattle.octets.specs.Lists.{sum_of}
 use Rattle.table.specs.Soundness.{limits}
 use Rattle.table.specs.TheTable.{read_entries}
 use Rattle.table.proofs.Entries.{length-limits-read, limits-at, sum-end, sum-turn}
-use borrow.Author.Rules.{rules}
 use Rattle.blocks.proofs.limits_sum.Goals as goal
 
 pub limit-requires : goal.limit-requires

@@ -1,14 +1,10 @@
 -- The limits passed and the sum of those behind are the sum of all.
-use mathlib.Core.Path.{◌≡◌, ◌∙◌, sym}
-use mathlib.Core.List.{List}
-use Prim.Native.Nat.{ℕ, ◌+◌, ◌-◌, ◌*◌, ◌<◌, ◌≤◌}
-use native.Mathlib.Omega.{arith}
-use lib.ListN.{length, get_or, drop}
+use mathlib.Core.Path.{◌≡◌}
+use Prim.Native.Nat.{◌+◌, ◌-◌, ◌*◌, ◌≤◌}
+use lib.ListN.{drop}
 use Rattle.octets.specs.Lists.{sum_of}
 use Rattle.table.specs.Soundness.{limits}
 use Rattle.table.specs.TheTable.{read_entries}
-use Rattle.table.proofs.Entries.{length-limits-read, limits-at, sum-end, sum-turn}
-use borrow.Author.Rules.{rules}
 use Rattle.blocks.proofs.limits_sum.Given as goal
 
 abbrev pub invariant-loop-i : goal.invariant-loop-i

@@ -1,6 +1,5 @@
 -- The line's length is what `line_length` says.
 use lib.ListN.{length}
-use borrow.Author.Rules.{rules}
 use Rattle.octets.specs.Lists.{up_to0}
 use Rattle.table.proofs.Tests.{behind-said}
 use Rattle.blocks.proofs.line_form.Goals as goal

@@ -1,8 +1,7 @@
 use mathlib.Core.Path.{◌≡◌}
-use Prim.Native.Nat.{◌+◌, ◌-◌, ◌≤◌, suc}
+use Prim.Native.Nat.{◌+◌, suc}
 use native.Mathlib.Omega.{arith}
 use lib.ListN.{drop, length}
-use borrow.Author.Rules.{rules}
 use Rattle.octets.specs.Lists.{up_to0}
 use Rattle.table.proofs.Tests.{line-more, line-over, line-stop}
 use Rattle.blocks.proofs.line_length.Goals as goal

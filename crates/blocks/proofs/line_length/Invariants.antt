@@ -1,11 +1,8 @@
 -- The bytes passed and those up to the next zero are the line.
 use mathlib.Core.Path.{◌≡◌}
-use Prim.Native.Nat.{◌+◌, ◌-◌, ◌≤◌, suc}
-use native.Mathlib.Omega.{arith}
+use Prim.Native.Nat.{◌+◌, ◌-◌, ◌≤◌}
 use lib.ListN.{drop, length}
-use borrow.Author.Rules.{rules}
 use Rattle.octets.specs.Lists.{up_to0}
-use Rattle.table.proofs.Tests.{line-more, line-over, line-stop}
 use Rattle.blocks.proofs.line_length.Given as goal
 
 abbrev pub invariant-loop-i : goal.invariant-loop-i

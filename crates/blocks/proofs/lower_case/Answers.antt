@@ -1,7 +1,6 @@
 -- Below the letters, above them, and one of them: a law of Labels each.
 use mathlib.Core.Path.{sym}
 use native.Mathlib.Omega.{arith}
-use borrow.Author.Rules.{rules}
 use Rattle.table.proofs.Labels.{upper, below, above}
 use Rattle.blocks.proofs.lower_case.Goals as goal
 

@@ -4,7 +4,6 @@ use mathlib.Core.Path.{◌∙◌, ◌≡◌, ap, sym}
 use mathlib.Core.Bool.{false, true}
 use native.Mathlib.Omega.{arith}
 use lib.ListN.{get_or}
-use borrow.Author.Rules.{rules}
 use Rattle.octets.specs.Lists.{every}
 use Rattle.octets.specs.Texts.{part}
 use Rattle.octets.proofs.Lists.{within-high}

@@ -1,7 +1,6 @@
 -- Equal bytes, different lengths, and the rest byte by byte: `label-bytes-same` and `label-lengths` of Labels.
 use mathlib.Core.Path.{◌≡◌, sym, ◌∙◌}
 use mathlib.Core.Bool.{true}
-use borrow.Author.Rules.{rules}
 use Rattle.octets.specs.Texts.{same}
 use Rattle.table.proofs.Labels.{label-bytes-same, label-lengths}
 use Rattle.blocks.proofs.same_label.Goals as goal

@@ -1,9 +1,7 @@
 use mathlib.Core.Path.{◌≡◌, sym, ◌∙◌}
-use Prim.Native.Nat.{◌-◌, ◌≤◌}
 use native.Mathlib.Omega.{arith}
-use lib.ListN.{length, get_or, drop}
-use borrow.Author.Rules.{rules}
-use Rattle.table.specs.Soundness.{lower_case, same_label}
+use lib.ListN.{get_or}
+use Rattle.table.specs.Soundness.{lower_case}
 use Rattle.table.proofs.Labels.{label-step, label-differ, label-end}
 use Rattle.blocks.proofs.same_letters.Goals as goal
 

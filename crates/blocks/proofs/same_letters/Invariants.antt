@@ -1,11 +1,8 @@
 -- The rest of the two labels being the same stays the same answer.
-use mathlib.Core.Path.{◌≡◌, sym, ◌∙◌}
+use mathlib.Core.Path.{◌≡◌}
 use Prim.Native.Nat.{◌-◌, ◌≤◌}
-use native.Mathlib.Omega.{arith}
-use lib.ListN.{length, get_or, drop}
-use borrow.Author.Rules.{rules}
-use Rattle.table.specs.Soundness.{lower_case, same_label}
-use Rattle.table.proofs.Labels.{label-step, label-differ, label-end}
+use lib.ListN.{length, drop}
+use Rattle.table.specs.Soundness.{same_label}
 use Rattle.blocks.proofs.same_letters.Given as goal
 
 abbrev pub invariant-loop-i : goal.invariant-loop-i

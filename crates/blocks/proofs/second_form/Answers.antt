@@ -1,6 +1,5 @@
 -- The form in four parts: `second_parts` of Tests.
 use lib.ListN.{get_or}
-use borrow.Author.Rules.{rules}
 use borrow.Author.Tests.{eq-eqb, ne_eqb}
 use Rattle.table.proofs.Tests.{fails, passes_on, second-lengths, second_parts}
 use Rattle.blocks.proofs.second_form.Goals as goal

@@ -1,7 +1,6 @@
 -- The clauses in order; each way out is the first that fails.
 use lib.ListN.{get_or}
 use borrow.Author.Tests.{le-leb, lt-leb, eq-eqb, ne_eqb}
-use borrow.Author.Rules.{rules}
 use Rattle.blocks.proofs.second_lengths.Goals as goal
 
 pub returns-then-c-ne3 : goal.returns-then-c-ne3

@@ -5,7 +5,6 @@ use lib.ListN.{get_or}
 use Rattle.blocks.specs.RowTests.{second_sound}
 use Rattle.table.proofs.Tests.{fails, passes_on}
 use Rattle.table.specs.Soundness.{only_behind}
-use borrow.Author.Rules.{rules}
 use Rattle.blocks.proofs.second_sound.Goals as goal
 
 pub returns-then-not-second_form : goal.returns-then-not-second_form

@@ -1,6 +1,5 @@
 -- What is behind the first n bytes is the rest of the room.
 use mathlib.Core.Path.{◌∙◌}
-use borrow.Author.Rules.{rules}
 use Rattle.table.proofs.Tests.{behind}
 use Rattle.blocks.proofs.zero_behind.Goals as goal
 

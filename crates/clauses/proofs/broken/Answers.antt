@@ -1,22 +1,17 @@
 -- The form, then the contents: `form-first` and `form-then` of Laws.
-use mathlib.Core.Path.{◌≡◌, sym, ap, ◌∙◌}
-use mathlib.Core.List.{[], ◌∷◌}
+use mathlib.Core.Path.{◌≡◌, refl, sym, ap, ◌∙◌}
 use Prim.Native.Nat.{◌≤◌}
 use native.Mathlib.Omega.{arith}
-use types.Run.{OneOf, miss}
-use denote.Enum.Declared.{tag_of}
 use Rattle.clauses.specs.declared.Clause.{Clause}
 use Rattle.clauses.specs.declared.Clause.TheVariants.{NoClause, HeadForm, EntryForm, PlaceForm, Sums, Line, Labels, Limits, Sessions, NoEntry, OverLimit, PolicyMark, PolicyOrder}
 use Rattle.clauses.specs.Clauses.{clause_number, broken_form}
-use Rattle.clauses.specs.contracts.Clause.{the_type}
 use Rattle.clauses.proofs.Laws.{form-first, form-then}
-use borrow.Author.Rules.{rules}
 use Rattle.clauses.proofs.broken.Goals as goal
 
 -- every clause but the first has a number
-some-clause : (x : Clause) → OneOf (1 ∷ 2 ∷ 3 ∷ 4 ∷ 5 ∷ 6 ∷ 7 ∷ 8 ∷ 9 ∷ 10 ∷ 11 ∷ 12 ∷ []) (tag_of the_type x) → 1 ≤ clause_number x
+some-clause : (x : Clause) → (x ≡ NoClause → ⊥) → 1 ≤ clause_number x
 unfolding clause_number
-some-clause NoClause o = absurd (miss (1 ∷ 2 ∷ 3 ∷ 4 ∷ 5 ∷ 6 ∷ 7 ∷ 8 ∷ 9 ∷ 10 ∷ 11 ∷ 12 ∷ []) 0 tt o)
+some-clause NoClause o = absurd (o refl)
 some-clause HeadForm o = omega arith
 some-clause EntryForm o = omega arith
 some-clause PlaceForm o = omega arith
@@ -33,7 +28,7 @@ some-clause PolicyOrder o = omega arith
 pub returns-in_default : goal.returns-in_default
 returns-in_default c =
     let f = c.broken_form-c in
-    f.ensures ∙ form-first c.args.r.now (omega (arith, f.ensures, some-clause f.result c.in_default.in_default-own.keys2))
+    f.ensures ∙ form-first c.args.r.now (omega (arith, f.ensures, some-clause f.result c.in_default.not-NoClause))
 
 pub broken_contents-requires : goal.broken_contents-requires
 unfolding clause_number

@@ -7,7 +7,6 @@ use Rattle.row.proofs.Entries.{length-room, row-least}
 use Rattle.soundness.proofs.Tested.{head-count}
 use Rattle.clauses.specs.Clauses.{clause_number}
 use Rattle.clauses.proofs.Laws.{breaks-10, breaks-11, breaks-12, breaks-5, breaks-6, breaks-7, breaks-8, breaks-9, contents-kept, entries-form-said, form-holds, labels-are, limits-fit, limits-over}
-use borrow.Author.Rules.{rules}
 use Rattle.clauses.proofs.broken_contents.Goals as goal
 
 pub line_exact-requires : goal.line_exact-requires

@@ -10,7 +10,6 @@ use Rattle.row.proofs.Entries.{head-size, length-room, row-least}
 use Rattle.soundness.proofs.Tested.{head-count}
 use Rattle.clauses.specs.Clauses.{clause_number}
 use Rattle.clauses.proofs.Laws.{breaks-1, breaks-2, breaks-3, breaks-4, form-kept}
-use borrow.Author.Rules.{rules}
 use Rattle.clauses.proofs.broken_form.Goals as goal
 
 pub head-requires : goal.head-requires

@@ -1,15 +1,13 @@
-use mathlib.Core.Path.{◌∙◌, ◌≡◌, ap, sym}
-use Prim.Native.Nat.{ℕ, ◌-◌, ◌<◌, ◌≤◌}
+use mathlib.Core.Path.{◌∙◌, ap, sym}
+use Prim.Native.Nat.{ℕ, ◌<◌}
 use native.Mathlib.Omega.{arith}
-use lib.ListN.{length, drop, get_or}
+use lib.ListN.{length, get_or}
 use Rattle.octets.specs.Choice.{within}
-use Rattle.octets.specs.Lists.{every}
 use Rattle.table.specs.TheTable.{head, order_line}
 use Rattle.table.proofs.Tests.{every-end, every-on-true, every-out, fails, passes_on}
 use Rattle.row.proofs.Entries.{row-least}
 use Rattle.soundness.proofs.Line.{line_low, line-most, place-high}
 use Rattle.clauses.proofs.Laws.{names-all, names_at, names_entry}
-use borrow.Author.Rules.{rules}
 use Rattle.clauses.proofs.entries_exist.Goals as goal
 
 pub accesses_in_use-n-requires : goal.accesses_in_use-n-requires

@@ -12,7 +12,6 @@ use Rattle.table.proofs.Form.{length-first-of, sized}
 use Rattle.table.proofs.Tests.{fails, passes_on}
 use Rattle.table.specs.Soundness.{access_form, in_use, place_form, second_form}
 use Rattle.table.specs.TheTable.{first_block, form_of, place, second_block}
-use borrow.Author.Rules.{rules}
 use Rattle.clauses.proofs.place_form.Goals as goal
 
 pub used_bits-requires : goal.used_bits-requires

@@ -8,7 +8,6 @@ use Rattle.table.proofs.Form.{length-first-of, sized}
 use Rattle.table.proofs.Tests.{fails, passes_on}
 use Rattle.table.specs.Soundness.{place_sums, sums_agree}
 use Rattle.table.specs.TheTable.{first_block, form_of, place, second_block}
-use borrow.Author.Rules.{rules}
 use Rattle.clauses.proofs.place_sums.Goals as goal
 
 pub block_sums_agree-requires : goal.block_sums_agree-requires

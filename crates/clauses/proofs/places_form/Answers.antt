@@ -1,10 +1,6 @@
-use mathlib.Core.Path.{◌∙◌, ◌≡◌, sym}
-use Prim.Native.Nat.{◌-◌, ◌≤◌}
+use mathlib.Core.Path.{◌∙◌, sym}
 use native.Mathlib.Omega.{arith}
-use borrow.Author.Rules.{rules}
-use Rattle.octets.specs.Lists.{counted, every}
 use Rattle.table.specs.Soundness.{place_form}
-use Rattle.table.specs.TheTable.{places}
 use Rattle.table.proofs.Tests.{fails, passes_on}
 use Rattle.soundness.proofs.Line.{places-all, places-end, places-turn}
 use Rattle.clauses.proofs.places_form.Goals as goal

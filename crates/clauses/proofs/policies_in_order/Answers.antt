@@ -6,10 +6,9 @@ use lib.ListN.{length, get_or}
 use Rattle.clauses.proofs.Laws.{order-last, order-none, order-out}
 use Rattle.row.proofs.Places.{form-two}
 use Rattle.table.proofs.Form.{length-first-of, sized}
-use Rattle.table.proofs.Tests.{behind, fails, passes_on}
+use Rattle.table.proofs.Tests.{fails, passes_on}
 use Rattle.table.specs.Soundness.{only_behind}
 use Rattle.table.specs.TheTable.{first_block, place, second_block}
-use borrow.Author.Rules.{rules}
 use Rattle.clauses.proofs.policies_in_order.Goals as goal
 
 pub returns-then-more-eq0 : goal.returns-then-more-eq0

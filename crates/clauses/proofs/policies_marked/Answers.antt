@@ -1,11 +1,10 @@
-use mathlib.Core.Path.{◌∙◌, ◌≡◌, ap, sym}
+use mathlib.Core.Path.{◌∙◌, ap, sym}
 use mathlib.Core.List.{List}
-use Prim.Native.Nat.{ℕ, ◌-◌, ◌<◌, ◌≤◌}
+use Prim.Native.Nat.{ℕ, ◌<◌}
 use native.Mathlib.Omega.{arith}
 use lib.Dec.{eqb, leb}
-use lib.ListN.{length, drop, get_or}
+use lib.ListN.{length, get_or}
 use Rattle.octets.specs.Choice.{pick}
-use Rattle.octets.specs.Lists.{every}
 use Rattle.table.specs.Soundness.{policy_marked}
 use Rattle.table.specs.TheTable.{order_line}
 use Rattle.table.proofs.Form.{length-first-of, sized}
@@ -13,7 +12,6 @@ use Rattle.table.proofs.Tests.{every-end, every-on-true, every-out, fails, passe
 use Rattle.row.proofs.Entries.{row-least}
 use Rattle.soundness.proofs.Line.{line_low, line-most, place-high}
 use Rattle.clauses.proofs.Laws.{marked-at}
-use borrow.Author.Rules.{rules}
 use Rattle.clauses.proofs.policies_marked.Goals as goal
 
 pub accesses_in_use-n-requires : goal.accesses_in_use-n-requires

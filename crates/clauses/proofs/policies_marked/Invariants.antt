@@ -1,20 +1,10 @@
 -- The invariant: the test of what is left has the answer of the whole test, place by place along the line: `marked-at` of Laws.
-use mathlib.Core.Path.{◌∙◌, ◌≡◌, ap, sym}
-use mathlib.Core.List.{List}
-use Prim.Native.Nat.{ℕ, ◌-◌, ◌<◌, ◌≤◌}
-use native.Mathlib.Omega.{arith}
-use lib.Dec.{eqb, leb}
-use lib.ListN.{length, drop, get_or}
-use Rattle.octets.specs.Choice.{pick}
+use mathlib.Core.Path.{◌≡◌}
+use Prim.Native.Nat.{◌-◌, ◌≤◌}
+use lib.ListN.{drop}
 use Rattle.octets.specs.Lists.{every}
 use Rattle.table.specs.Soundness.{policy_marked}
 use Rattle.table.specs.TheTable.{order_line}
-use Rattle.table.proofs.Form.{length-first-of, sized}
-use Rattle.table.proofs.Tests.{every-end, every-on-true, every-out, fails, passes_on}
-use Rattle.row.proofs.Entries.{row-least}
-use Rattle.soundness.proofs.Line.{line_low, line-most, place-high}
-use Rattle.clauses.proofs.Laws.{marked-at}
-use borrow.Author.Rules.{rules}
 use Rattle.clauses.proofs.policies_marked.Given as goal
 
 abbrev pub invariant-loop-i : goal.invariant-loop-i

@@ -1,15 +1,13 @@
-use mathlib.Core.Path.{◌≡◌, sym, ◌∙◌}
-use Prim.Native.Nat.{◌-◌, ◌<◌, ◌≤◌}
+use mathlib.Core.Path.{sym, ◌∙◌}
+use Prim.Native.Nat.{◌<◌}
 use native.Mathlib.Omega.{arith}
-use lib.ListN.{length, drop}
+use lib.ListN.{length}
 use Rattle.clauses.proofs.Laws.{ordered_at}
-use Rattle.octets.specs.Lists.{every}
 use Rattle.row.proofs.Entries.{row-least}
 use Rattle.soundness.proofs.Line.{line_low, line-most, place-high}
 use Rattle.table.proofs.Tests.{every-end, every-on-true, every-out, fails, passes_on}
 use Rattle.table.specs.Soundness.{policies_in_order}
 use Rattle.table.specs.TheTable.{order_line}
-use borrow.Author.Rules.{rules}
 use Rattle.clauses.proofs.policies_ordered.Goals as goal
 
 pub accesses_in_use-n-requires : goal.accesses_in_use-n-requires

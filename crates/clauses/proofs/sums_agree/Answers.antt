@@ -1,15 +1,10 @@
-use mathlib.Core.Path.{◌≡◌, sym, ap, ◌∙◌}
-use mathlib.Core.Bool.{true}
-use Prim.Native.Nat.{◌-◌, ◌≤◌}
+use mathlib.Core.Path.{sym, ap, ◌∙◌}
 use native.Mathlib.Omega.{arith}
 use lib.ListN.{length}
-use Rattle.octets.specs.Lists.{counted, every}
 use Rattle.row.proofs.Entries.{head-size, row-least}
 use Rattle.soundness.proofs.Line.{places-all, places-end, places-turn}
 use Rattle.table.proofs.Tests.{fails, passes_on}
 use Rattle.table.specs.Soundness.{place_sums, sums_agree}
-use Rattle.table.specs.TheTable.{head, places}
-use borrow.Author.Rules.{rules}
 use Rattle.clauses.proofs.sums_agree.Goals as goal
 
 pub head-requires : goal.head-requires

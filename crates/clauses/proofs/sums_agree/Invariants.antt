@@ -1,16 +1,10 @@
 -- Block 0, and then the places; the invariant: the test of what is left has the answer of the whole test.
-use mathlib.Core.Path.{◌≡◌, sym, ap, ◌∙◌}
+use mathlib.Core.Path.{◌≡◌}
 use mathlib.Core.Bool.{true}
 use Prim.Native.Nat.{◌-◌, ◌≤◌}
-use native.Mathlib.Omega.{arith}
-use lib.ListN.{length}
 use Rattle.octets.specs.Lists.{counted, every}
-use Rattle.row.proofs.Entries.{head-size, row-least}
-use Rattle.soundness.proofs.Line.{places-all, places-end, places-turn}
-use Rattle.table.proofs.Tests.{fails, passes_on}
 use Rattle.table.specs.Soundness.{place_sums, sums_agree}
 use Rattle.table.specs.TheTable.{head, places}
-use borrow.Author.Rules.{rules}
 use Rattle.clauses.proofs.sums_agree.Given as goal
 
 abbrev pub invariant-loop-place : goal.invariant-loop-place

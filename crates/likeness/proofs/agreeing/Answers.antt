@@ -1,8 +1,7 @@
 use mathlib.Core.Path.{◌≡◌}
-use Prim.Native.Nat.{suc, ◌+◌, ◌-◌, ◌≤◌}
+use Prim.Native.Nat.{suc, ◌+◌}
 use native.Mathlib.Omega.{arith}
-use lib.ListN.{length, drop}
-use borrow.Author.Rules.{rules}
+use lib.ListN.{drop}
 use Rattle.likeness.specs.TheSameAnswer.{agreeing}
 use Rattle.likeness.proofs.Prefixes.{agree-end, agree-short, agree_differ, agree-step}
 use Rattle.likeness.proofs.agreeing.Goals as goal

@@ -1,11 +1,8 @@
 -- What agrees so far and what agrees behind it make the number of all; a law of Prefixes for each way out.
 use mathlib.Core.Path.{◌≡◌}
-use Prim.Native.Nat.{suc, ◌+◌, ◌-◌, ◌≤◌}
-use native.Mathlib.Omega.{arith}
+use Prim.Native.Nat.{◌+◌, ◌-◌, ◌≤◌}
 use lib.ListN.{length, drop}
-use borrow.Author.Rules.{rules}
 use Rattle.likeness.specs.TheSameAnswer.{agreeing}
-use Rattle.likeness.proofs.Prefixes.{agree-end, agree-short, agree_differ, agree-step}
 use Rattle.likeness.proofs.agreeing.Given as goal
 
 abbrev pub invariant-loop-i : goal.invariant-loop-i

@@ -1,6 +1,5 @@
 -- Each test that tells something tells it before the next is asked: the laws of Whole.
 use mathlib.Core.Path.{refl, sym, ◌∙◌}
-use borrow.Author.Rules.{rules}
 use Rattle.octets.specs.Texts.{zeros}
 use Rattle.octets.proofs.Lists.{same-eq}
 use Rattle.likeness.specs.Code.{said}

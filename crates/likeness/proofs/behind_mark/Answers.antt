@@ -1,6 +1,5 @@
 -- What is behind the mark is told only where the AVP at it has the name.
 use mathlib.Core.Path.{refl, sym, ◌∙◌}
-use borrow.Author.Rules.{rules}
 use Rattle.likeness.proofs.Places.{stands, passes-here}
 use Rattle.likeness.proofs.behind_mark.Goals as goal
 

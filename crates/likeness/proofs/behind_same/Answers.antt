@@ -2,7 +2,6 @@
 use mathlib.Core.Path.{refl, sym, ◌∙◌}
 use Prim.Native.Nat.{◌+◌, ◌-◌}
 use native.Mathlib.Omega.{arith}
-use borrow.Author.Rules.{rules}
 use Rattle.likeness.proofs.Places.{inside}
 use Rattle.likeness.proofs.Bytes.{avps-same, same_next}
 use Rattle.likeness.proofs.behind_same.Goals as goal

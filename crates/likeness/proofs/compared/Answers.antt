@@ -1,7 +1,6 @@
 -- The two are the same, or the first byte that differs is told.
 use mathlib.Core.Path.{◌≡◌, sym, ◌∙◌}
 use mathlib.Core.Bool.{true, false}
-use borrow.Author.Rules.{rules}
 use Rattle.octets.specs.Choice.{pick}
 use Rattle.octets.specs.Texts.{same}
 use Rattle.likeness.specs.TheSameAnswer.{unless, compared}

@@ -1,12 +1,8 @@
-use mathlib.Core.Path.{◌≡◌, sym, ◌∙◌}
-use Prim.Native.Nat.{◌-◌, ◌≤◌}
+use mathlib.Core.Path.{sym, ◌∙◌}
 use native.Mathlib.Omega.{arith}
-use borrow.Author.Rules.{rules}
-use lib.ListN.{length, get_or}
-use Rattle.message.specs.ReadingAMessage.{Name}
-use Rattle.likeness.specs.Code.{next_at, mark_of}
+use lib.ListN.{length}
 use Rattle.likeness.proofs.Places.{stands, inside, passes-here}
-use Rattle.likeness.proofs.Marks.{MetOf, met-first, met-on, all-met}
+use Rattle.likeness.proofs.Marks.{met-first, met-on, all-met}
 use Rattle.likeness.proofs.complete.Goals as goal
 
 pub loop-next-init : goal.loop-next-init

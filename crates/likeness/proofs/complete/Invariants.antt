@@ -1,13 +1,10 @@
 -- Each of ours so far stands before its mark, so that it was met: `met-on`; where all do, none is missing.
-use mathlib.Core.Path.{◌≡◌, sym, ◌∙◌}
+use mathlib.Core.Path.{◌≡◌}
 use Prim.Native.Nat.{◌-◌, ◌≤◌}
-use native.Mathlib.Omega.{arith}
-use borrow.Author.Rules.{rules}
 use lib.ListN.{length, get_or}
 use Rattle.message.specs.ReadingAMessage.{Name}
 use Rattle.likeness.specs.Code.{next_at, mark_of}
-use Rattle.likeness.proofs.Places.{stands, inside, passes-here}
-use Rattle.likeness.proofs.Marks.{MetOf, met-first, met-on, all-met}
+use Rattle.likeness.proofs.Marks.{MetOf}
 use Rattle.likeness.proofs.complete.Given as goal
 
 abbrev pub invariant-loop-next : goal.invariant-loop-next

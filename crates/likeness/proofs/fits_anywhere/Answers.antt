@@ -2,7 +2,6 @@
 use mathlib.Core.Path.{◌≡◌, sym, ap, ◌∙◌}
 use Prim.Native.Nat.{ℕ, ◌-◌}
 use lib.ListN.{drop}
-use borrow.Author.Rules.{rules}
 use Rattle.likeness.specs.Code.{avp_at, avps_from, named_from}
 use Rattle.likeness.specs.TheSameAnswer.{first_is}
 use Rattle.likeness.proofs.Fitting.{fits-met}

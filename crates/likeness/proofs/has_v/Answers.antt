@@ -1,5 +1,4 @@
 -- The word tells it as a whole: `word-v`.
-use borrow.Author.Rules.{rules}
 use Rattle.likeness.proofs.Places.{word-v}
 use Rattle.likeness.proofs.has_v.Goals as goal
 

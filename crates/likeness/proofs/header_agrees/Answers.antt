@@ -1,8 +1,7 @@
 use mathlib.Core.Path.{◌≡◌, sym, ◌∙◌}
-use Prim.Native.Nat.{suc, ◌+◌, ◌-◌, ◌<◌, ◌≤◌}
+use Prim.Native.Nat.{suc, ◌+◌, ◌<◌}
 use native.Mathlib.Omega.{arith}
 use lib.ListN.{length, get_or, take, drop}
-use borrow.Author.Rules.{rules}
 use Rattle.likeness.specs.TheSameAnswer.{agreeing, header_due}
 use Rattle.likeness.proofs.Prefixes.{agree-end, agree_differ, agree-step}
 use Rattle.likeness.proofs.Headers.{due-length, head-short, head-reaches, head-most, head_byte}

@@ -1,12 +1,8 @@
 -- As in `agreeing`, over the first twenty bytes and the header due.
-use mathlib.Core.Path.{◌≡◌, sym, ◌∙◌}
-use Prim.Native.Nat.{suc, ◌+◌, ◌-◌, ◌<◌, ◌≤◌}
-use native.Mathlib.Omega.{arith}
-use lib.ListN.{length, get_or, take, drop}
-use borrow.Author.Rules.{rules}
+use mathlib.Core.Path.{◌≡◌}
+use Prim.Native.Nat.{◌+◌, ◌-◌, ◌≤◌}
+use lib.ListN.{length, take, drop}
 use Rattle.likeness.specs.TheSameAnswer.{agreeing, header_due}
-use Rattle.likeness.proofs.Prefixes.{agree-end, agree_differ, agree-step}
-use Rattle.likeness.proofs.Headers.{due-length, head-short, head-reaches, head-most, head_byte}
 use Rattle.likeness.proofs.header_agrees.Given as goal
 
 abbrev pub invariant-loop-i : goal.invariant-loop-i

@@ -1,6 +1,5 @@
 -- Bytes 1 to 3 are the length, each other is ours: the laws of Headers.
 use mathlib.Core.Path.{sym, ◌∙◌}
-use borrow.Author.Rules.{rules}
 use Rattle.likeness.proofs.Headers.{due-1, due-2, due-3, due-other}
 use Rattle.likeness.proofs.header_byte.Goals as goal
 

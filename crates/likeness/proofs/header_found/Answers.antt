@@ -1,7 +1,6 @@
 -- Where ours is an answer, the header is the one due or the first byte that differs is told; else none is due.
 use mathlib.Core.Path.{sym, ◌∙◌}
 use native.Mathlib.Omega.{arith}
-use borrow.Author.Rules.{rules}
 use Rattle.likeness.specs.Code.{said}
 use Rattle.likeness.proofs.Headers.{none-due, not-due, header-differs, header-same}
 use Rattle.likeness.proofs.header_found.Goals as goal

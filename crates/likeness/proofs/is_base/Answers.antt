@@ -4,7 +4,6 @@ use Prim.Native.Nat.{◌+◌}
 use lib.Dec.{eqb}
 use lib.ListN.{get_or}
 use borrow.Author.Tests.{leb-true, leb-false}
-use borrow.Author.Rules.{rules}
 use Rattle.likeness.proofs.Places.{is-base-v, is-base-code}
 use Rattle.likeness.proofs.is_base.Goals as goal
 

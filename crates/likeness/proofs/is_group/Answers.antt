@@ -1,7 +1,6 @@
 -- One of three names.
 use mathlib.Core.Path.{◌≡◌, sym, ◌∙◌}
 use mathlib.Core.Bool.{true, false}
-use borrow.Author.Rules.{rules}
 use Rattle.message.specs.ReadingAMessage.{base, same_name}
 use Rattle.likeness.specs.TheSameAnswer.{failed_avp, is_group}
 use Rattle.likeness.specs.Code.{avp_at}

@@ -1,5 +1,4 @@
 -- Both ways compute.
-use borrow.Author.Rules.{rules}
 use Rattle.likeness.proofs.is_it.Goals as goal
 
 pub returns-then-same : goal.returns-then-same

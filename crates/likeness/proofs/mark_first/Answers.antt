@@ -1,12 +1,11 @@
-use mathlib.Core.Path.{◌≡◌, sym, ap, ◌∙◌}
-use Prim.Native.Nat.{ℕ, ◌-◌, ◌≤◌}
+use mathlib.Core.Path.{sym, ap, ◌∙◌}
+use Prim.Native.Nat.{ℕ}
 use native.Mathlib.Omega.{arith}
-use borrow.Author.Rules.{rules}
 use lib.ListN.{length, get_or}
 use Rattle.octets.proofs.Texts.{length-zeros}
-use Rattle.likeness.specs.Code.{next_at, mark_count}
+use Rattle.likeness.specs.Code.{mark_count}
 use Rattle.likeness.proofs.Places.{stands, inside, passes-here}
-use Rattle.likeness.proofs.Marks.{First, first-none, first_on, first-all}
+use Rattle.likeness.proofs.Marks.{first-none, first_on, first-all}
 use Rattle.likeness.proofs.mark_first.Goals as goal
 
 pub loop-next-init : goal.loop-next-init

@@ -1,13 +1,9 @@
 -- Each turn keeps `First`, and at the end of ours it says what the marks have to say.
-use mathlib.Core.Path.{◌≡◌, sym, ap, ◌∙◌}
-use Prim.Native.Nat.{ℕ, ◌-◌, ◌≤◌}
-use native.Mathlib.Omega.{arith}
-use borrow.Author.Rules.{rules}
-use lib.ListN.{length, get_or}
-use Rattle.octets.proofs.Texts.{length-zeros}
-use Rattle.likeness.specs.Code.{next_at, mark_count}
-use Rattle.likeness.proofs.Places.{stands, inside, passes-here}
-use Rattle.likeness.proofs.Marks.{First, first-none, first_on, first-all}
+use mathlib.Core.Path.{◌≡◌}
+use Prim.Native.Nat.{◌-◌, ◌≤◌}
+use lib.ListN.{length}
+use Rattle.likeness.specs.Code.{next_at}
+use Rattle.likeness.proofs.Marks.{First}
 use Rattle.likeness.proofs.mark_first.Given as goal
 
 abbrev pub invariant-loop-next : goal.invariant-loop-next

@@ -3,9 +3,8 @@ use mathlib.Core.Bool.{Bool, true, false, ◌&&◌}
 use Prim.Native.Nat.{ℕ, ◌+◌, ◌-◌}
 use native.Mathlib.Omega.{arith}
 use lib.Dec.{eqb}
-use lib.ListN.{length, drop}
-use borrow.Author.Rules.{rules}
-use Rattle.likeness.specs.Code.{avp_at, avps_from, next_at}
+use lib.ListN.{drop}
+use Rattle.likeness.specs.Code.{avp_at, avps_from}
 use Rattle.likeness.proofs.Places.{stands, reaches, passes-here, next-is}
 use Rattle.likeness.proofs.Named.{met-here, met-on, none-met}
 use Rattle.octets.specs.Choice.{pick}

@@ -1,17 +1,9 @@
 -- The one looked for among those from a place on is the one looked for from the start: `met-on`; a law of Named for each way out.
-use mathlib.Core.Path.{◌≡◌, refl, sym, ap, ◌∙◌}
-use mathlib.Core.Bool.{Bool, true, false, ◌&&◌}
-use Prim.Native.Nat.{ℕ, ◌+◌, ◌-◌}
-use native.Mathlib.Omega.{arith}
-use lib.Dec.{eqb}
+use mathlib.Core.Path.{◌≡◌}
+use Prim.Native.Nat.{◌-◌}
 use lib.ListN.{length, drop}
-use borrow.Author.Rules.{rules}
 use Rattle.likeness.specs.Code.{avp_at, avps_from, next_at}
-use Rattle.likeness.proofs.Places.{stands, reaches, passes-here, next-is}
-use Rattle.likeness.proofs.Named.{met-here, met-on, none-met}
-use Rattle.octets.specs.Choice.{pick}
-use Rattle.octets.specs.Numbers.{up4}
-use Rattle.message.specs.ReadingAMessage.{same_name, avp_length, having}
+use Rattle.message.specs.ReadingAMessage.{having}
 use Rattle.likeness.specs.TheSameAnswer.{first_is}
 use Rattle.likeness.proofs.met_by.Given as goal
 

@@ -1,12 +1,6 @@
-use mathlib.Core.Path.{◌≡◌, refl, sym, ◌∙◌}
-use Prim.Native.Nat.{◌-◌, ◌≤◌}
+use mathlib.Core.Path.{refl, sym, ◌∙◌}
 use native.Mathlib.Omega.{arith}
-use borrow.Author.Rules.{rules}
-use borrow.Author.Tests.{not-true, not-false}
-use lib.ListN.{length}
-use Rattle.message.specs.ReadingAMessage.{Name}
-use Rattle.likeness.specs.Code.{avp_at, avps_from, named_from, next_at, Marked}
-use Rattle.likeness.specs.TheSameAnswer.{misplaced_from, misplaced}
+use Rattle.likeness.specs.Code.{avp_at, avps_from}
 use Rattle.likeness.proofs.Places.{stands, inside, passes-here}
 use Rattle.likeness.proofs.Fitting.{other-start, same_start, place-off, place-on, places-end}
 use Rattle.likeness.proofs.Marks.{behind-same, marked-on, fewer-on, marked-end}

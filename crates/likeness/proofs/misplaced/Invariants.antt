@@ -1,16 +1,10 @@
 -- What does not fit from a place on is what does not fit at all: `place-on`; and the marks keep what they say: `marked-on`.
-use mathlib.Core.Path.{◌≡◌, refl, sym, ◌∙◌}
+use mathlib.Core.Path.{◌≡◌}
 use Prim.Native.Nat.{◌-◌, ◌≤◌}
-use native.Mathlib.Omega.{arith}
-use borrow.Author.Rules.{rules}
-use borrow.Author.Tests.{not-true, not-false}
 use lib.ListN.{length}
 use Rattle.message.specs.ReadingAMessage.{Name}
-use Rattle.likeness.specs.Code.{avp_at, avps_from, named_from, next_at, Marked}
+use Rattle.likeness.specs.Code.{avps_from, named_from, next_at, Marked}
 use Rattle.likeness.specs.TheSameAnswer.{misplaced_from, misplaced}
-use Rattle.likeness.proofs.Places.{stands, inside, passes-here}
-use Rattle.likeness.proofs.Fitting.{other-start, same_start, place-off, place-on, places-end}
-use Rattle.likeness.proofs.Marks.{behind-same, marked-on, fewer-on, marked-end}
 use Rattle.likeness.proofs.misplaced.Given as goal
 
 abbrev pub invariant-loop-next : goal.invariant-loop-next

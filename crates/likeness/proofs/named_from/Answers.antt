@@ -1,10 +1,9 @@
 use mathlib.Core.Path.{◌≡◌, sym, ap, ◌∙◌}
 use mathlib.Core.Bool.{Bool}
-use Prim.Native.Nat.{◌+◌, ◌-◌, ◌≤◌}
+use Prim.Native.Nat.{◌+◌, ◌≤◌}
 use native.Mathlib.Omega.{arith}
-use lib.ListN.{length, drop}
-use borrow.Author.Rules.{rules}
-use Rattle.likeness.specs.Code.{avp_at, named_from, next_at}
+use lib.ListN.{drop}
+use Rattle.likeness.specs.Code.{avp_at, named_from}
 use Rattle.likeness.proofs.Places.{stands, reaches, passes-here, next-is}
 use Rattle.likeness.proofs.Named.{one_less, count-here, count_none}
 use Rattle.octets.specs.Choice.{pick}

@@ -1,7 +1,6 @@
 -- The four tests by flags and length as one word: each way out is a law of Places.
 use mathlib.Core.Path.{sym}
 use native.Mathlib.Omega.{arith}
-use borrow.Author.Rules.{rules}
 use Rattle.octets.specs.Numbers.{up4}
 use Rattle.likeness.proofs.Places.{next-end, next-few, word-bits, word-short, word-past, word-whole}
 use Rattle.likeness.proofs.next_at.Goals as goal

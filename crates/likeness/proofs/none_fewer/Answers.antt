@@ -1,17 +1,14 @@
 use mathlib.Core.Path.{◌≡◌, refl, sym, ◌∙◌}
 use mathlib.Core.Bool.{true, false}
-use Prim.Native.Nat.{◌-◌}
 use native.Mathlib.Omega.{arith}
 use lib.Dec.{leb}
 use lib.ListN.{length}
-use borrow.Author.Rules.{rules}
 use borrow.Author.Tests.{le-leb, lt-leb}
-use Rattle.likeness.specs.Code.{avp_at, avps_from, named_from, next_at}
+use Rattle.likeness.specs.Code.{avp_at, avps_from, named_from}
 use Rattle.likeness.specs.TheSameAnswer.{complete}
 use Rattle.likeness.proofs.Places.{stands, inside, passes-here}
 use Rattle.likeness.proofs.Fitting.{all-stop, all-step, all_end}
 use Rattle.message.specs.ReadingAMessage.{having, Avp}
-use Rattle.octets.specs.Lists.{every}
 use Rattle.likeness.proofs.none_fewer.Goals as goal
 
 pub loop-next-init : goal.loop-next-init

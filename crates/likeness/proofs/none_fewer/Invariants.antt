@@ -1,16 +1,10 @@
 -- What holds of every AVP from a place on decides: `all-step`.
-use mathlib.Core.Path.{◌≡◌, refl, sym, ◌∙◌}
-use mathlib.Core.Bool.{true, false}
+use mathlib.Core.Path.{◌≡◌}
 use Prim.Native.Nat.{◌-◌}
-use native.Mathlib.Omega.{arith}
 use lib.Dec.{leb}
 use lib.ListN.{length}
-use borrow.Author.Rules.{rules}
-use borrow.Author.Tests.{le-leb, lt-leb}
-use Rattle.likeness.specs.Code.{avp_at, avps_from, named_from, next_at}
+use Rattle.likeness.specs.Code.{avps_from, next_at}
 use Rattle.likeness.specs.TheSameAnswer.{complete}
-use Rattle.likeness.proofs.Places.{stands, inside, passes-here}
-use Rattle.likeness.proofs.Fitting.{all-stop, all-step, all_end}
 use Rattle.message.specs.ReadingAMessage.{having, Avp}
 use Rattle.octets.specs.Lists.{every}
 use Rattle.likeness.proofs.none_fewer.Given as goal

@@ -2,7 +2,6 @@
 use mathlib.Core.Path.{◌∙◌}
 use mathlib.Core.Bool.{or-true, or-false}
 use native.Mathlib.Omega.{arith}
-use borrow.Author.Rules.{rules}
 use borrow.Author.Tests.{eq-eqb, ne_eqb}
 use Rattle.likeness.proofs.Fitting.{mandatory-is}
 use Rattle.likeness.proofs.passes.Goals as goal

@@ -1,6 +1,5 @@
 -- The flag byte stands four bytes on (`flags-are`), and the values are compared as they are lent.
 use mathlib.Core.Path.{sym, ◌∙◌}
-use borrow.Author.Rules.{rules}
 use Rattle.likeness.proofs.Places.{flags-differ, flags-agree}
 use Rattle.likeness.proofs.same_avp.Goals as goal
 

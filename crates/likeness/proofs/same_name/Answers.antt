@@ -2,7 +2,6 @@
 use mathlib.Core.Path.{◌≡◌, sym, ◌∙◌}
 use Prim.Native.Nat.{◌+◌}
 use native.Mathlib.Omega.{arith}
-use borrow.Author.Rules.{rules}
 use Rattle.likeness.proofs.Places.{names-codes, names-when-base, names-right, names-when-vendor, head-of-12}
 use Rattle.octets.specs.Numbers.{net32}
 use Rattle.likeness.proofs.same_name.Goals as goal

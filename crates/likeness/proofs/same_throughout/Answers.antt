@@ -1,10 +1,8 @@
-use mathlib.Core.Bool.{◌&&◌, true, and-true}
+use mathlib.Core.Bool.{true, and-true}
 use mathlib.Core.Path.{◌≡◌, sym, ◌∙◌}
-use Prim.Native.Nat.{◌-◌, ◌≤◌}
 use native.Mathlib.Omega.{arith}
 use lib.Dec.{eqb}
-use lib.ListN.{length, drop}
-use borrow.Author.Rules.{rules}
+use lib.ListN.{drop}
 use Rattle.octets.specs.Texts.{same}
 use Rattle.octets.proofs.Texts.{same_end, same-lengths}
 use Rattle.likeness.proofs.Prefixes.{least_step}

@@ -1,14 +1,10 @@
 -- The invariant: the whole texts are the same exactly if the least so far is 255, and the rests from i on are the same.
-use mathlib.Core.Bool.{◌&&◌, true, and-true}
-use mathlib.Core.Path.{◌≡◌, sym, ◌∙◌}
+use mathlib.Core.Bool.{◌&&◌}
+use mathlib.Core.Path.{◌≡◌}
 use Prim.Native.Nat.{◌-◌, ◌≤◌}
-use native.Mathlib.Omega.{arith}
 use lib.Dec.{eqb}
 use lib.ListN.{length, drop}
-use borrow.Author.Rules.{rules}
 use Rattle.octets.specs.Texts.{same}
-use Rattle.octets.proofs.Texts.{same_end, same-lengths}
-use Rattle.likeness.proofs.Prefixes.{least_step}
 use Rattle.likeness.proofs.same_throughout.Given as goal
 
 abbrev pub invariant-loop-i : goal.invariant-loop-i

@@ -1,7 +1,6 @@
 -- An answer without AVPs starts as any; of two others the first names decide.
 use mathlib.Core.Path.{◌≡◌, sym, ◌∙◌}
 use mathlib.Core.Bool.{true, false}
-use borrow.Author.Rules.{rules}
 use Rattle.likeness.specs.Code.{avp_at}
 use Rattle.likeness.proofs.Places.{stands, passes-here}
 use Rattle.likeness.proofs.Fitting.{starts_none, starts-free, starts-here}

@@ -3,7 +3,6 @@ use mathlib.Core.Path.{ap, ◌∙◌}
 use Prim.Native.Nat.{ℕ, ◌+◌, ◌-◌}
 use native.Mathlib.Omega.{arith}
 use lib.ListN.{take, drop}
-use borrow.Author.Rules.{rules}
 use Rattle.likeness.proofs.Places.{head-of-8, head-of-12, value-8, value-12}
 use Rattle.likeness.proofs.value_of.Goals as goal
 

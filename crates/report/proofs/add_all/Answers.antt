@@ -1,11 +1,10 @@
 use mathlib.Core.Path.{◌≡◌, refl, sym, ◌∙◌}
 use mathlib.Core.List.{List}
-use Prim.Native.Nat.{ℕ, ◌+◌, ◌-◌, ◌<◌, ◌≤◌}
+use Prim.Native.Nat.{ℕ, ◌+◌, ◌<◌}
 use native.Mathlib.Omega.{arith}
-use borrow.Author.Rules.{rules}
 use lib.ListN.{length, get_or, length-set}
 use Rattle.report.specs.TheReport.{plus}
-use Rattle.report.proofs.Writing.{done, done-read, done-step, done-last, cell-held, cell-plus}
+use Rattle.report.proofs.Writing.{done-read, done-step, done-last, cell-held, cell-plus}
 use Rattle.report.proofs.Counting.{length-plus}
 use Rattle.report.proofs.add_all.Goals as goal
 

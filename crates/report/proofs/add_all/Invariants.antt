@@ -1,13 +1,9 @@
 -- After i turns the first i numbers are those of both reports added.
-use mathlib.Core.Path.{◌≡◌, refl, sym, ◌∙◌}
-use mathlib.Core.List.{List}
-use Prim.Native.Nat.{ℕ, ◌+◌, ◌-◌, ◌<◌, ◌≤◌}
-use native.Mathlib.Omega.{arith}
-use borrow.Author.Rules.{rules}
-use lib.ListN.{length, get_or, length-set}
+use mathlib.Core.Path.{◌≡◌}
+use Prim.Native.Nat.{◌-◌, ◌≤◌}
+use lib.ListN.{length}
 use Rattle.report.specs.TheReport.{plus}
-use Rattle.report.proofs.Writing.{done, done-read, done-step, done-last, cell-held, cell-plus}
-use Rattle.report.proofs.Counting.{length-plus}
+use Rattle.report.proofs.Writing.{done}
 use Rattle.report.proofs.add_all.Given as goal
 
 abbrev pub invariant-loop-i : goal.invariant-loop-i

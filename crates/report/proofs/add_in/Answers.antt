@@ -3,8 +3,6 @@ use mathlib.Core.Path.{◌≡◌, sym, ap, ◌∙◌}
 use mathlib.Core.List.{List}
 use mathlib.Core.Bool.{true, false}
 use Prim.Native.Nat.{ℕ}
-use borrow.Author.Tests.{not-true, not-false}
-use borrow.Author.Rules.{rules}
 use Rattle.report.specs.Code.{leaves}
 use Rattle.report.specs.TheReport.{held, plus}
 use Rattle.report.proofs.Leaving.{sum-passed, added-all}

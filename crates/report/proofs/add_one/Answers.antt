@@ -1,6 +1,5 @@
 -- One write.
 use mathlib.Core.Path.{refl}
-use borrow.Author.Rules.{rules}
 use Rattle.report.specs.Code.{one_more}
 use Rattle.report.proofs.add_one.Goals as goal
 

@@ -1,16 +1,11 @@
 -- What is left to count gives the report that the whole list gives.
-use mathlib.Core.Path.{◌≡◌, refl, sym, ap, ◌∙◌}
+use mathlib.Core.Path.{◌≡◌}
 use mathlib.Core.Bool.{true}
-use mathlib.Core.List.{List, [], ◌∷◌}
-use Prim.Native.Nat.{ℕ, ◌+◌, ◌-◌, ◌≤◌}
-use native.Mathlib.Omega.{arith}
-use borrow.Author.Rules.{rules}
-use lib.ListN.{length, get_or, drop}
+use Prim.Native.Nat.{◌-◌, ◌≤◌}
+use lib.ListN.{length, drop}
 use Rattle.octets.specs.Lists.{every}
-use Rattle.report.specs.Code.{told_by, told_of}
-use Rattle.report.specs.TheReport.{with, hour_right, held}
-use Rattle.report.proofs.Loops.{next, none_left}
-use Rattle.report.proofs.Counting.{length-with, with_none, with-with, first-right, rest-right, first-held}
+use Rattle.report.specs.Code.{told_by}
+use Rattle.report.specs.TheReport.{with, hour_right}
 use Rattle.report.proofs.count_all.Given as goal
 
 abbrev pub invariant-loop-i : goal.invariant-loop-i

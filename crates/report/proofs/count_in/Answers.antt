@@ -3,8 +3,6 @@ use mathlib.Core.Path.{◌≡◌, sym, ap, ◌∙◌}
 use mathlib.Core.List.{List}
 use mathlib.Core.Bool.{true, false}
 use Prim.Native.Nat.{ℕ}
-use borrow.Author.Tests.{not-true, not-false}
-use borrow.Author.Rules.{rules}
 use Rattle.octets.specs.Lists.{every}
 use Rattle.report.specs.Code.{leaves, told_by}
 use Rattle.report.specs.TheReport.{held, with, hour_right}

@@ -1,10 +1,4 @@
-use mathlib.Core.Path.{◌≡◌}
-use Prim.Native.Nat.{◌+◌, ◌-◌, ◌≤◌}
 use native.Mathlib.Omega.{arith}
-use borrow.Author.Rules.{rules}
-use lib.ListN.{length, drop}
-use Rattle.report.specs.TheReport.{in_column, how_many}
-use Rattle.report.specs.Code.{told_by}
 use Rattle.report.proofs.Loops.{count-step, count-end}
 use Rattle.report.proofs.count_of.Goals as goal
 

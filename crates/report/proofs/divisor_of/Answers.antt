@@ -1,8 +1,6 @@
 use mathlib.Core.Path.{◌≡◌, sym, ◌∙◌}
 use native.Mathlib.Nat.{mod-lt}
 use native.Mathlib.Omega.{arith}
-use borrow.Author.Rules.{rules}
-use Rattle.report.specs.Rates.{divisor}
 use Rattle.report.proofs.Divisors.{divisor-end, divisor-step}
 use Rattle.report.proofs.divisor_of.Goals as goal
 

@@ -1,10 +1,6 @@
 -- Euclid: the divisor stays the same, and the second number falls.
-use mathlib.Core.Path.{◌≡◌, sym, ◌∙◌}
-use native.Mathlib.Nat.{mod-lt}
-use native.Mathlib.Omega.{arith}
-use borrow.Author.Rules.{rules}
+use mathlib.Core.Path.{◌≡◌}
 use Rattle.report.specs.Rates.{divisor}
-use Rattle.report.proofs.Divisors.{divisor-end, divisor-step}
 use Rattle.report.proofs.divisor_of.Given as goal
 
 abbrev pub invariant-loop-b : goal.invariant-loop-b

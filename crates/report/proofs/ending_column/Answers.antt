@@ -1,7 +1,6 @@
 -- By the test.
 use mathlib.Core.Path.{sym, ◌∙◌}
 use native.Mathlib.Omega.{arith}
-use borrow.Author.Rules.{rules}
 use Rattle.octets.specs.Choice.{pick}
 use Rattle.report.proofs.ending_column.Goals as goal
 

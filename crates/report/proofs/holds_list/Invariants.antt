@@ -1,15 +1,7 @@
 -- The columns passed have a year that 64 bits hold.
-use mathlib.Core.Path.{sym, ◌∙◌}
 use Prim.Native.Nat.{ℕ, ◌-◌, ◌<◌, ◌≤◌}
-use native.Mathlib.Omega.{arith}
-use borrow.Author.Count.{below_more}
-use borrow.Author.Rules.{rules}
-use borrow.Author.Tests.{not-true, not-false}
 use Rattle.report.specs.Code.{told_by}
 use Rattle.report.specs.TheReport.{year, with}
-use Rattle.report.proofs.Counting.{year-with}
-use Rattle.report.proofs.Loops.{was-in, was-past}
-use Rattle.report.proofs.Tables.{held-if, held-not}
 use Rattle.report.proofs.holds_list.Given as goal
 
 abbrev pub invariant-loop-k : goal.invariant-loop-k

@@ -1,11 +1,5 @@
-use mathlib.Core.Path.{◌≡◌, sym, ◌∙◌}
-use Prim.Native.Nat.{◌-◌, ◌≤◌}
+use mathlib.Core.Path.{sym, ◌∙◌}
 use native.Mathlib.Omega.{arith}
-use borrow.Author.Rules.{rules}
-use lib.ListN.{length, drop}
-use Rattle.octets.specs.Lists.{every}
-use Rattle.report.specs.TheReport.{hour_right}
-use Rattle.report.specs.Code.{told_by}
 use Rattle.report.proofs.Loops.{hours-step, hours-wrong, hours-end}
 use Rattle.report.proofs.hours_right.Goals as goal
 

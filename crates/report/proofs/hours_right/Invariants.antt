@@ -1,13 +1,10 @@
 -- What is left has the same answer as the whole.
-use mathlib.Core.Path.{◌≡◌, sym, ◌∙◌}
+use mathlib.Core.Path.{◌≡◌}
 use Prim.Native.Nat.{◌-◌, ◌≤◌}
-use native.Mathlib.Omega.{arith}
-use borrow.Author.Rules.{rules}
 use lib.ListN.{length, drop}
 use Rattle.octets.specs.Lists.{every}
 use Rattle.report.specs.TheReport.{hour_right}
 use Rattle.report.specs.Code.{told_by}
-use Rattle.report.proofs.Loops.{hours-step, hours-wrong, hours-end}
 use Rattle.report.proofs.hours_right.Given as goal
 
 abbrev pub invariant-loop-i : goal.invariant-loop-i

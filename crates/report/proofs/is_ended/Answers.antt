@@ -2,7 +2,6 @@
 use mathlib.Core.Path.{◌≡◌}
 use mathlib.Core.Bool.{true, false}
 use borrow.Author.Tests.{eq-eqb, ne_eqb}
-use borrow.Author.Rules.{rules}
 use lib.ListN.{get_or}
 use lib.Dec.{eqb}
 use Rattle.report.specs.Code.{told_of}
@@ -11,17 +10,17 @@ use Rattle.report.proofs.is_ended.Goals as goal
 
 pub returns-then-t-ne2 : goal.returns-then-t-ne2
 unfolding ended told_of
-returns-then-t-ne2 c = let e : eqb (get_or c.args.t1 1 0) 2 ≡ false = ne_eqb _ 2 c.if-t-ne2.true in
+returns-then-t-ne2 c = let e : eqb (get_or c.args.t 1 0) 2 ≡ false = ne_eqb _ 2 c.if-t-ne2.true in
     rw e
 
 pub returns-then-t-ne1 : goal.returns-then-t-ne1
 unfolding ended told_of
-returns-then-t-ne1 c = let d : eqb (get_or c.args.t1 1 0) 2 ≡ true = eq-eqb _ 2 c.if-t-ne2.false in
-    let e : eqb (get_or c.args.t1 3 0) 1 ≡ false = ne_eqb _ 1 c.if-t-ne1.true in
+returns-then-t-ne1 c = let d : eqb (get_or c.args.t 1 0) 2 ≡ true = eq-eqb _ 2 c.if-t-ne2.false in
+    let e : eqb (get_or c.args.t 3 0) 1 ≡ false = ne_eqb _ 1 c.if-t-ne1.true in
     rw (d, e)
 
 pub returns : goal.returns
 unfolding ended told_of
-returns c = let d : eqb (get_or c.args.t1 1 0) 2 ≡ true = eq-eqb _ 2 c.if-t-ne2.false in
-    let e : eqb (get_or c.args.t1 3 0) 1 ≡ true = eq-eqb _ 1 c.if-t-ne1.false in
+returns c = let d : eqb (get_or c.args.t 1 0) 2 ≡ true = eq-eqb _ 2 c.if-t-ne2.false in
+    let e : eqb (get_or c.args.t 3 0) 1 ≡ true = eq-eqb _ 1 c.if-t-ne1.false in
     rw (d, e)

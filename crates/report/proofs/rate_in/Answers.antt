@@ -3,7 +3,6 @@ use mathlib.Core.Path.{◌≡◌, sym, ap, ◌∙◌}
 use mathlib.Core.Bool.{true}
 use Prim.Native.Nat.{ℕ, ◌+◌}
 use native.Mathlib.Omega.{arith}
-use borrow.Author.Rules.{rules}
 use Rattle.report.specs.TheReport.{held, year}
 use Rattle.report.specs.declared.Year.TheVariants.{Sum, Passed}
 use Rattle.report.specs.Code.{summed}

@@ -1,10 +1,10 @@
 use mathlib.Core.Path.{◌≡◌, ap, ◌∙◌}
-use Prim.Native.Nat.{ℕ, ◌+◌, ◌-◌, ◌<◌, ◌≤◌}
+use Prim.Native.Nat.{ℕ, ◌+◌, ◌≤◌}
 use native.Mathlib.Omega.{arith}
 use borrow.Author.Rules.{rules}
 use Rattle.report.specs.TheReport.{year}
 use Rattle.report.specs.Code.{summed}
-use Rattle.report.proofs.Loops.{from_hour, year-start, year-step, year-end, is_sum, is-passed}
+use Rattle.report.proofs.Loops.{year-start, year-step, year-end, is_sum, is-passed}
 use Rattle.report.proofs.year_and.Goals as goal
 
 pub loop-hour-init : goal.loop-hour-init

@@ -1,11 +1,8 @@
 -- What is summed so far and the hours that are left are the whole.
-use mathlib.Core.Path.{◌≡◌, ap, ◌∙◌}
-use Prim.Native.Nat.{ℕ, ◌+◌, ◌-◌, ◌<◌, ◌≤◌}
-use native.Mathlib.Omega.{arith}
-use borrow.Author.Rules.{rules}
+use mathlib.Core.Path.{◌≡◌}
+use Prim.Native.Nat.{◌+◌, ◌-◌, ◌<◌, ◌≤◌}
 use Rattle.report.specs.TheReport.{year}
-use Rattle.report.specs.Code.{summed}
-use Rattle.report.proofs.Loops.{from_hour, year-start, year-step, year-end, is_sum, is-passed}
+use Rattle.report.proofs.Loops.{from_hour}
 use Rattle.report.proofs.year_and.Given as goal
 
 abbrev pub invariant-loop-hour : goal.invariant-loop-hour

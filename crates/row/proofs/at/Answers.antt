@@ -4,7 +4,6 @@ use Prim.Native.Nat.{ℕ, ◌*◌}
 use native.Mathlib.Omega.{arith}
 use Rattle.table.proofs.Rows.{lent_row}
 use Rattle.table.specs.Answers.{lent}
-use borrow.Author.Rules.{rules}
 use Rattle.row.proofs.at.Goals as goal
 
 pub overflow_mul-from : goal.overflow_mul-from

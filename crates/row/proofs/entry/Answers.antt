@@ -2,7 +2,6 @@
 use Rattle.table.proofs.Rows.{lent-part}
 use Prim.Native.Nat.{◌*◌}
 use mathlib.Core.Path.{refl}
-use borrow.Author.Rules.{rules}
 use Rattle.row.proofs.entry.Goals as goal
 
 pub returns : goal.returns

@@ -2,7 +2,6 @@
 use mathlib.Core.Path.{sym}
 use native.Mathlib.Omega.{arith}
 use Rattle.row.proofs.Places.{head_byte}
-use borrow.Author.Rules.{rules}
 use Rattle.row.proofs.entry_count.Goals as goal
 
 pub returns : goal.returns

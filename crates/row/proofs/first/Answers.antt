@@ -1,6 +1,5 @@
 -- The part lent is the first block.
 use Rattle.row.proofs.Places.{first-lent}
-use borrow.Author.Rules.{rules}
 use Rattle.row.proofs.first.Goals as goal
 
 pub returns : goal.returns

@@ -3,7 +3,6 @@ use mathlib.Core.Path.{sym}
 use native.Mathlib.Omega.{arith}
 use Rattle.row.proofs.Places.{entry-byte}
 use Rattle.table.specs.TheTable.{read_entry}
-use borrow.Author.Rules.{rules}
 use Rattle.row.proofs.flags.Goals as goal
 
 pub returns : goal.returns

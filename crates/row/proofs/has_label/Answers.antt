@@ -1,8 +1,6 @@
 -- The first byte of the entry, tested from below, then from above.
 use native.Mathlib.Omega.{arith}
-use Rattle.octets.specs.Choice.{within}
 use Rattle.table.proofs.Tests.{low-enough, too-low}
-use borrow.Author.Rules.{rules}
 use Rattle.row.proofs.has_label.Goals as goal
 
 pub returns-then-n-lt1 : goal.returns-then-n-lt1

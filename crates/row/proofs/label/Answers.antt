@@ -2,7 +2,6 @@
 use native.Mathlib.Omega.{arith}
 use Rattle.row.proofs.Places.{label-lent}
 use Rattle.table.specs.TheTable.{read_entry}
-use borrow.Author.Rules.{rules}
 use Rattle.row.proofs.label.Goals as goal
 
 pub returns : goal.returns

@@ -2,7 +2,6 @@
 use mathlib.Core.Path.{sym, ◌∙◌}
 use native.Mathlib.Omega.{arith}
 use Rattle.row.proofs.Places.{line-byte}
-use borrow.Author.Rules.{rules}
 use Rattle.row.proofs.line_place.Goals as goal
 
 pub returns : goal.returns

@@ -2,7 +2,6 @@
 use mathlib.Core.Path.{sym}
 use native.Mathlib.Omega.{arith}
 use Rattle.row.proofs.Places.{head-part}
-use borrow.Author.Rules.{rules}
 use Rattle.row.proofs.line_room.Goals as goal
 
 pub returns : goal.returns

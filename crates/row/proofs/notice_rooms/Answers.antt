@@ -5,7 +5,6 @@ use native.Mathlib.Omega.{arith}
 use Rattle.octets.specs.Texts.{part}
 use Rattle.row.proofs.Places.{block-part}
 use Rattle.table.proofs.Rows.{lent-part}
-use borrow.Author.Rules.{rules}
 use Rattle.row.proofs.notice_rooms.Goals as goal
 
 pub returns : goal.returns

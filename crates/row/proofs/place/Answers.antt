@@ -1,6 +1,5 @@
 -- The part lent is the place.
 use Rattle.row.proofs.Places.{place-lent, stride-is}
-use borrow.Author.Rules.{rules}
 use Rattle.row.proofs.place.Goals as goal
 
 pub returns : goal.returns

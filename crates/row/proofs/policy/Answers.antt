@@ -3,7 +3,6 @@ use mathlib.Core.Path.{sym, ◌∙◌}
 use native.Mathlib.Omega.{arith}
 use Rattle.row.proofs.Places.{byte_at, text-lent}
 use Rattle.table.specs.TheTable.{access_at, read_access}
-use borrow.Author.Rules.{rules}
 use Rattle.row.proofs.policy.Goals as goal
 
 pub returns : goal.returns

@@ -2,7 +2,6 @@
 use mathlib.Core.Path.{◌∙◌}
 use native.Mathlib.Omega.{arith}
 use Rattle.row.proofs.Places.{byte_at}
-use borrow.Author.Rules.{rules}
 use Rattle.row.proofs.policy_length.Goals as goal
 
 pub returns : goal.returns

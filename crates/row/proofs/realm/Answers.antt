@@ -1,7 +1,6 @@
 -- The part lent is the text from byte 8 on, of the length in byte 1.
 use Rattle.row.proofs.Places.{none_lent}
 use Rattle.table.proofs.Rows.{lent-part}
-use borrow.Author.Rules.{rules}
 use Rattle.row.proofs.realm.Goals as goal
 
 pub returns-then-c-eq0 : goal.returns-then-c-eq0

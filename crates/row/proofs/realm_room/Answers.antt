@@ -1,6 +1,5 @@
 -- Bytes 8 to 135 of the block.
 use mathlib.Core.Path.{refl}
-use borrow.Author.Rules.{rules}
 use Rattle.row.proofs.realm_room.Goals as goal
 
 pub returns : goal.returns

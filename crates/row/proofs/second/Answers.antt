@@ -1,6 +1,5 @@
 -- The part lent is what the place has behind its first block.
 use Rattle.row.proofs.Places.{second-lent, stride-is}
-use borrow.Author.Rules.{rules}
 use Rattle.row.proofs.second.Goals as goal
 
 pub returns : goal.returns

@@ -1,7 +1,6 @@
 -- The part lent is the text from byte 136 on, of the length in byte 3.
 use Rattle.row.proofs.Places.{none_lent}
 use Rattle.table.proofs.Rows.{lent-part}
-use borrow.Author.Rules.{rules}
 use Rattle.row.proofs.second_policy.Goals as goal
 
 pub returns-then-c-eq0 : goal.returns-then-c-eq0

@@ -2,7 +2,6 @@
 use native.Mathlib.Omega.{arith}
 use Rattle.row.proofs.Places.{text-lent}
 use Rattle.table.specs.TheTable.{access_at, read_access}
-use borrow.Author.Rules.{rules}
 use Rattle.row.proofs.session.Goals as goal
 
 pub returns : goal.returns

@@ -1,7 +1,6 @@
 -- The places share what is behind block 0, so that each has the length of the form.
 use native.Mathlib.Omega.{arith}
 use Rattle.row.proofs.Places.{place-within, row-sizes, start_is}
-use borrow.Author.Rules.{rules}
 use Rattle.row.proofs.start.Goals as goal
 
 pub overflow_sub-stride : goal.overflow_sub-stride

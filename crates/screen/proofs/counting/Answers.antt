@@ -1,5 +1,4 @@
 -- One more, where the state is connected.
-use borrow.Author.Rules.{rules}
 use borrow.Author.Tests.{eq-eqb, ne_eqb}
 use native.Mathlib.Nat.{add-zero}
 use Rattle.octets.specs.Choice.{pick}

@@ -1,7 +1,6 @@
 -- A line of the table, state by state.
 use Rattle.screen.specs.TheBoard.{line}
 use Rattle.screen.specs.Code.{state_said, move_said}
-use borrow.Author.Rules.{rules}
 use Rattle.screen.proofs.if_asked.Goals as goal
 
 pub returns-in-Off : goal.returns-in-Off

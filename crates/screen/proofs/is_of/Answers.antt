@@ -2,7 +2,6 @@
 use mathlib.Core.Path.{ap, ◌∙◌}
 use Rattle.octets.specs.Texts.{same}
 use Rattle.octets.proofs.Lists.{same-comm}
-use borrow.Author.Rules.{rules}
 use Rattle.screen.proofs.is_of.Goals as goal
 
 pub returns : goal.returns

@@ -2,7 +2,6 @@
 use Rattle.screen.specs.TheBoard.{off, cut, stays, to, after}
 use Rattle.screen.specs.Code.{event_said, state_said, move_said}
 use Rattle.screen.proofs.Table.{line_same}
-use borrow.Author.Rules.{rules}
 use Rattle.screen.proofs.move_after.Goals as goal
 
 pub returns-in-Nothing : goal.returns-in-Nothing

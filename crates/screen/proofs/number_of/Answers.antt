@@ -1,7 +1,6 @@
 -- Each state has its number.
 use Rattle.screen.specs.TheBoard.{number_of}
 use Rattle.screen.specs.Code.{state_said}
-use borrow.Author.Rules.{rules}
 use Rattle.screen.proofs.number_of.Goals as goal
 
 pub returns-in-Off : goal.returns-in-Off

@@ -1,7 +1,6 @@
 -- Only a connected screen has a place.
 use Rattle.screen.specs.TheBoard.{place_in}
 use Rattle.screen.specs.Code.{state_said}
-use borrow.Author.Rules.{rules}
 use Rattle.screen.proofs.place_of.Goals as goal
 
 pub returns-in-Off : goal.returns-in-Off

@@ -3,10 +3,8 @@ use native.Mathlib.Omega.{arith}
 use mathlib.Core.Path.{◌≡◌, sym, ◌∙◌}
 use mathlib.Core.Bool.{true, false}
 use Rattle.screen.proofs.Results.{says-ends, says-not-ended, says-else, says-fails, says-low, says-high, says-opens}
-use Rattle.screen.proofs.Feeding.{not-true, not-false}
 use Rattle.screen.specs.Code.{event_said}
 use Rattle.screen.specs.TheBoard.{success}
-use borrow.Author.Rules.{rules}
 use Rattle.screen.proofs.result_says.Goals as goal
 
 pub returns-then-good : goal.returns-then-good
@@ -44,7 +42,7 @@ returns-then-not-good c =
     let is-success-was = c.is_success-good in
     let test4 = c.if-not-good in
     let test3 = c.if-which-ne0 in
-    let g : success given.code given.kind ≡ false = sym is-success-was.ensures ∙ not-true test4.true in
+    let g : success given.code given.kind ≡ false = sym is-success-was.ensures ∙ test4.true in
     sym (says-fails given.which given.code given.kind given.place test3.false g)
 
 pub returns-then-place-lt1 : goal.returns-then-place-lt1
@@ -55,7 +53,7 @@ returns-then-place-lt1 c =
     let test4 = c.if-not-good in
     let test3 = c.if-which-ne0 in
     let test5 = c.if-place-lt1 in
-    let g : success given.code given.kind ≡ true = sym is-success-was.ensures ∙ not-false test4.false in
+    let g : success given.code given.kind ≡ true = sym is-success-was.ensures ∙ test4.false in
     sym (says-low given.which given.code given.kind given.place test3.false g (omega (arith, test5.true)))
 
 pub returns-then-place-gt8 : goal.returns-then-place-gt8
@@ -66,7 +64,7 @@ returns-then-place-gt8 c =
     let test4 = c.if-not-good in
     let test3 = c.if-which-ne0 in
     let test6 = c.if-place-gt8 in
-    let g : success given.code given.kind ≡ true = sym is-success-was.ensures ∙ not-false test4.false in
+    let g : success given.code given.kind ≡ true = sym is-success-was.ensures ∙ test4.false in
     sym (says-high given.which given.code given.kind given.place test3.false g (omega (arith, test6.true)))
 
 pub returns : goal.returns
@@ -78,5 +76,5 @@ returns c =
     let test3 = c.if-which-ne0 in
     let test5 = c.if-place-lt1 in
     let test6 = c.if-place-gt8 in
-    let g : success given.code given.kind ≡ true = sym is-success-was.ensures ∙ not-false test4.false in
+    let g : success given.code given.kind ≡ true = sym is-success-was.ensures ∙ test4.false in
     sym (says-opens given.which given.code given.kind given.place test3.false g (omega (arith, test5.false)) (omega (arith, test6.false)))

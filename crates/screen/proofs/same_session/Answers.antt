@@ -7,8 +7,6 @@ use lib.ListN.{length, take, drop}
 use Rattle.octets.specs.Texts.{same}
 use Rattle.octets.proofs.Lists.{by-test, same-eq, same_refl}
 use Rattle.octets.proofs.Texts.{same-lengths}
-use Rattle.screen.proofs.Feeding.{not-true}
-use borrow.Author.Rules.{rules}
 use Rattle.screen.proofs.same_session.Goals as goal
 
 parts-differ : (a b : List ℕ) (part : List ℕ → List ℕ) → same (part a) (part b) ≡ false → same a b ≡ false
@@ -28,5 +26,5 @@ returns-then-not-same_bytes c =
     let a = c.args.a.now in
     let b = c.args.b.now in
     let k = length a - 16 in
-    let apart : same (take (length a - k) (drop k a)) (take (length a - k) (drop k b)) ≡ false = sym ends.ensures ∙ not-true c.if-not-same_bytes.true in
+    let apart : same (take (length a - k) (drop k a)) (take (length a - k) (drop k b)) ≡ false = sym ends.ensures ∙ c.if-not-same_bytes.true in
     sym (parts-differ a b (λ u. take (length a - k) (drop k u)) apart)

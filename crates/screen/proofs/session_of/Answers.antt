@@ -1,6 +1,5 @@
 -- As many bytes of the room as the length says.
 use native.Mathlib.Nat.{sub-zero}
-use borrow.Author.Rules.{rules}
 use Rattle.screen.proofs.session_of.Goals as goal
 
 pub returns : goal.returns

@@ -2,7 +2,6 @@
 use mathlib.Core.Path.{◌∙◌}
 use Rattle.screen.specs.Code.{event_said}
 use Rattle.screen.proofs.Table.{shown-stays, shown-moves}
-use borrow.Author.Rules.{rules}
 use Rattle.screen.proofs.shown_after.Goals as goal
 
 pub returns-in_default : goal.returns-in_default

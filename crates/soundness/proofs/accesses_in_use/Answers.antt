@@ -3,7 +3,6 @@ use mathlib.Core.Path.{◌∙◌, ap}
 use native.Mathlib.Omega.{arith}
 use lib.Count.{ones}
 use Rattle.soundness.proofs.Line.{line-most, ones-line}
-use borrow.Author.Rules.{rules}
 use Rattle.soundness.proofs.accesses_in_use.Goals as goal
 
 pub overflow_cast-result : goal.overflow_cast-result

@@ -1,17 +1,15 @@
 use mathlib.Core.Path.{◌∙◌, ◌≡◌}
-use mathlib.Core.Logic.{⊎_elim}
-use Prim.Native.Nat.{◌+◌, ◌-◌, ◌<◌, ◌≤◌}
+use Prim.Native.Nat.{◌<◌}
 use native.Mathlib.Omega.{arith}
-use lib.ListN.{drop, get_or, length}
+use lib.ListN.{get_or, length}
 use lib.Dec.{eqb}
 use borrow.Author.Tests.{eq-eqb, ne_eqb}
-use Rattle.octets.specs.Lists.{keep}
 use Rattle.table.specs.TheTable.{order_line}
 use Rattle.soundness.proofs.Line.{line_low, line-most, place-high}
 use Rattle.soundness.proofs.Accesses.{at_entry, is_at, keep-hit, keep-miss, keep-over, on_line}
 use Rattle.row.proofs.Entries.{row-least}
-use borrow.Author.Rules.{rules}
 use Rattle.soundness.proofs.accesses_on.Goals as goal
+use Rattle.soundness.proofs.accesses_on.Goals.{then-long-e, else-long-e}
 
 pub accesses_in_use-n-requires : goal.accesses_in_use-n-requires
 accesses_in_use-n-requires c =
@@ -45,10 +43,10 @@ loop-i-preserved c =
     let test1 = c.if-long-e in
     let inside : loop-was.i < length (order_line given.r.now) = omega arith in
     let this : is_at given.r.now given.e (get_or (order_line given.r.now) loop-was.i 0) ≡ eqb long-was.result given.e = at_entry given.r.now loop-was.i line-place-was.result long-was.result given.e inside line-place-was.ensures.0 (long-was.ensures.0 ∙ entry-of-was.ensures) in
-    ⊎_elim
-    (λ w. let hit = keep-hit (is_at given.r.now given.e) (order_line given.r.now) loop-was.i inside (this ∙ eq-eqb long-was.result given.e w.0.taken) in (omega arith, omega arith, omega arith))
-    (λ w. let miss = keep-miss (is_at given.r.now given.e) (order_line given.r.now) loop-was.i inside (this ∙ ne_eqb long-was.result given.e w.0.left) in (omega arith, omega arith, omega arith))
-    test1.branch
+    elim test1.branch [
+      | then-long-e w ↦ let hit = keep-hit (is_at given.r.now given.e) (order_line given.r.now) loop-was.i inside (this ∙ eq-eqb long-was.result given.e w.if-long-e.true) in (omega arith, omega arith, omega arith)
+      | else-long-e w ↦ let miss = keep-miss (is_at given.r.now given.e) (order_line given.r.now) loop-was.i inside (this ∙ ne_eqb long-was.result given.e w.if-long-e.false) in (omega arith, omega arith, omega arith)
+    ]
 
 pub returns : goal.returns
 returns c =

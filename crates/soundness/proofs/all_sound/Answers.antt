@@ -10,7 +10,6 @@ use Rattle.table.specs.TheTable.{places}
 use Rattle.row.proofs.Entries.{head-size, row-least}
 use Rattle.table.proofs.Tests.{fails, passes_on}
 use Rattle.soundness.proofs.Tested.{few-entries, sound-by, tested}
-use borrow.Author.Rules.{rules}
 use Rattle.soundness.proofs.all_sound.Goals as goal
 
 pub head_sound-requires : goal.head_sound-requires

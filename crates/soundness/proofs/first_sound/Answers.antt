@@ -11,7 +11,6 @@ use Rattle.soundness.proofs.Line.{used-by}
 use Rattle.table.proofs.Form.{length-first-of, sized}
 use Rattle.table.specs.Soundness.{in_use}
 use Rattle.table.specs.TheTable.{first_block, place}
-use borrow.Author.Rules.{rules}
 use Rattle.soundness.proofs.first_sound.Goals as goal
 
 pub used_bits-requires : goal.used_bits-requires

@@ -1,13 +1,9 @@
 -- The invariant: the test of what is left has the answer of the whole test: `places-turn` of Line.
-use mathlib.Core.Path.{◌∙◌, ◌≡◌, sym}
+use mathlib.Core.Path.{◌≡◌}
 use Prim.Native.Nat.{◌-◌, ◌≤◌}
-use native.Mathlib.Omega.{arith}
-use borrow.Author.Rules.{rules}
 use Rattle.octets.specs.Lists.{counted, every}
 use Rattle.soundness.specs.Blocks.{first_sound}
 use Rattle.table.specs.TheTable.{places}
-use Rattle.table.proofs.Tests.{fails, passes_on}
-use Rattle.soundness.proofs.Line.{places-all, places-end, places-turn}
 use Rattle.soundness.proofs.firsts_sound.Given as goal
 
 abbrev pub invariant-loop-k : goal.invariant-loop-k

@@ -11,7 +11,6 @@ use Rattle.table.specs.Soundness.{entries_form, head_form, labels, limits, same_
 use Rattle.table.specs.TheTable.{head, read_entries}
 use Rattle.table.proofs.Tests.{fails, passes_on}
 use Rattle.soundness.proofs.Tested.{head-count, head-sound-is}
-use borrow.Author.Rules.{rules}
 use Rattle.soundness.proofs.head_sound.Goals as goal
 
 pub head_form-requires : goal.head_form-requires

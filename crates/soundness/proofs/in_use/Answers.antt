@@ -1,6 +1,5 @@
 -- The lowest bit of what the shift leaves: `low_bit` of Bits.
 use Prim.Native.Nat.{◌-◌, ◌/◌, ◌^◌}
-use borrow.Author.Rules.{rules}
 use Rattle.soundness.proofs.Bits.{low_bit}
 use Rattle.soundness.proofs.in_use.Goals as goal
 

@@ -6,10 +6,8 @@ use mathlib.Core.List.{List}
 use lib.ListN.{get_or, length, take}
 use lib.Dec.{eqb}
 use Rattle.octets.specs.Lists.{distinct, every, up_to0}
-use Rattle.octets.specs.Choice.{within}
 use Rattle.table.specs.TheTable.{order_line, used_bits}
 use Rattle.soundness.proofs.Line.{line_at, line-end, line-high, line_low, line-most, line-turn, line-twice, used-bit, used-none}
-use borrow.Author.Rules.{rules}
 use Rattle.soundness.proofs.line_exact.Goals as goal
 
 pub loop-i-init : goal.loop-i-init

@@ -1,16 +1,12 @@
 -- The places passed are 1 to 8, all differ, and `used` has their bits: `line-turn` of Line.
-use mathlib.Core.Path.{◌∙◌, ◌≡◌, ap, refl, sym}
+use mathlib.Core.Path.{◌≡◌}
 use mathlib.Core.Bool.{true}
-use Prim.Native.Nat.{◌%◌, ◌-◌, ◌/◌, ◌^◌, ◌≤◌, ℕ}
-use native.Mathlib.Omega.{arith}
-use mathlib.Core.List.{List}
-use lib.ListN.{get_or, length, take}
+use Prim.Native.Nat.{◌-◌, ◌≤◌}
+use lib.ListN.{length, take}
 use lib.Dec.{eqb}
-use Rattle.octets.specs.Lists.{distinct, every, up_to0}
+use Rattle.octets.specs.Lists.{distinct, every}
 use Rattle.octets.specs.Choice.{within}
 use Rattle.table.specs.TheTable.{order_line, used_bits}
-use Rattle.soundness.proofs.Line.{line_at, line-end, line-high, line_low, line-most, line-turn, line-twice, used-bit, used-none}
-use borrow.Author.Rules.{rules}
 use Rattle.soundness.proofs.line_exact.Given as goal
 
 abbrev pub invariant-loop-i : goal.invariant-loop-i

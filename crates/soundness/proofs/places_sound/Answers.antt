@@ -8,7 +8,6 @@ use Rattle.soundness.specs.Blocks.{first_sound}
 use Rattle.soundness.proofs.Forms.{first_out, one_block, places-cut, two_blocks}
 use Rattle.table.proofs.Tests.{fails, passes_on}
 use Rattle.table.specs.TheTable.{form_of, places}
-use borrow.Author.Rules.{rules}
 use Rattle.soundness.proofs.places_sound.Goals as goal
 
 pub returns-then-not-firsts_sound : goal.returns-then-not-firsts_sound

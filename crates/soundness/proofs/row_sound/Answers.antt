@@ -1,7 +1,6 @@
 -- The tests say it; that there are at most four entries adds nothing: `few-said` and `many-unsound`.
 use mathlib.Core.Path.{◌≡◌, sym}
 use mathlib.Core.Bool.{true}
-use borrow.Author.Rules.{rules}
 use Rattle.row.proofs.Entries.{row-least}
 use Rattle.table.proofs.Tests.{fails, passes_on}
 use Rattle.table.specs.Soundness.{sound}

@@ -12,7 +12,6 @@ use Rattle.soundness.proofs.Line.{used-by}
 use Rattle.table.proofs.Form.{length-first-of, length-second-of, sized}
 use Rattle.table.specs.Soundness.{in_use}
 use Rattle.table.specs.TheTable.{first_block, place, second_block}
-use borrow.Author.Rules.{rules}
 use Rattle.soundness.proofs.second_sound.Goals as goal
 
 pub first-block-requires : goal.first-block-requires

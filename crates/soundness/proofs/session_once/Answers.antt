@@ -1,10 +1,9 @@
 use mathlib.Core.Path.{◌∙◌, ◌≡◌, ap, sym}
 use mathlib.Core.Bool.{not}
 use mathlib.Core.List.{List, []}
-use Prim.Native.Nat.{◌+◌, ◌-◌, ◌<◌, ◌≤◌, ℕ}
+use Prim.Native.Nat.{ℕ}
 use native.Mathlib.Omega.{arith}
-use lib.ListN.{drop, get_or}
-use Rattle.octets.specs.Lists.{every}
+use lib.ListN.{get_or}
 use Rattle.octets.specs.Texts.{same}
 use Rattle.table.specs.Soundness.{sessions}
 use Rattle.table.specs.TheTable.{read_row}
@@ -12,7 +11,6 @@ use Rattle.table.proofs.Tests.{every-end, every-on-true, every-out}
 use Rattle.soundness.proofs.Line.{line_low, line-most, place-high}
 use Rattle.soundness.proofs.Accesses.{length-sessions, session-at}
 use Rattle.row.proofs.Entries.{row-least}
-use borrow.Author.Rules.{rules}
 use Rattle.soundness.proofs.session_once.Goals as goal
 
 pub line_place-requires : goal.line_place-requires

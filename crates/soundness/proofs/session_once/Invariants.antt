@@ -1,19 +1,13 @@
 -- The invariant: the test of what is left has the answer of the whole test; the texts compared are the Session-Ids: `session-at` of Accesses.
-use mathlib.Core.Path.{◌∙◌, ◌≡◌, ap, sym}
+use mathlib.Core.Path.{◌≡◌}
 use mathlib.Core.Bool.{not}
-use mathlib.Core.List.{List, []}
-use Prim.Native.Nat.{◌+◌, ◌-◌, ◌<◌, ◌≤◌, ℕ}
-use native.Mathlib.Omega.{arith}
+use mathlib.Core.List.{[]}
+use Prim.Native.Nat.{◌+◌, ◌-◌, ◌<◌, ◌≤◌}
 use lib.ListN.{drop, get_or}
 use Rattle.octets.specs.Lists.{every}
 use Rattle.octets.specs.Texts.{same}
 use Rattle.table.specs.Soundness.{sessions}
 use Rattle.table.specs.TheTable.{read_row}
-use Rattle.table.proofs.Tests.{every-end, every-on-true, every-out}
-use Rattle.soundness.proofs.Line.{line_low, line-most, place-high}
-use Rattle.soundness.proofs.Accesses.{length-sessions, session-at}
-use Rattle.row.proofs.Entries.{row-least}
-use borrow.Author.Rules.{rules}
 use Rattle.soundness.proofs.session_once.Given as goal
 
 abbrev pub invariant-loop-j : goal.invariant-loop-j

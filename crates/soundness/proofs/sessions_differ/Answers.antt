@@ -1,12 +1,11 @@
 use mathlib.Core.Path.{◌∙◌, ◌≡◌, sym}
 use mathlib.Core.Bool.{false, not, true}
 use mathlib.Core.List.{List, []}
-use Prim.Native.Nat.{◌+◌, ◌-◌, ◌≤◌, ℕ}
+use Prim.Native.Nat.{◌+◌, ℕ}
 use native.Mathlib.Omega.{arith}
 use lib.ListN.{drop, get_or}
 use Rattle.row.proofs.Entries.{row-least}
-use borrow.Author.Rules.{rules}
-use Rattle.octets.specs.Lists.{distinct, every}
+use Rattle.octets.specs.Lists.{every}
 use Rattle.octets.specs.Texts.{same}
 use Rattle.table.specs.Soundness.{sessions}
 use Rattle.table.specs.TheTable.{read_row}

@@ -1,9 +1,7 @@
 use mathlib.Core.Path.{◌∙◌, ◌≡◌, ap}
-use Prim.Native.Nat.{◌*◌, ◌+◌, ◌-◌, ◌≤◌, ℕ}
+use Prim.Native.Nat.{◌*◌, ◌+◌, ℕ}
 use native.Mathlib.Omega.{arith}
-use lib.ListN.{drop, get_or}
-use borrow.Author.Rules.{rules}
-use Rattle.table.specs.Columns.{column_first, column_before}
+use lib.ListN.{get_or}
 use Rattle.table.proofs.Columns.{column-end, column-end2, column-turn, column-turn2}
 use Rattle.table.proofs.column.Goals as goal
 

@@ -1,11 +1,8 @@
 -- The invariant, of each of the two sums: the sum so far and that of the rest of the column are that of the column: `column-turn` and its companions of Columns.
-use mathlib.Core.Path.{◌∙◌, ◌≡◌, ap}
-use Prim.Native.Nat.{◌*◌, ◌+◌, ◌-◌, ◌≤◌, ℕ}
-use native.Mathlib.Omega.{arith}
-use lib.ListN.{drop, get_or}
-use borrow.Author.Rules.{rules}
+use mathlib.Core.Path.{◌≡◌}
+use Prim.Native.Nat.{◌*◌, ◌+◌, ◌-◌, ◌≤◌}
+use lib.ListN.{drop}
 use Rattle.table.specs.Columns.{column_first, column_before}
-use Rattle.table.proofs.Columns.{column-end, column-end2, column-turn, column-turn2}
 use Rattle.table.proofs.column.Given as goal
 
 abbrev pub invariant-loop-k : goal.invariant-loop-k

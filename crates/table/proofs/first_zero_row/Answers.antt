@@ -1,13 +1,12 @@
 use mathlib.Core.Path.{◌∙◌, ◌≡◌, ap, sym}
 use mathlib.Core.Bool.{false, true}
-use Prim.Native.Nat.{ℕ, ◌+◌, ◌*◌, ◌-◌, ◌/◌, ◌<◌, ◌≤◌}
+use Prim.Native.Nat.{ℕ, ◌/◌}
 use native.Mathlib.Omega.{arith}
 use lib.ListN.{length}
-use borrow.Author.Rules.{rules}
 use Rattle.octets.specs.Texts.{all_zero}
 use Rattle.table.specs.Answers.{lent}
-use Rattle.table.specs.TheTable.{first_row, row_at, row_length, rows}
-use Rattle.table.proofs.Rows.{bytes_most, form-top, lent_length, lent-test, piece-row, row_inside, rows-most, rows-over, search-all, search-end, search-here, search-on, searched, width-least}
+use Rattle.table.specs.TheTable.{row_at, row_length, rows}
+use Rattle.table.proofs.Rows.{bytes_most, form-top, lent_length, lent-test, piece-row, row_inside, rows-most, rows-over, search-all, search-end, search-here, search-on, width-least}
 use Rattle.table.proofs.first_zero_row.Goals as goal
 
 pub row_length-width-requires : goal.row_length-width-requires

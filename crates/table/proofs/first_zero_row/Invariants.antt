@@ -1,14 +1,11 @@
 -- The search from row i on finds what is the first wholly zero row: `search-here`, `search-on` and `search-end` of Rows.
-use mathlib.Core.Path.{◌∙◌, ◌≡◌, ap, sym}
-use mathlib.Core.Bool.{false, true}
-use Prim.Native.Nat.{ℕ, ◌+◌, ◌*◌, ◌-◌, ◌/◌, ◌<◌, ◌≤◌}
-use native.Mathlib.Omega.{arith}
+use mathlib.Core.Path.{◌≡◌}
+use Prim.Native.Nat.{◌*◌, ◌-◌, ◌/◌, ◌≤◌}
 use lib.ListN.{length}
-use borrow.Author.Rules.{rules}
 use Rattle.octets.specs.Texts.{all_zero}
 use Rattle.table.specs.Answers.{lent}
-use Rattle.table.specs.TheTable.{first_row, row_at, row_length, rows}
-use Rattle.table.proofs.Rows.{bytes_most, form-top, lent_length, lent-test, piece-row, row_inside, rows-most, rows-over, search-all, search-end, search-here, search-on, searched, width-least}
+use Rattle.table.specs.TheTable.{first_row, row_length, rows}
+use Rattle.table.proofs.Rows.{searched}
 use Rattle.table.proofs.first_zero_row.Given as goal
 
 abbrev pub invariant-loop-at : goal.invariant-loop-at

@@ -1,7 +1,6 @@
 -- Each way out refutes one part of the test; the last one is what is left of it.
 use mathlib.Core.Path.{◌∙◌}
 use native.Mathlib.Omega.{arith}
-use borrow.Author.Rules.{rules}
 use Rattle.table.proofs.Rows.{not-row, row-by-name}
 use Rattle.table.proofs.has_name.Goals as goal
 

@@ -1,11 +1,8 @@
 -- The operator's byte first, then the name.
-use mathlib.Core.Path.{◌≡◌, sym, ap, ◌∙◌}
-use mathlib.Core.Bool.{Bool, false, ◌&&◌}
-use lib.Dec.{eqb}
+use mathlib.Core.Path.{sym, ◌∙◌}
 use lib.ListN.{get_or}
-use borrow.Author.Rules.{rules}
 use borrow.Author.Tests.{eq-eqb, ne_eqb}
-use Rattle.table.specs.TheTable.{has_name, is_row_of}
+use Rattle.table.specs.TheTable.{is_row_of}
 use Rattle.table.proofs.is_row_of.Goals as goal
 
 pub returns-then-wide-op : goal.returns-then-wide-op

@@ -1,12 +1,11 @@
-use mathlib.Core.Path.{◌∙◌, ◌≡◌, ap, refl, sym}
+use mathlib.Core.Path.{◌∙◌, ◌≡◌, ap, sym}
 use mathlib.Core.Bool.{false, true}
-use Prim.Native.Nat.{ℕ, ◌+◌, ◌*◌, ◌-◌, ◌/◌, ◌<◌, ◌≤◌}
+use Prim.Native.Nat.{ℕ, ◌+◌, ◌*◌, ◌/◌}
 use native.Mathlib.Omega.{arith}
 use lib.ListN.{length}
-use borrow.Author.Rules.{rules}
 use Rattle.table.specs.Answers.{lent}
-use Rattle.table.specs.TheTable.{Account, Table, is_row_of, lookup, row_at, row_length, rows}
-use Rattle.table.proofs.Rows.{bytes_most, form-top, lent_length, lent-test, piece-row, row_inside, rows_fit, rows-most, rows-over, search-all, search-end, search-here, search-on, search-skip, searched, width-least}
+use Rattle.table.specs.TheTable.{Account, is_row_of, lookup, row_at, row_length, rows}
+use Rattle.table.proofs.Rows.{bytes_most, form-top, lent_length, lent-test, piece-row, row_inside, rows_fit, rows-most, rows-over, search-all, search-end, search-here, search-on, search-skip, width-least}
 use Rattle.table.proofs.Widths.{rows-order}
 use Rattle.table.proofs.lookup.Goals as goal
 

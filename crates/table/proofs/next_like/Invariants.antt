@@ -1,16 +1,9 @@
 -- Row by row: the place before this one has other bytes.
-use mathlib.Core.Path.{◌≡◌, refl, sym, ap, ◌∙◌}
+use mathlib.Core.Path.{◌≡◌}
 use Prim.Native.Nat.{ℕ, ◌+◌, ◌-◌, ◌*◌, ◌/◌, ◌%◌, ◌<◌, ◌≤◌}
-use native.Mathlib.Omega.{arith}
-use lib.Dec.{eqb}
 use lib.ListN.{length}
-use borrow.Author.Tests.{eqb-true, eqb-false}
 use Rattle.octets.specs.Numbers.{low64}
-use Rattle.octets.proofs.Lists.{by-test}
-use Rattle.table.specs.Answers.{lent}
 use Rattle.table.specs.TheTable.{row_length}
-use Rattle.table.proofs.Rows.{bytes_most, form-top, row_inside, width-least}
-use Rattle.table.proofs.Widths.{one-row-on, split}
 use Rattle.table.proofs.next_like.Given as goal
 
 abbrev pub invariant-loop-at : goal.invariant-loop-at

@@ -1,7 +1,5 @@
 -- The table's number first, then that of the operator.
-use mathlib.Core.Path.{◌≡◌, sym, ap, ◌∙◌}
-use lib.Dec.{eqb, leb}
-use borrow.Author.Rules.{rules}
+use mathlib.Core.Path.{sym, ◌∙◌}
 use borrow.Author.Tests.{eq-eqb, le-leb, lt-leb, ne_eqb}
 use Rattle.octets.specs.Choice.{first_of, pick, require}
 use Rattle.table.specs.Answers.{lent}

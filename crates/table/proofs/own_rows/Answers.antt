@@ -1,9 +1,8 @@
-use mathlib.Core.Path.{◌∙◌, ◌≡◌, ap, sym}
+use mathlib.Core.Path.{◌∙◌, ◌≡◌, ap}
 use mathlib.Core.Bool.{false, true}
-use Prim.Native.Nat.{ℕ, suc, ◌+◌, ◌*◌, ◌-◌, ◌/◌, ◌<◌, ◌≤◌}
+use Prim.Native.Nat.{ℕ, ◌*◌, ◌/◌}
 use native.Mathlib.Omega.{arith}
 use lib.ListN.{length}
-use borrow.Author.Rules.{rules}
 use Rattle.table.specs.Answers.{lent}
 use Rattle.table.specs.TheTable.{is_own, own_rows, row_at, row_length, rows}
 use Rattle.table.proofs.Rows.{bytes_most, form-top, kept-all, kept-end, kept_here, kept_on, kept_from, lent_length, lent-test, piece-row, row_inside, rows-most, rows-over, width-least}

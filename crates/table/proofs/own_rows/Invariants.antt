@@ -1,14 +1,10 @@
 -- The invariant: those counted so far and those from the next row on make the number of the operator's rows: `kept_here` and `kept_on` of Rows.
-use mathlib.Core.Path.{◌∙◌, ◌≡◌, ap, sym}
-use mathlib.Core.Bool.{false, true}
-use Prim.Native.Nat.{ℕ, suc, ◌+◌, ◌*◌, ◌-◌, ◌/◌, ◌<◌, ◌≤◌}
-use native.Mathlib.Omega.{arith}
+use mathlib.Core.Path.{◌≡◌}
+use Prim.Native.Nat.{◌+◌, ◌*◌, ◌-◌, ◌/◌, ◌≤◌}
 use lib.ListN.{length}
-use borrow.Author.Rules.{rules}
 use Rattle.table.specs.Answers.{lent}
-use Rattle.table.specs.TheTable.{is_own, own_rows, row_at, row_length, rows}
-use Rattle.table.proofs.Rows.{bytes_most, form-top, kept-all, kept-end, kept_here, kept_on, kept_from, lent_length, lent-test, piece-row, row_inside, rows-most, rows-over, width-least}
-use Rattle.table.proofs.Widths.{one-row-on, quotient_is}
+use Rattle.table.specs.TheTable.{is_own, own_rows, row_length}
+use Rattle.table.proofs.Rows.{kept_from}
 use Rattle.table.proofs.own_rows.Given as goal
 
 abbrev pub invariant-loop-at : goal.invariant-loop-at

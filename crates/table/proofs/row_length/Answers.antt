@@ -1,6 +1,5 @@
 -- The same sum as in the definition.
 use mathlib.Core.Path.{refl}
-use borrow.Author.Rules.{rules}
 use Rattle.table.specs.TheTable.{row_length}
 use Rattle.table.proofs.row_length.Goals as goal
 

@@ -1,7 +1,6 @@
 use mathlib.Core.Path.{◌≡◌, refl, sym, ap, ◌∙◌}
-use Prim.Native.Nat.{ℕ, ◌+◌, ◌-◌, ◌*◌, ◌/◌, ◌%◌, ◌≤◌}
+use Prim.Native.Nat.{ℕ, ◌+◌, ◌*◌, ◌/◌, ◌%◌, ◌≤◌}
 use native.Mathlib.Omega.{arith}
-use borrow.Author.Rules.{rules}
 use Rattle.table.specs.Columns.{column_first}
 use Rattle.table.proofs.Columns.{both, column_share, columns-right, more, product, share-is, total, total-more}
 use Rattle.table.proofs.sums_of.Goals as goal
@@ -41,7 +40,7 @@ loop-j-preserved c =
     let few : one.result ≤ 270 = omega (arith, one.ensures.1, col.ensures.2) in
     let product-fits : l.weight * one.result ≤ 8640 = product l.weight one.result (omega arith) few in
     let share : (32 * two.result + l.weight * one.result) % 255 ≡ column_share 16 s l.j % 255 =
-    share-is s l.j l.weight col.result.first col.result (col.result.first / 256) (col.result / 256) one.result two.result col.ensures.0 col.ensures.1 l.invariant.1 one.ensures.0 two.ensures.0 in
+    share-is s l.j l.weight col.result.first col.result.before (col.result.first / 256) (col.result.before / 256) one.result two.result col.ensures.0 col.ensures.1 l.invariant.1 one.ensures.0 two.ensures.0 in
     let first : (l.a + one.result) % 255 ≡ total (column_first 16 s) (l.j + 1) % 255 =
     both l.a one.result (total (column_first 16 s) l.j) (column_first 16 s l.j) _ l.invariant.4 (sym (ap (λ (k : ℕ). k % 255) one.ensures.0 ∙ more one.result _) ∙ ap (λ (k : ℕ). k % 255) col.ensures.0) (total-more (column_first 16 s) l.j) in
     let second : (l.b + three.result) % 255 ≡ total (column_share 16 s) (l.j + 1) % 255 =

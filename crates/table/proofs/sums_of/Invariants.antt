@@ -1,10 +1,8 @@
 -- Folding keeps the remainder; the columns passed are added up, all of them give Fletcher-16: `share-is`, `columns-right` of Columns.
-use mathlib.Core.Path.{◌≡◌, refl, sym, ap, ◌∙◌}
-use Prim.Native.Nat.{ℕ, ◌+◌, ◌-◌, ◌*◌, ◌/◌, ◌%◌, ◌≤◌}
-use native.Mathlib.Omega.{arith}
-use borrow.Author.Rules.{rules}
+use mathlib.Core.Path.{◌≡◌}
+use Prim.Native.Nat.{◌+◌, ◌-◌, ◌*◌, ◌%◌, ◌≤◌}
 use Rattle.table.specs.Columns.{column_first}
-use Rattle.table.proofs.Columns.{both, column_share, columns-right, more, product, share-is, total, total-more}
+use Rattle.table.proofs.Columns.{column_share, total}
 use Rattle.table.proofs.sums_of.Given as goal
 
 abbrev pub invariant-loop-j : goal.invariant-loop-j

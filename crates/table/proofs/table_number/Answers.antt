@@ -3,7 +3,6 @@ use mathlib.Core.Path.{◌∙◌, ◌≡◌, ap, sym}
 use Prim.Native.Nat.{ℕ, ◌%◌}
 use native.Mathlib.Omega.{arith}
 use lib.ListN.{length}
-use borrow.Author.Rules.{rules}
 use Rattle.table.specs.Answers.{lent}
 use Rattle.table.specs.TheTable.{row_length}
 use Rattle.table.proofs.Rows.{a-form, no-form, number-form, number-long, number-rest, number-right, number_short, width-least, width-most}

@@ -1,6 +1,5 @@
 -- A first byte that is not zero decides; else the whole row is looked at.
 use native.Mathlib.Omega.{arith}
-use borrow.Author.Rules.{rules}
 use Rattle.table.proofs.Rows.{not-zero}
 use Rattle.table.proofs.zero_row.Goals as goal
 

@@ -1,0 +1,330 @@
+// Files by their numbers.
+ghost use Rattle.std.specs.Prelude.{◌≤◌, length};
+
+use crate::names::text_of;
+use crate::standard::put_all;
+use crate::{EBADF, EMFILE, MOST_FILES, STDERR_FILENO, STDIN_FILENO, STDOUT_FILENO, System};
+use std::fs::{File, Metadata, OpenOptions, Permissions};
+use std::io::{Read, Seek, SeekFrom, Write};
+use std::os::unix::fs::{MetadataExt, PermissionsExt, fchown};
+use std::{fs, io};
+
+// What the system knows of a file.
+#[derive(Clone, Copy)]
+pub struct Status {
+    pub device: u64,
+    pub inode: u64,
+    pub names: u64,
+    pub mode: u32,
+    pub owner: u32,
+    pub group: u32,
+}
+
+fn status_of(known: &Metadata) -> Status {
+    Status {
+        device: known.dev(),
+        inode: known.ino(),
+        names: known.nlink(),
+        mode: known.mode(),
+        owner: known.uid(),
+        group: known.gid(),
+    }
+}
+
+// What is known of no file.
+fn nothing() -> Status {
+    Status {
+        device: 0,
+        inode: 0,
+        names: 0,
+        mode: 0,
+        owner: 0,
+        group: 0,
+    }
+}
+
+fn ask(file: &File) -> io::Result<Status> {
+    let known = file.metadata()?;
+    Ok(status_of(&known))
+}
+
+fn ask_by_name(system: &System, path: &str) -> io::Result<Status> {
+    let known = fs::metadata(&system.rt, path)?;
+    Ok(status_of(&known))
+}
+
+// OPENING
+
+fn open_old(system: &System, path: &[u8], writes: bool) -> io::Result<File> {
+    OpenOptions::new()
+        .read(true)
+        .write(writes)
+        .open(&system.rt, text_of(path)?)
+}
+
+fn open_new(system: &System, path: &[u8]) -> io::Result<File> {
+    File::create_new(&system.rt, text_of(path)?)
+}
+
+fn open_to_write(system: &System, path: &str) -> io::Result<File> {
+    OpenOptions::new().write(true).open(&system.rt, path)
+}
+
+// The number of a place among the files.
+fn number_of(place: usize) -> i32 {
+    if place < MOST_FILES {
+        return place as i32 + 3;
+    }
+    -1
+}
+
+// The place of a file by its number; behind all of them for what is no number of a file.
+fn place_of(fd: i32) -> usize {
+    if fd < 3 {
+        return MOST_FILES;
+    }
+    (fd - 3) as usize
+}
+
+impl System {
+    // An open file gets the lowest number that is free.
+    fn keep(&self, file: File) -> i32 {
+        let Ok(mut files) = self.files.try_borrow_mut() else {
+            return -1;
+        };
+        let all = &mut *files;
+        for i in 0..MOST_FILES {
+            if all[i].is_none() {
+                all[i] = Some(file);
+                return number_of(i);
+            }
+        }
+        self.set_errno(EMFILE);
+        -1
+    }
+
+    fn number(&self, opened: io::Result<File>) -> i32 {
+        match opened {
+            Ok(file) => self.keep(file),
+            Err(e) => {
+                self.failed(&e);
+                -1
+            }
+        }
+    }
+
+    // The number of a file that is opened to be read; -1 where it can not be, likewise below.
+    pub fn open_read(&self, path: &[u8]) -> i32 {
+        self.number(open_old(self, path, false))
+    }
+
+    // The same of one to be read and written. Its bytes stay as they are.
+    pub fn open_update(&self, path: &[u8]) -> i32 {
+        self.number(open_old(self, path, true))
+    }
+
+    // The same of one that is made, where no file has the name.
+    pub fn create(&self, path: &[u8]) -> i32 {
+        self.number(open_new(self, path))
+    }
+
+    pub fn close(&self, fd: i32) {
+        let Ok(mut files) = self.files.try_borrow_mut() else {
+            return;
+        };
+        let i = place_of(fd);
+        if i < MOST_FILES {
+            let all = &mut *files;
+            all[i] = None;
+        }
+    }
+
+    // READING AND WRITING
+
+    // A room filled from a file, up to its end, or to where it can not be read: how many bytes.
+    pub fn read_full(&self, fd: i32, room: &mut [u8]) -> usize
+        ensures { result ≤ length room.new }
+    {
+        if fd == STDIN_FILENO {
+            let mut from = self.rt.stdin();
+            return self.fill(&mut from, room);
+        }
+        let Ok(files) = self.files.try_borrow() else {
+            return 0;
+        };
+        let i = place_of(fd);
+        if MOST_FILES <= i {
+            self.set_errno(EBADF);
+            return 0;
+        }
+        let all = &*files;
+        match &all[i] {
+            Some(file) => {
+                let mut from = file;
+                self.fill(&mut from, room)
+            }
+            None => {
+                self.set_errno(EBADF);
+                0
+            }
+        }
+    }
+
+    fn fill<R: Read>(&self, from: &mut R, room: &mut [u8]) -> usize
+        ensures { result ≤ length room.new }
+    {
+        let mut done: usize = 0;
+        while done < room.len() {
+            match from.read(&mut room[done..]) {
+                Ok(0) => return done,
+                Ok(n) => done += n,
+                Err(e) => {
+                    self.failed(&e);
+                    return done;
+                }
+            }
+        }
+        done
+    }
+
+    // Whether all of a text is written.
+    pub fn write_all(&self, fd: i32, text: &[u8]) -> bool {
+        if fd == STDOUT_FILENO {
+            return self.put_out(text);
+        }
+        if fd == STDERR_FILENO {
+            return self.put_error(text);
+        }
+        self.with(fd, Work::Write(text))
+    }
+
+    // A text written to what is open by the system's own number 9, which another program opened; whether it is open.
+    pub fn mark(&self, text: &[u8]) -> bool {
+        match open_to_write(self, "/proc/self/fd/9") {
+            Ok(mut file) => self.is_ok(&put_all(&mut file, text)),
+            Err(e) => {
+                self.failed(&e);
+                false
+            }
+        }
+    }
+
+    // WHAT ELSE IS DONE WITH A FILE
+
+    // The next byte that is read or written is the one at `at`.
+    pub fn seek_to(&self, fd: i32, at: u64) -> bool {
+        self.with(fd, Work::Seek(SeekFrom::Start(at)))
+    }
+
+    // The same by so many bytes further on, or back.
+    pub fn seek_by(&self, fd: i32, by: i64) -> bool {
+        self.with(fd, Work::Seek(SeekFrom::Current(by)))
+    }
+
+    pub fn ftruncate(&self, fd: i32, length: u64) -> bool {
+        self.with(fd, Work::Cut(length))
+    }
+
+    // What was written is forced out.
+    pub fn fsync(&self, fd: i32) -> bool {
+        self.with(fd, Work::ForceOut)
+    }
+
+    pub fn fchown(&self, fd: i32, owner: u32, group: u32) -> bool {
+        self.with(fd, Work::Own(owner, group))
+    }
+
+    pub fn fchmod(&self, fd: i32, mode: u32) -> bool {
+        self.with(fd, Work::Mode(mode))
+    }
+
+    // Whether it is done with the file of a number.
+    fn with(&self, fd: i32, work: Work<'_>) -> bool {
+        let Ok(files) = self.files.try_borrow() else {
+            return false;
+        };
+        let i = place_of(fd);
+        if MOST_FILES <= i {
+            self.set_errno(EBADF);
+            return false;
+        }
+        let all = &*files;
+        match &all[i] {
+            Some(file) => self.is_ok(&apply(file, work)),
+            None => {
+                self.set_errno(EBADF);
+                false
+            }
+        }
+    }
+
+    // What is known of an open file, of nothing where it is not open.
+    pub fn fstat(&self, fd: i32) -> Status {
+        if fd == STDOUT_FILENO {
+            return self.known(ask_by_name(self, "/proc/self/fd/1"));
+        }
+        if fd == STDERR_FILENO {
+            return self.known(ask_by_name(self, "/proc/self/fd/2"));
+        }
+        self.status(fd)
+    }
+
+    fn known(&self, asked: io::Result<Status>) -> Status {
+        match asked {
+            Ok(s) => s,
+            Err(e) => {
+                self.failed(&e);
+                nothing()
+            }
+        }
+    }
+
+    fn status(&self, fd: i32) -> Status {
+        let Ok(files) = self.files.try_borrow() else {
+            return nothing();
+        };
+        let i = place_of(fd);
+        if MOST_FILES <= i {
+            self.set_errno(EBADF);
+            return nothing();
+        }
+        let all = &*files;
+        match &all[i] {
+            Some(file) => self.known(ask(file)),
+            None => {
+                self.set_errno(EBADF);
+                nothing()
+            }
+        }
+    }
+}
+
+// What is done with an open file.
+#[derive(Drop)]
+enum Work<'a> {
+    Write(&'a [u8]),
+    Seek(SeekFrom),
+    Cut(u64),
+    ForceOut,
+    Own(u32, u32),
+    Mode(u32),
+}
+
+fn apply(file: &File, work: Work<'_>) -> io::Result<()> {
+    let mut to = file;
+    match work {
+        Work::Write(text) => put_all(&mut to, text),
+        Work::Seek(at) => moved(to.seek(at)),
+        Work::Cut(length) => file.set_len(length),
+        Work::ForceOut => file.sync_all(),
+        Work::Own(owner, group) => fchown(file, Some(owner), Some(group)),
+        Work::Mode(mode) => file.set_permissions(Permissions::from_mode(mode)),
+    }
+}
+
+fn moved(at: io::Result<u64>) -> io::Result<()> {
+    match at {
+        Ok(_) => Ok(()),
+        Err(e) => Err(e),
+    }
+}

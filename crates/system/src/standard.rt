@@ -1,0 +1,67 @@
+// The three files that every program begins with, and what is known of processes.
+use crate::{EBADF, STDERR_FILENO, STDOUT_FILENO, System};
+use std::io::Write;
+use std::os::fd::{AsRawFd, IntoRawFd};
+use std::{fs, io, process};
+
+// All of a text written; the end of what takes no more counts as a failure.
+pub(crate) fn put_all<W: Write>(to: &mut W, text: &[u8]) -> io::Result<()> {
+    to.write_all(text)
+}
+
+impl System {
+    pub(crate) fn put_out(&self, text: &[u8]) -> bool {
+        if self.is_shut.get() {
+            self.set_errno(EBADF);
+            return false;
+        }
+        let mut out = self.rt.stdout();
+        self.is_ok(&put_all(&mut out, text))
+    }
+
+    pub(crate) fn put_error(&self, text: &[u8]) -> bool {
+        let mut out = self.rt.stderr();
+        self.is_ok(&put_all(&mut out, text))
+    }
+
+    pub(crate) fn is_ok(&self, done: &io::Result<()>) -> bool {
+        match done {
+            Ok(()) => true,
+            Err(e) => {
+                self.failed(e);
+                false
+            }
+        }
+    }
+
+    // Whether standard output can be written.
+    pub fn is_output(&self) -> bool {
+        let mut out = self.rt.stdout();
+        match out.write(b"") {
+            Ok(_) => true,
+            Err(e) => {
+                self.failed(&e);
+                false
+            }
+        }
+    }
+
+    // Standard output takes nothing from here on.
+    pub fn shut_output(&self) {
+        self.is_shut.set(true);
+    }
+
+    // Something that can not be written, in the place of the lowest descriptor of the system that is closed.
+    pub fn stand_in(&self) {
+        if let Ok(file) = fs::File::open(&self.rt, "/dev/null") {
+            if file.as_raw_fd() <= 2 {
+                file.into_raw_fd();
+            }
+        }
+    }
+
+    // The number of this process.
+    pub fn getpid(&self) -> u32 {
+        process::id(self.rt.process())
+    }
+}

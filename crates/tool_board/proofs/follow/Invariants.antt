@@ -1,0 +1,11 @@
+-- The number of turns left falls; table and screens keep their lengths.
+use mathlib.Core.Path.{◌≡◌}
+use Prim.Native.Nat.{◌≤◌}
+use lib.ListN.{length}
+use Rattle.tool_board.proofs.follow.Given as goal
+
+abbrev pub invariant-loop-turns : goal.invariant-loop-turns
+invariant-loop-turns l = (l.turns ≤ 4294967296) × (length l.table ≡ length l.initial.table) × (length l.screens ≡ length l.initial.screens)
+
+abbrev pub decreases-loop-turns : goal.decreases-loop-turns
+decreases-loop-turns l = l.turns
