@@ -99,7 +99,7 @@ fn enlist(block: &mut [u8], bits: u8, count: usize, place: u8)
 // The first block of a new access.
 fn write_first(block: &mut [u8], entry: u8, session: &[u8], host: &[u8])
     requires { (length block.old ≡ block_length) × (length session.now ≤ 128) × (length host.now ≤ 128) }
-    ensures { block.new ≡ first_bytes (fresh entry (record { session = session.entry.now; host = host.now; realm = [] })) }
+    ensures { block.new ≡ first_bytes (fresh entry (record { session = session.now; host = host.now; realm = [] })) }
 {
     octets::clear(block);
     let head = [2, entry, session.len() as u8, host.len() as u8];
@@ -124,7 +124,7 @@ fn write_second(block: &mut [u8], realm: &[u8])
 // The place of a new access: its first block, and in form 2 its second.
 fn write_access(place: &mut [u8], entry: u8, session: &[u8], host: &[u8], realm: &[u8])
     requires { (length place.old ≡ place_length (length place.old / block_length)) × (1 ≤ length place.old / block_length) × (length place.old / block_length ≤ 2) × (length session.now ≤ 128) × (length host.now ≤ 128) × (length realm.now ≤ 128) }
-    ensures { place.new ≡ opened_bytes (length place.old / block_length) entry (record { session = session.entry.now; host = host.now; realm = kept_in (length place.old / block_length) realm.now }) }
+    ensures { place.new ≡ opened_bytes (length place.old / block_length) entry (record { session = session.now; host = host.now; realm = kept_in (length place.old / block_length) realm.now }) }
 {
     write_first(&mut place[0..table::BLOCK_LENGTH], entry, session, host);
     if place.len() == table::BLOCK_LENGTH {
@@ -161,7 +161,7 @@ fn write_others(block: &mut [u8], second: &[u8], third: &[u8])
 // A place with other policies: all that it held are replaced. Form 1 has room for the first alone.
 fn write_policies(place: &mut [u8], first: &[u8], second: &[u8], third: &[u8])
     requires { (length place.old ≡ place_length (length place.old / block_length)) × (1 ≤ length place.old / block_length) × (length place.old / block_length ≤ 2) × (length first.now ≤ 128) × (length second.now ≤ 128) × (length third.now ≤ 128) }
-    ensures { place.new ≡ routed_bytes place.old (record { first = first.entry.now; second = second.now; third = third.now }) }
+    ensures { place.new ≡ routed_bytes place.old (record { first = first.now; second = second.now; third = third.now }) }
 {
     write_policy(&mut place[0..table::BLOCK_LENGTH], first);
     if place.len() == table::BLOCK_LENGTH {
@@ -177,7 +177,7 @@ fn write_policies(place: &mut [u8], first: &[u8], second: &[u8], third: &[u8])
 // The room of an entry.
 fn write_entry(room: &mut [u8], label: &[u8], flags: u8, limit: u8)
     requires { (length room.old ≡ 104) × (length label.now ≤ 100) }
-    ensures { room.new ≡ entry_bytes (record { label = label.entry.now; flags = flags; limit = limit }) }
+    ensures { room.new ≡ entry_bytes (record { label = label.now; flags = flags; limit = limit }) }
 {
     octets::clear(room);
     room[0] = label.len() as u8;
@@ -189,7 +189,7 @@ fn write_entry(room: &mut [u8], label: &[u8], flags: u8, limit: u8)
 // Block 0 with one entry more, behind the n that are there.
 fn write_more(block: &mut [u8], n: u8, label: &[u8], flags: u8, limit: u8)
     requires { (length block.old ≡ block_length) × (n < 4) × (length label.now ≤ 100) }
-    ensures { block.new ≡ entries_with block.old n (record { label = label.entry.now; flags = flags; limit = limit }) }
+    ensures { block.new ≡ entries_with block.old n (record { label = label.now; flags = flags; limit = limit }) }
 {
     block[table::ENTRY_COUNT] = n + 1;
     let at = table::ENTRIES + table::ENTRY_LENGTH * octets::long(n);
@@ -216,7 +216,7 @@ pub fn free_place(row: &mut [u8], k: usize)
 // A new access takes the lowest free place and the end of the order line. The ones of byte 17 are the accesses in use.
 pub fn open_place(row: &mut [u8], entry: u8, session: &[u8], host: &[u8], realm: &[u8]) -> usize
     requires { (sound row.old ≡ true) × (length (read_row row.old).accesses < 8) × (length session.now ≤ 128) × (length host.now ≤ 128) × (length realm.now ≤ 128) }
-    ensures { (row.new ≡ row_bytes (form_of row.old) (opened entry (record { session = session.entry.now; host = host.now; realm = kept_in (form_of row.old) realm.now }) (read_row row.old)))
+    ensures { (row.new ≡ row_bytes (form_of row.old) (opened entry (record { session = session.now; host = host.now; realm = kept_in (form_of row.old) realm.now }) (read_row row.old)))
         × (result ≡ lowest_free (read_row row.old).accesses) }
 {
     let bits = row[table::USED_BITS];
@@ -244,7 +244,7 @@ pub fn cut_and_open_place(
     realm: &[u8],
 ) -> usize
     requires { (sound row.old ≡ true) × (is_on (order_line row.old) k ≡ true) × (length session.now ≤ 128) × (length host.now ≤ 128) × (length realm.now ≤ 128) }
-    ensures { (row.new ≡ row_bytes (form_of row.old) (opened entry (record { session = session.entry.now; host = host.now; realm = kept_in (form_of row.old) realm.now }) (freed k (read_row row.old))))
+    ensures { (row.new ≡ row_bytes (form_of row.old) (opened entry (record { session = session.now; host = host.now; realm = kept_in (form_of row.old) realm.now }) (freed k (read_row row.old))))
         × (result ≡ lowest_free (freed k (read_row row.old)).accesses) }
 {
     let bits = row[table::USED_BITS] - bit_of(k);
@@ -265,7 +265,7 @@ pub fn cut_and_open_place(
 // Policies replace what place k held.
 pub fn replace_policies(row: &mut [u8], k: usize, first: &[u8], second: &[u8], third: &[u8])
     requires { (sound row.old ≡ true) × (is_on (order_line row.old) k ≡ true) × (1 ≤ length first.now) × (length first.now ≤ 128) × (length second.now ≤ 128) × (length third.now ≤ 128) }
-    ensures { row.new ≡ row_bytes (form_of row.old) (routed k (record { first = first.entry.now; second = second.now; third = third.now }) (read_row row.old)) }
+    ensures { row.new ≡ row_bytes (form_of row.old) (routed k (record { first = first.now; second = second.now; third = third.now }) (read_row row.old)) }
 {
     let a = row::start(row, k);
     let e = a + (row.len() - table::BLOCK_LENGTH) / table::PLACES;
@@ -275,7 +275,7 @@ pub fn replace_policies(row: &mut [u8], k: usize, first: &[u8], second: &[u8], t
 // The next entry, as given.
 pub fn append_entry(row: &mut [u8], label: &[u8], flags: u8, limit: u8)
     requires { (sound row.old ≡ true) × (length (read_row row.old).entries < 4) × (length label.now ≤ 100) }
-    ensures { row.new ≡ row_bytes (form_of row.old) (with_entry (record { label = label.entry.now; flags = flags; limit = limit }) (read_row row.old)) }
+    ensures { row.new ≡ row_bytes (form_of row.old) (with_entry (record { label = label.now; flags = flags; limit = limit }) (read_row row.old)) }
 {
     let n = row[table::ENTRY_COUNT];
     write_more(&mut row[0..table::BLOCK_LENGTH], n, label, flags, limit);
@@ -319,7 +319,7 @@ pub fn open(
     requires { (form ≤ 2) × (row_length form * i + row_length form ≤ length table.old) × (sound (row_at (lent form table.old) i) ≡ true) × (length (read_row (row_at (lent form table.old) i)).accesses < 8)
         × (length session.now ≤ 128) × (length host.now ≤ 128) × (length realm.now ≤ 128) }
     ensures { (lent form table.new
-        ≡ with_row (lent form table.old) i (row_bytes form (opened entry (record { session = session.entry.now; host = host.now; realm = kept_in form realm.now }) (read_row (row_at (lent form table.old) i)))))
+        ≡ with_row (lent form table.old) i (row_bytes form (opened entry (record { session = session.now; host = host.now; realm = kept_in form realm.now }) (read_row (row_at (lent form table.old) i)))))
         × (result ≡ lowest_free (read_row (row_at (lent form table.old) i)).accesses) }
 {
     let width = table::row_length(form);
@@ -341,7 +341,7 @@ pub fn cut_and_open(
     requires { (form ≤ 2) × (row_length form * i + row_length form ≤ length table.old) × (sound (row_at (lent form table.old) i) ≡ true) × (is_on (order_line (row_at (lent form table.old) i)) k ≡ true)
         × (length session.now ≤ 128) × (length host.now ≤ 128) × (length realm.now ≤ 128) }
     ensures { (lent form table.new
-        ≡ with_row (lent form table.old) i (row_bytes form (opened entry (record { session = session.entry.now; host = host.now; realm = kept_in form realm.now }) (freed k (read_row (row_at (lent form table.old) i))))))
+        ≡ with_row (lent form table.old) i (row_bytes form (opened entry (record { session = session.now; host = host.now; realm = kept_in form realm.now }) (freed k (read_row (row_at (lent form table.old) i))))))
         × (result ≡ lowest_free (freed k (read_row (row_at (lent form table.old) i))).accesses) }
 {
     let width = table::row_length(form);
@@ -361,7 +361,7 @@ pub fn route(
 )
     requires { (form ≤ 2) × (row_length form * i + row_length form ≤ length table.old) × (sound (row_at (lent form table.old) i) ≡ true) × (is_on (order_line (row_at (lent form table.old) i)) k ≡ true)
         × (1 ≤ length first.now) × (length first.now ≤ 128) × (length second.now ≤ 128) × (length third.now ≤ 128) }
-    ensures { lent form table.new ≡ with_row (lent form table.old) i (row_bytes form (routed k (record { first = first.entry.now; second = second.now; third = third.now }) (read_row (row_at (lent form table.old) i)))) }
+    ensures { lent form table.new ≡ with_row (lent form table.old) i (row_bytes form (routed k (record { first = first.now; second = second.now; third = third.now }) (read_row (row_at (lent form table.old) i)))) }
 {
     let width = table::row_length(form);
     let a = width * i;

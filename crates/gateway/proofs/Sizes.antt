@@ -1,7 +1,6 @@
 -- How long what a call writes is: an answer has at most 5,120 bytes, an AA-Request at most 1,280. So every room that passes number 3 holds them, and
 -- both lengths fit 32 bits.
 use mathlib.Core.Path.{◌≡◌, refl}
-use mathlib.Core.List.{List}
 use Prim.Native.Nat.{ℕ, ◌≤◌}
 use native.Mathlib.Omega.{arith}
 use borrow.Author.Tests.{eqb-true}

@@ -7,7 +7,7 @@ use Rattle.octets.specs.Numbers.{in24, in32, up4}
 use Rattle.message.specs.TheRooms.{answer_least}
 use Rattle.message.specs.CallsThatGetNoAnswer.{message_number}
 use Rattle.message.specs.Codes.{Code, plain, kind_of, number_of}
-use Rattle.message.specs.ReadingAMessage.{Avp, Field, Name, application, avps, base, command, destination_host, destination_realm, field_code, flags, for_both, having, number_field, origin_host, origin_realm, proxy_info, session_id, starts_with, text_field, value_of, walk_code, re_auth_request_type}
+use Rattle.message.specs.ReadingAMessage.{Avp, Field, application, avps, command, destination_host, destination_realm, field_code, flags, for_both, having, number_field, origin_host, origin_realm, proxy_info, session_id, starts_with, text_field, value_of, walk_code, re_auth_request_type}
 use Rattle.message.specs.WritingTheAnswer.{all_bytes, answer_flags, avp_bytes, result_avp, session_avp}
 
 -- WHAT IS LENT

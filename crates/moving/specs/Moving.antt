@@ -1,5 +1,5 @@
 -- Moving a table to the other form (W5): what each row says is laid out anew, into a room of the caller's.
-use Rattle.std.specs.Prelude.{Bool, true, ◌||◌, ◌&&◌, List, [], ◌∷◌, ◌++◌, map, ℕ, ◌-◌, ◌*◌, eqb, length}
+use Rattle.std.specs.Prelude.{Bool, ◌||◌, ◌&&◌, List, [], ◌∷◌, ◌++◌, map, ℕ, ◌-◌, ◌*◌, eqb, length}
 use Rattle.octets.specs.Choice.{first_of, pick, require}
 use Rattle.octets.specs.Lists.{every}
 use Rattle.octets.specs.Texts.{all_zero, zeros}

@@ -1,6 +1,6 @@
 -- One step of the walk: a law for each way out of the tests, and that the message's walk is such steps, one after another.
 use mathlib.Core.Path.{◌≡◌, sym, ap, ◌∙◌}
-use mathlib.Core.Bool.{true, false, not}
+use mathlib.Core.Bool.{true, false}
 use mathlib.Core.List.{List}
 use Prim.Native.Nat.{ℕ, ◌+◌, ◌-◌, ◌%◌, ◌≤◌, ◌<◌}
 use native.Mathlib.Omega.{arith}
@@ -11,7 +11,7 @@ use lib.Seq.{get_or-drop, drop-drop}
 use Rattle.octets.specs.Choice.{pick, require, first_of}
 use Rattle.octets.specs.Numbers.{net24, net32, up4}
 use Rattle.octets.proofs.Lists.{by-test}
-use Rattle.message.specs.ReadingAMessage.{known, head_length, avp_length, avp_code, avp_of, behind, walk}
+use Rattle.message.specs.ReadingAMessage.{known, head_length, avp_length, avp_code, avp_of, walk}
 use Rattle.message.proofs.Walks.{Passed, passes, head-least, up4-least, walk_end, walk-bad, walk-one}
 use Rattle.message.proofs.Heads.{net24-drop, net32-drop, head-v, head-base}
 use Rattle.message.proofs.Gathering.{next-on}

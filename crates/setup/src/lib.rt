@@ -160,7 +160,7 @@ fn entry_given(label: &[u8], limit: u8, flags: u8) -> bool
 // The number that a sound row gives to an entry, 0 where it may be added.
 fn next_number(row: &[u8], label: &[u8], limit: u8, flags: u8) -> u32
     requires { sound row.now ≡ true }
-    ensures { result ≡ entry_number row.now (record { label = label.entry.now; flags = flags; limit = limit }) }
+    ensures { result ≡ entry_number row.now (record { label = label.now; flags = flags; limit = limit }) }
 {
     if !entry_given(label, limit, flags) {
         return 14;
@@ -184,7 +184,7 @@ fn add_entry(table: &mut [u8], form: usize, i: usize, label: &[u8], flags: u8, l
     requires { (form ≤ 2) × (row_length form * i + row_length form ≤ length table.old) × (sound (row_at (lent form table.old) i) ≡ true) × (length (read_row (row_at (lent form table.old) i)).entries < 4)
         × (length label.now ≤ 100) }
     ensures { lent form table.new
-        ≡ with_row (lent form table.old) i (row_bytes form (with_entry (record { label = label.entry.now; flags = flags; limit = limit }) (read_row (row_at (lent form table.old) i)))) }
+        ≡ with_row (lent form table.old) i (row_bytes form (with_entry (record { label = label.now; flags = flags; limit = limit }) (read_row (row_at (lent form table.old) i)))) }
 {
     let width = table::row_length(form);
     let a = width * i;
@@ -195,7 +195,7 @@ fn add_entry(table: &mut [u8], form: usize, i: usize, label: &[u8], flags: u8, l
 // The number that a row gives to an entry. Nothing but its soundness is tested in an unsound row.
 fn entry_number(row: &[u8], label: &[u8], limit: u8, flags: u8) -> u32
     requires { is_row row.now ≡ true }
-    ensures { result ≡ entry_number row.now (record { label = label.entry.now; flags = flags; limit = limit }) }
+    ensures { result ≡ entry_number row.now (record { label = label.now; flags = flags; limit = limit }) }
 {
     if !soundness::row_sound(row) {
         return 13;
@@ -214,7 +214,7 @@ pub fn add(
     flags: u8,
 ) -> u32
     ensures { left result (lent form table.new)
-        ≡ add (lent form table.old) (record { operator = op; name = name.now }) (record { label = label.entry.now; flags = flags; limit = limit }) }
+        ≡ add (lent form table.old) (record { operator = op; name = name.now }) (record { label = label.now; flags = flags; limit = limit }) }
 {
     let n = table::number_for(table, form, op);
     if n != 0 {

@@ -2,10 +2,8 @@
 use mathlib.Core.Path.{◌≡◌, sym, ◌∙◌}
 use mathlib.Core.Bool.{true, false, and-false}
 use native.Mathlib.Omega.{arith}
-use borrow.Author.Tests.{not-true, not-false}
 use Rattle.abort.specs.TheDisconnection.{answers_to, belongs}
 use Rattle.abort.proofs.Answers.{to-size, first-few}
-use borrow.Author.Rules.{rules}
 use Rattle.abort.proofs.answered.Goals as goal
 
 pub returns-then-answer-lt28 : goal.returns-then-answer-lt28

@@ -3,12 +3,10 @@ use mathlib.Core.Path.{◌≡◌, sym, ◌∙◌}
 use mathlib.Core.Bool.{true, false}
 use Prim.Native.Nat.{◌+◌, ◌-◌}
 use native.Mathlib.Omega.{arith}
-use borrow.Author.Tests.{not-true, not-false}
 use lib.ListN.{drop, length-drop}
 use Rattle.octets.specs.Numbers.{up4}
 use Rattle.octets.specs.Texts.{part, same}
 use Rattle.abort.proofs.Answers.{first-no, first-there, first-other, first-ours}
-use borrow.Author.Rules.{rules}
 use Rattle.abort.proofs.answers_for.Goals as goal
 
 pub returns-then-n-eq0 : goal.returns-then-n-eq0

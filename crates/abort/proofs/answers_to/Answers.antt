@@ -2,13 +2,12 @@
 use mathlib.Core.Path.{◌≡◌, sym, ap, ◌∙◌}
 use Prim.Native.Nat.{ℕ}
 use native.Mathlib.Omega.{arith}
-use borrow.Author.Tests.{eqb-true, eqb-false, not-true, not-false}
+use borrow.Author.Tests.{eqb-true, eqb-false}
 use lib.Dec.{eqb}
 use Rattle.octets.specs.Numbers.{net32}
 use Rattle.message.specs.CallsThatGetNoAnswer.{message_number}
 use Rattle.message.specs.ReadingAMessage.{command}
 use Rattle.abort.proofs.Answers.{to_number, has-header, to-command, to-hop, to_end}
-use borrow.Author.Rules.{rules}
 use Rattle.abort.proofs.answers_to.Goals as goal
 
 pub returns-then-number-ne8 : goal.returns-then-number-ne8

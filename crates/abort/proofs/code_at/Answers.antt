@@ -2,7 +2,6 @@
 use mathlib.Core.Path.{sym, ◌∙◌}
 use native.Mathlib.Omega.{arith}
 use Rattle.abort.proofs.Answers.{code-v, code-base}
-use borrow.Author.Rules.{rules}
 use Rattle.abort.proofs.code_at.Goals as goal
 
 pub returns-then-m-at-ge128 : goal.returns-then-m-at-ge128

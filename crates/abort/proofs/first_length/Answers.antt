@@ -6,7 +6,6 @@ use lib.ListN.{length, get_or, drop}
 use Rattle.octets.specs.Numbers.{net24, up4}
 use Rattle.abort.specs.Code.{plain_code}
 use Rattle.abort.proofs.Answers.{two_bytes, at_bits, at_high, at-past, at-short, at_base, code-v, code-base, first-none, first-other-code, first-its, other-code}
-use borrow.Author.Rules.{rules}
 use Rattle.abort.proofs.first_length.Goals as goal
 
 pub returns-then-read32-ne263 : goal.returns-then-read32-ne263

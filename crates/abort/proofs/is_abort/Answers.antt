@@ -5,7 +5,6 @@ use native.Mathlib.Omega.{arith}
 use lib.Dec.{eqb}
 use lib.ListN.{get_or}
 use Rattle.abort.proofs.Answers.{command-is, command-not}
-use borrow.Author.Rules.{rules}
 use Rattle.abort.proofs.is_abort.Goals as goal
 
 pub returns-then-m-ne0 : goal.returns-then-m-ne0

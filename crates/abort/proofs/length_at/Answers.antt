@@ -4,7 +4,6 @@ use Prim.Native.Nat.{◌+◌, ◌*◌}
 use native.Mathlib.Omega.{arith}
 use Rattle.octets.specs.Numbers.{net24, up4}
 use Rattle.abort.proofs.Answers.{two_bytes, at-few, at_bits, at_high, at-past, at-short, at-short-v, at-v, at_base}
-use borrow.Author.Rules.{rules}
 use Rattle.abort.proofs.length_at.Goals as goal
 
 pub returns-then-left-lt8 : goal.returns-then-left-lt8

@@ -4,7 +4,6 @@ use Prim.Native.Nat.{◌/◌, ◌%◌}
 use native.Mathlib.Omega.{arith}
 use Rattle.octets.specs.Numbers.{in24, in32}
 use Rattle.abort.specs.TheDisconnection.{header}
-use borrow.Author.Rules.{rules}
 use Rattle.abort.proofs.put_header.Goals as goal
 
 pub returns : goal.returns

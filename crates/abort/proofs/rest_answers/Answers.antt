@@ -1,13 +1,12 @@
 use mathlib.Core.Path.{◌≡◌, refl, sym, ap, ◌∙◌}
-use mathlib.Core.Bool.{Bool, false}
-use Prim.Native.Nat.{◌+◌, ◌-◌}
+use mathlib.Core.Bool.{Bool}
+use Prim.Native.Nat.{◌+◌}
 use native.Mathlib.Omega.{arith}
 use lib.ListN.{length, drop, length-drop}
 use Rattle.octets.specs.Numbers.{up4}
 use Rattle.message.specs.ReadingAMessage.{walk}
 use Rattle.abort.specs.Code.{rest_answers}
 use Rattle.abort.proofs.Answers.{There, there, rest_end, rest-bad, place-spoilt, place-goes}
-use borrow.Author.Rules.{rules}
 use Rattle.abort.proofs.rest_answers.Goals as goal
 
 pub overflow_sub-left : goal.overflow_sub-left

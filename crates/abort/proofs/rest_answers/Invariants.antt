@@ -1,14 +1,10 @@
 -- What is left to walk decides the same: `place-goes`; a law of Answers for each way out.
-use mathlib.Core.Path.{◌≡◌, refl, sym, ap, ◌∙◌}
-use mathlib.Core.Bool.{Bool, false}
-use Prim.Native.Nat.{◌+◌, ◌-◌}
-use native.Mathlib.Omega.{arith}
-use lib.ListN.{length, drop, length-drop}
-use Rattle.octets.specs.Numbers.{up4}
+use mathlib.Core.Path.{◌≡◌}
+use mathlib.Core.Bool.{false}
+use Prim.Native.Nat.{◌+◌}
+use lib.ListN.{length, drop}
 use Rattle.message.specs.ReadingAMessage.{walk}
 use Rattle.abort.specs.Code.{rest_answers}
-use Rattle.abort.proofs.Answers.{There, there, rest_end, rest-bad, place-spoilt, place-goes}
-use borrow.Author.Rules.{rules}
 use Rattle.abort.proofs.rest_answers.Given as goal
 
 abbrev pub invariant-loop-left : goal.invariant-loop-left

@@ -4,35 +4,36 @@ use native.Mathlib.Omega.{arith}
 use Rattle.abort.specs.TheDisconnection.{abort_number}
 use Rattle.abort.specs.Code.{cut_of}
 use Rattle.abort.proofs.Requests.{Allowed, allowed, short, says-lent, short-same, sent-same, write-refused, write-sent}
-use borrow.Author.Rules.{rules}
 use Rattle.abort.proofs.write.Goals as goal
+use Rattle.abort.proofs.write.Goals.{Else-n-ne0}
 
 -- with number 0 all tests pass
-zero : (p : goal.Else-n-ne0)
-    → abort_number p.args.host.now p.args.realm.now (cut_of p.args.notice.now p.args.cut-session p.args.cut-host p.args.cut-realm) p.args.room.now ≡ 0
+zero : (p : Else-n-ne0)
+    → abort_number p.args.host.now p.args.realm.now (cut_of p.args.notice.now p.args.cut_session p.args.cut_host p.args.cut_realm) p.args.room.now ≡ 0
 zero p = sym (p.number-n.ensures p.args.room.now refl) ∙ p.if-n-ne0.false
 
-fits : (p : goal.Else-n-ne0)
-    → Allowed p.args.host.now p.args.realm.now (cut_of p.args.notice.now p.args.cut-session p.args.cut-host p.args.cut-realm) p.args.room.now
+fits : (p : Else-n-ne0)
+    → Allowed p.args.host.now p.args.realm.now (cut_of p.args.notice.now p.args.cut_session p.args.cut_host p.args.cut_realm) p.args.room.now
 fits p =
     let given = p.args in
-    allowed given.host.now given.realm.now (cut_of given.notice.now given.cut-session given.cut-host given.cut-realm) given.room.now (zero p)
+    allowed given.host.now given.realm.now (cut_of given.notice.now given.cut_session given.cut_host given.cut_realm) given.room.now (zero p)
 
 pub returns-then-n-ne0 : goal.returns-then-n-ne0
 returns-then-n-ne0 c =
     let given = c.args in
     let number-was = c.number-n in
-    write-refused given.host.now given.realm.now (cut_of given.notice.now given.cut-session given.cut-host given.cut-realm) given.hop given.end
+    write-refused given.host.now given.realm.now (cut_of given.notice.now given.cut_session given.cut_host given.cut_realm) given.hop given.end
     given.room.now number-was.result (number-was.ensures given.room.now refl) c.if-n-ne0.true
 
 pub returns : goal.returns
 returns c =
+    let w = goal.at.returns c in
     let given = c.args in
-    let cut = cut_of given.notice.now given.cut-session given.cut-host given.cut-realm in
+    let cut = cut_of given.notice.now given.cut_session given.cut_host given.cut_realm in
     let put-request-was = c.put_request-length in
     write-sent given.host.now given.realm.now cut given.hop given.end given.room.now put-request-was.result
-    put-request-was.new.room (zero c.before.before.before.before.before.before.before)
-    (sent-same _ _ _ _ _ (says-lent given.host.now given.realm.now given.notice.now given.cut-session given.cut-host given.cut-realm given.hop given.end)
+    put-request-was.new.room (zero w.Else-n-ne0)
+    (sent-same _ _ _ _ _ (says-lent given.host.now given.realm.now given.notice.now given.cut_session given.cut_host given.cut_realm given.hop given.end)
     put-request-was.ensures)
 
 pub overflow_add-host_end : goal.overflow_add-host_end
@@ -45,17 +46,22 @@ pub slice_bounds-session-end : goal.slice_bounds-session-end
 slice_bounds-session-end c = let f = fits c in omega (arith, f.session-fits, f.notice-fits)
 
 pub slice_bounds-gateway_host-end : goal.slice_bounds-gateway_host-end
-slice_bounds-gateway_host-end c = let f = fits c.before in omega (arith, f.gateway-host-fits, f.notice-fits)
+slice_bounds-gateway_host-end c =
+    let w = goal.at.slice_bounds-gateway_host-end c in
+    let f = fits w.Else-n-ne0 in omega (arith, f.gateway-host-fits, f.notice-fits)
 
 pub slice_bounds-gateway_realm-end : goal.slice_bounds-gateway_realm-end
-slice_bounds-gateway_realm-end c = let f = fits c.before.before in omega (arith, f.gateway-realm-fits, f.notice-fits)
+slice_bounds-gateway_realm-end c =
+    let w = goal.at.slice_bounds-gateway_realm-end c in
+    let f = fits w.Else-n-ne0 in omega (arith, f.gateway-realm-fits, f.notice-fits)
 
 pub put_request-length-requires : goal.put_request-length-requires
 put_request-length-requires c =
+    let w = goal.at.put_request-length-requires c in
     let given = c.args in
-    let cut = cut_of given.notice.now given.cut-session given.cut-host given.cut-realm in
-    let f = fits c.before.before.before.before in (
-      short-same _ _ (says-lent given.host.now given.realm.now given.notice.now given.cut-session given.cut-host given.cut-realm given.hop given.end)
+    let cut = cut_of given.notice.now given.cut_session given.cut_host given.cut_realm in
+    let f = fits w.Else-n-ne0 in (
+      short-same _ _ (says-lent given.host.now given.realm.now given.notice.now given.cut_session given.cut_host given.cut_realm given.hop given.end)
           (short given.host.now given.realm.now cut given.hop given.end given.room.now f),
       f.room_fits,
     )

@@ -1,11 +1,10 @@
 -- Block 0 is all that differs: `entry-law` of Rows.
 use mathlib.Core.Path.{ap, ◌∙◌}
 use mathlib.Core.List.{List, ◌++◌}
-use Prim.Native.Nat.{ℕ, ◌+◌, ◌-◌}
+use Prim.Native.Nat.{ℕ}
 use native.Mathlib.Omega.{arith}
 use lib.Seq.{length-take-le}
 use lib.ListN.{drop}
-use borrow.Author.Rules.{rules}
 use Rattle.changes.proofs.Rows.{count_of, entry-law, row-size}
 use Rattle.table.specs.TheTable.{block_length}
 use Rattle.changes.proofs.append_entry.Goals as goal

@@ -1,7 +1,6 @@
 -- A shift within the byte: `bit-small` of Blocks.
 use Prim.Native.Nat.{◌-◌}
 use native.Mathlib.Omega.{arith}
-use borrow.Author.Rules.{rules}
 use Rattle.changes.proofs.Blocks.{bit-small}
 use Rattle.changes.proofs.bit_of.Goals as goal
 

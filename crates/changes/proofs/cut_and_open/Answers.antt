@@ -11,7 +11,6 @@ use Rattle.table.specs.TheTable.{form_of, order_line, read_row, row_at, row_byte
 use Rattle.table.proofs.Rows.{lent_row}
 use Rattle.changes.specs.Changes.{Opening, freed, kept_in, lowest_free, opened}
 use Rattle.changes.proofs.Rows.{back-row, lent-form}
-use borrow.Author.Rules.{rules}
 use Rattle.changes.proofs.cut_and_open.Goals as goal
 
 pub overflow_mul-a : goal.overflow_mul-a

@@ -13,7 +13,6 @@ use Rattle.changes.specs.Writes.{closed_up, head_with, lowest_clear, opened_byte
 use Rattle.changes.proofs.Cuts.{cut-clear, cut-fewer, cut_fits, cut-law, cut-lowest, cut_ones}
 use Rattle.changes.proofs.Puts.{put_head}
 use Rattle.changes.proofs.Rows.{bit_in, came-back, head-agrees, head-stays, place_in, place_inside, place-long, row-size, row_sized}
-use borrow.Author.Rules.{rules}
 use Rattle.changes.proofs.cut_and_open_place.Goals as goal
 
 pub bounds-row-17 : goal.bounds-row-17

@@ -2,7 +2,6 @@
 use mathlib.Core.Path.{◌∙◌}
 use Prim.Native.Nat.{◌+◌}
 use native.Mathlib.Omega.{arith}
-use borrow.Author.Rules.{rules}
 use Rattle.changes.proofs.Sums.{listed, marked-long, sealed-agrees, sealed-long, sealed-set}
 use Rattle.changes.proofs.enlist.Goals as goal
 

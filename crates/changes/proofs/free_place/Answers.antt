@@ -10,7 +10,6 @@ use Rattle.table.proofs.Form.{is-sized}
 use Rattle.changes.specs.Writes.{closed_up, head_with}
 use Rattle.changes.proofs.Puts.{put_head}
 use Rattle.changes.proofs.Rows.{bit_in, free_law, head-agrees, head-stays, place_in, place_inside, place-long, row-size, row_sized}
-use borrow.Author.Rules.{rules}
 use Rattle.changes.proofs.free_place.Goals as goal
 
 pub bounds-row-17 : goal.bounds-row-17

@@ -1,9 +1,6 @@
 -- Of the places passed those that are not k stand in front, zeros behind them: `Closing` of Blocks.
-use mathlib.Core.Logic.{⊎_elim}
 use Prim.Native.Nat.{◌-◌, ◌≤◌}
-use native.Mathlib.Omega.{arith}
-use borrow.Author.Rules.{rules}
-use Rattle.changes.proofs.Blocks.{Closing, closing-none, closing-kept, closing-left, closing_end}
+use Rattle.changes.proofs.Blocks.{Closing}
 use Rattle.changes.proofs.line_without.Given as goal
 
 abbrev pub invariant-loop-i : goal.invariant-loop-i

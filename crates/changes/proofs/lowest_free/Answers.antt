@@ -1,5 +1,4 @@
 -- A test over the 255 bytes with a clear bit: `lowest-clear` of Bits.
-use Prim.Native.Nat.{◌-◌}
 use native.Mathlib.Omega.{arith}
 use Rattle.changes.proofs.Bits.{clear_in, lowest-clear}
 use Rattle.changes.proofs.lowest_free.Goals as goal

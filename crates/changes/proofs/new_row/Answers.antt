@@ -1,14 +1,13 @@
 -- Three writes into a zero row and the sums of block 0: `new-law` of Rows.
 use mathlib.Core.Path.{◌≡◌, ap, ◌∙◌}
 use mathlib.Core.List.{List, [], ◌∷◌, ◌++◌}
-use Prim.Native.Nat.{ℕ, ◌+◌, ◌-◌}
+use Prim.Native.Nat.{ℕ}
 use native.Mathlib.Omega.{arith}
 use lib.ListN.{length, drop}
 use Rattle.octets.specs.Texts.{put, zeros}
 use Rattle.table.specs.TheTable.{block_length, form_of, row_length}
 use Rattle.table.proofs.Rows.{width-least}
 use Rattle.changes.proofs.Rows.{new-law}
-use borrow.Author.Rules.{rules}
 use Rattle.changes.proofs.new_row.Goals as goal
 
 pub put_bytes-requires : goal.put_bytes-requires

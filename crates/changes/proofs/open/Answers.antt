@@ -10,7 +10,6 @@ use Rattle.table.specs.TheTable.{form_of, read_row, row_at, row_bytes}
 use Rattle.table.proofs.Rows.{lent_row}
 use Rattle.changes.specs.Changes.{Opening, kept_in, lowest_free, opened}
 use Rattle.changes.proofs.Rows.{back-row, lent-form}
-use borrow.Author.Rules.{rules}
 use Rattle.changes.proofs.open.Goals as goal
 
 pub overflow_mul-a : goal.overflow_mul-a

@@ -13,7 +13,6 @@ use Rattle.changes.specs.Writes.{head_with, opened_bytes}
 use Rattle.changes.proofs.Puts.{put_head}
 use Rattle.changes.proofs.Rows.{bit-fits, came-back, head-agrees, head-stays, lowest-is, open-law, place-long, row-size, row_sized, some-clear}
 use Rattle.changes.proofs.Steps.{ones-byte}
-use borrow.Author.Rules.{rules}
 use Rattle.changes.proofs.open_place.Goals as goal
 
 pub bounds-row-17 : goal.bounds-row-17

@@ -11,7 +11,6 @@ use Rattle.table.proofs.Form.{is-sized}
 use Rattle.table.proofs.Rows.{lent_length}
 use Rattle.changes.specs.Writes.{routed_bytes}
 use Rattle.changes.proofs.Rows.{lent-place, place_in, place-long, room_of, route-law, row-size, row_sized}
-use borrow.Author.Rules.{rules}
 use Rattle.changes.proofs.replace_policies.Goals as goal
 
 pub start-a-requires : goal.start-a-requires

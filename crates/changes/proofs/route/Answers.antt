@@ -12,7 +12,6 @@ use Rattle.table.proofs.Rows.{lent_row}
 use Rattle.table.specs.TheTable.{Policies}
 use Rattle.changes.specs.Changes.{routed}
 use Rattle.changes.proofs.Rows.{back-row, lent-form}
-use borrow.Author.Rules.{rules}
 use Rattle.changes.proofs.route.Goals as goal
 
 pub overflow_mul-a : goal.overflow_mul-a

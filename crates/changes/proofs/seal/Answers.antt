@@ -1,6 +1,4 @@
 -- The two stores are the sums of the bytes before them: `sealed-by` of Blocks.
-use Prim.Native.Nat.{◌-◌}
-use borrow.Author.Rules.{rules}
 use Rattle.changes.proofs.Blocks.{sealed-by}
 use Rattle.changes.proofs.seal.Goals as goal
 

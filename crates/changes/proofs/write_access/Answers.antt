@@ -4,7 +4,6 @@ use Prim.Native.Nat.{◌/◌}
 use native.Mathlib.Omega.{arith}
 use lib.ListN.{length}
 use Rattle.changes.proofs.Rows.{opened_one, opened-two}
-use borrow.Author.Rules.{rules}
 use Rattle.table.specs.TheTable.{place_length, block_length}
 use Rattle.changes.proofs.write_access.Goals as goal
 

@@ -1,10 +1,9 @@
 -- A store and two writes into a zero room: `entry-put` of Blocks.
 use mathlib.Core.Path.{◌≡◌, ap, ◌∙◌}
 use mathlib.Core.List.{List, [], ◌∷◌}
-use Prim.Native.Nat.{ℕ, ◌-◌}
+use Prim.Native.Nat.{ℕ}
 use native.Mathlib.Omega.{arith}
 use lib.ListN.{length, set, length-set}
-use borrow.Author.Rules.{rules}
 use Rattle.octets.specs.Texts.{put, zeros}
 use Rattle.changes.proofs.Blocks.{entry-put}
 use Rattle.changes.proofs.write_entry.Goals as goal

@@ -1,9 +1,8 @@
 -- Three writes into a zero block and the sums: `first-put` of Blocks.
 use mathlib.Core.Path.{◌≡◌, ap, ◌∙◌}
 use mathlib.Core.List.{List, [], ◌∷◌}
-use Prim.Native.Nat.{ℕ, ◌-◌}
+use Prim.Native.Nat.{ℕ}
 use lib.ListN.{length, take}
-use borrow.Author.Rules.{rules}
 use Rattle.octets.specs.Texts.{put, zeros}
 use Rattle.table.specs.TheTable.{block_length, sealed}
 use Rattle.changes.proofs.Blocks.{first-put}

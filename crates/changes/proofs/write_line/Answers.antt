@@ -1,6 +1,6 @@
 use mathlib.Core.Path.{◌≡◌, sym, ap, ◌∙◌}
 use mathlib.Core.List.{List}
-use Prim.Native.Nat.{ℕ, ◌+◌, ◌-◌, ◌≤◌}
+use Prim.Native.Nat.{ℕ, ◌+◌}
 use native.Mathlib.Omega.{arith}
 use native.Mathlib.Numerals.{add-one}
 use lib.ListN.{length, get_or, set, take, length-set}
@@ -16,7 +16,7 @@ pub loop-i-init : goal.loop-i-init
 loop-i-init c =
     let u = c.put_byte in
     let d : List ℕ = take 510 u.new.block in
-    let line = c.args.t3 in
+    let line = c.args.line in
     let marked = marked-long c.args.block.now c.requires.0 c.args.bits in
     let size : length d ≡ 510 = ap (λ (t : List ℕ). length (take 510 t)) u.ensures ∙ ap length (body_of _ marked) ∙ marked in (
       search rules,
@@ -33,7 +33,7 @@ pub loop-i-preserved : goal.loop-i-preserved
 loop-i-preserved c =
     let l = c.loop-i in
     let d : List ℕ = take 510 c.put_byte.new.block in
-    let line = c.args.t3 in
+    let line = c.args.line in
     let eight : length line ≡ 8 = search rules in
     let v = c.put_byte-in-loop-i in
     let marked = marked-long c.args.block.now c.requires.0 c.args.bits in
@@ -54,7 +54,7 @@ returns c =
     let l = c.loop-i in
     let u = c.put_byte in
     let b = c.args.block.now in
-    let line = c.args.t3 in
+    let line = c.args.line in
     let eight : length line ≡ 8 = search rules in
     let marked = marked-long b c.requires.0 c.args.bits in
     l.invariant.2

@@ -1,16 +1,9 @@
 -- After i turns the first i places of the line stand in the block: `relined` of Sums.
-use mathlib.Core.Path.{◌≡◌, sym, ap, ◌∙◌}
-use mathlib.Core.List.{List}
-use Prim.Native.Nat.{ℕ, ◌+◌, ◌-◌, ◌≤◌}
-use native.Mathlib.Omega.{arith}
-use native.Mathlib.Numerals.{add-one}
-use lib.ListN.{length, get_or, set, take, length-set}
-use lib.Seq.{paste, paste-suc, paste-zero}
-use borrow.Author.Rules.{rules}
-use Rattle.octets.specs.Texts.{put}
-use Rattle.octets.proofs.Texts.{put_all}
+use mathlib.Core.Path.{◌≡◌}
+use Prim.Native.Nat.{◌-◌, ◌≤◌}
+use lib.ListN.{length, take}
+use lib.Seq.{paste}
 use Rattle.table.specs.TheTable.{sealed}
-use Rattle.changes.proofs.Sums.{body_of, marked-long, relined, sealed-agrees, sealed-long, sealed-set}
 use Rattle.changes.proofs.write_line.Given as goal
 
 abbrev pub invariant-loop-i : goal.invariant-loop-i

@@ -1,13 +1,12 @@
 -- Two stores, three writes and the sums: `others_put` of Blocks.
 use mathlib.Core.Path.{ap, ◌∙◌}
 use mathlib.Core.List.{List}
-use Prim.Native.Nat.{ℕ, ◌-◌}
+use Prim.Native.Nat.{ℕ}
 use native.Mathlib.Omega.{arith}
 use lib.ListN.{take, length-set}
 use Rattle.octets.specs.Texts.{put}
 use Rattle.table.specs.TheTable.{sealed}
 use Rattle.changes.proofs.Blocks.{others_put}
-use borrow.Author.Rules.{rules}
 use Rattle.changes.proofs.write_others.Goals as goal
 
 pub put_zeros-requires : goal.put_zeros-requires

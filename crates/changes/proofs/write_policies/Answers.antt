@@ -5,7 +5,6 @@ use lib.ListN.{length}
 use lib.Seq.{length-take-le}
 use Rattle.table.specs.TheTable.{place_length, block_length, Policies}
 use Rattle.changes.proofs.Rows.{routed-long, routed-short}
-use borrow.Author.Rules.{rules}
 use Rattle.changes.proofs.write_policies.Goals as goal
 
 pub slice_bounds-write_policy-end : goal.slice_bounds-write_policy-end

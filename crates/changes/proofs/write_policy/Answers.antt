@@ -1,10 +1,9 @@
 -- Two stores, two writes and the sums: `policy-put` of Blocks.
 use mathlib.Core.Path.{ap, ◌∙◌}
 use mathlib.Core.List.{List}
-use Prim.Native.Nat.{ℕ, ◌-◌}
+use Prim.Native.Nat.{ℕ}
 use native.Mathlib.Omega.{arith}
 use lib.ListN.{take, length-set}
-use borrow.Author.Rules.{rules}
 use Rattle.octets.specs.Texts.{put}
 use Rattle.table.specs.TheTable.{sealed}
 use Rattle.changes.proofs.Blocks.{policy-put}

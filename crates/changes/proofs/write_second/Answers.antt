@@ -1,12 +1,11 @@
 -- Two writes into a zero block and the sums: `second-put` of Blocks.
 use mathlib.Core.Path.{◌≡◌, ap, ◌∙◌}
 use mathlib.Core.List.{List, [], ◌∷◌}
-use Prim.Native.Nat.{ℕ, ◌-◌}
+use Prim.Native.Nat.{ℕ}
 use lib.ListN.{length, take}
 use Rattle.octets.specs.Texts.{put, zeros}
 use Rattle.table.specs.TheTable.{block_length, sealed}
 use Rattle.changes.proofs.Blocks.{second-put}
-use borrow.Author.Rules.{rules}
 use Rattle.changes.proofs.write_second.Goals as goal
 
 pub returns : goal.returns

@@ -1,7 +1,5 @@
 -- The four texts in their order.
 use mathlib.Core.Path.{sym, ◌∙◌}
-use borrow.Author.Tests.{not-true, not-false}
-use borrow.Author.Rules.{rules}
 use Rattle.gateway.proofs.access_fits.Goals as goal
 
 pub returns-then-not-is_within : goal.returns-then-not-is_within

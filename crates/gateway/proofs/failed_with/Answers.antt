@@ -1,7 +1,6 @@
 -- Each variant says its code.
 use mathlib.Core.Path.{sym, ap}
 use Rattle.message.specs.Spans.{failed_with}
-use borrow.Author.Rules.{rules}
 use Rattle.gateway.proofs.failed_with.Goals as goal
 
 pub returns-in-Held : goal.returns-in-Held

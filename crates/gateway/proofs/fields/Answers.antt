@@ -1,13 +1,11 @@
 -- The list, then the Session-Id.
 use mathlib.Core.Path.{◌≡◌, sym, ap, ◌∙◌}
 use native.Mathlib.Omega.{arith}
-use borrow.Author.Tests.{not-true, not-false}
 use Rattle.message.specs.ReadingAMessage.{avps}
 use Rattle.message.specs.Spans.{failed_with}
 use Rattle.gateway.specs.TheGateway.{list_code}
 use Rattle.gateway.specs.Code.{fields_code}
 use Rattle.gateway.proofs.Reading.{fields-failed, fields-held, own_same, session-behind, session-other, session-own}
-use borrow.Author.Rules.{rules}
 use Rattle.gateway.proofs.fields.Goals as goal
 
 pub overflow_add-e : goal.overflow_add-e

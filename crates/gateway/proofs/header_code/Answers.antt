@@ -1,7 +1,6 @@
 -- The tests in their order: each way out is a law of Reading.
 use mathlib.Core.Path.{sym, ◌∙◌}
 use Rattle.gateway.proofs.Reading.{header-bits, header-error, header-command, header-application, header-none}
-use borrow.Author.Rules.{rules}
 use Rattle.gateway.proofs.header_code.Goals as goal
 
 pub returns-then-flags-ne0 : goal.returns-then-flags-ne0

@@ -5,7 +5,6 @@ use Rattle.message.specs.Spans.{failed_with}
 use Rattle.message.proofs.Listing.{above_zero}
 use Rattle.gateway.specs.TheGateway.{list_code}
 use Rattle.gateway.proofs.Reading.{fields-failed, fields-held, list-failed, list-rest}
-use borrow.Author.Rules.{rules}
 use Rattle.gateway.proofs.list.Goals as goal
 
 pub returns-then-n-ne0 : goal.returns-then-n-ne0

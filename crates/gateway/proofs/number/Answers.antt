@@ -1,9 +1,7 @@
 -- The tests in their order: each way out is a law of Calls.
 use mathlib.Core.Path.{sym, ◌∙◌}
 use native.Mathlib.Omega.{arith}
-use borrow.Author.Tests.{not-true, not-false}
 use Rattle.gateway.proofs.Calls.{number-host, number-realm, number-answer, number-request, number-access, number-message}
-use borrow.Author.Rules.{rules}
 use Rattle.gateway.proofs.number.Goals as goal
 
 pub returns-then-not-is_within : goal.returns-then-not-is_within

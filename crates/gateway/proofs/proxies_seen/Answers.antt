@@ -1,6 +1,5 @@
 -- The slot of Proxy-Info: `proxies-are`.
 use Rattle.gateway.proofs.Reading.{proxies-are}
-use borrow.Author.Rules.{rules}
 use Rattle.gateway.proofs.proxies_seen.Goals as goal
 
 pub returns : goal.returns

@@ -5,7 +5,6 @@ use Rattle.answers.specs.Answers.{Written}
 use Rattle.answers.proofs.Writing.{avp-most}
 use Rattle.gateway.specs.TheGateway.{vendor_avp}
 use Rattle.gateway.proofs.Writing.{short, vendor-most, visited-most, written-access}
-use borrow.Author.Rules.{rules}
 use Rattle.gateway.proofs.put_access.Goals as goal
 
 -- what stands in the room comes before the bounds: a wrong request is refused here

@@ -3,7 +3,6 @@ use native.Mathlib.Omega.{arith}
 use Rattle.message.specs.Codes.{plain}
 use Rattle.answers.proofs.Writing.{avp-most, copied-most, result-most, session-most}
 use Rattle.gateway.proofs.Writing.{answer-put, body-fits, own-walked, written-answer}
-use borrow.Author.Rules.{rules}
 use Rattle.gateway.proofs.put_answer.Goals as goal
 
 -- what stands in the room comes before the bounds: a wrong answer is refused here

@@ -1,7 +1,6 @@
 -- The four bytes of the code are the value of Result-Code.
 use Rattle.octets.specs.Numbers.{in32}
 use Rattle.message.specs.WritingTheAnswer.{result_avp}
-use borrow.Author.Rules.{rules}
 use Rattle.gateway.proofs.put_code.Goals as goal
 
 pub returns : goal.returns

@@ -4,7 +4,6 @@ use Prim.Native.Nat.{◌/◌, ◌%◌}
 use native.Mathlib.Omega.{arith}
 use Rattle.octets.specs.Numbers.{in24, in32}
 use Rattle.gateway.specs.Code.{request_head}
-use borrow.Author.Rules.{rules}
 use Rattle.gateway.proofs.put_request_head.Goals as goal
 
 pub returns : goal.returns

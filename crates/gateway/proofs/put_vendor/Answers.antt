@@ -3,7 +3,6 @@ use native.Mathlib.Omega.{arith}
 use Rattle.octets.specs.Numbers.{up4}
 use Rattle.octets.specs.Texts.{zeros}
 use Rattle.gateway.proofs.Writing.{length-vendor, vendor-put}
-use borrow.Author.Rules.{rules}
 use Rattle.gateway.proofs.put_vendor.Goals as goal
 
 pub returns : goal.returns

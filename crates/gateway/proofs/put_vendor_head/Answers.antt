@@ -1,7 +1,6 @@
 -- The twelve bytes are those of the definition.
 use Rattle.octets.specs.Numbers.{in24, in32}
 use Rattle.gateway.specs.Code.{vendor_head}
-use borrow.Author.Rules.{rules}
 use Rattle.gateway.proofs.put_vendor_head.Goals as goal
 
 pub returns : goal.returns

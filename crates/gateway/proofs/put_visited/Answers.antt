@@ -3,7 +3,6 @@ use native.Mathlib.Omega.{arith}
 use Rattle.gateway.specs.TheGateway.{visited_avp}
 use Rattle.answers.proofs.Writing.{written_none}
 use Rattle.gateway.proofs.Writing.{visited-none, visited-is}
-use borrow.Author.Rules.{rules}
 use Rattle.gateway.proofs.put_visited.Goals as goal
 
 pub returns-then-visited-eq0 : goal.returns-then-visited-eq0

@@ -2,7 +2,6 @@
 use mathlib.Core.Path.{refl, sym, ◌∙◌}
 use Rattle.octets.specs.Texts.{zeros}
 use Rattle.gateway.proofs.Reading.{copying-is, heard-header, heard-walk, reading-is}
-use borrow.Author.Rules.{rules}
 use Rattle.gateway.proofs.read.Goals as goal
 
 pub returns-then-h-ne0 : goal.returns-then-h-ne0

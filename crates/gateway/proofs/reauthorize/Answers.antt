@@ -4,7 +4,6 @@ use mathlib.Core.Bool.{Bool}
 use lib.ListN.{length}
 use Rattle.gateway.specs.Code.{access_of, call_of, number_by}
 use Rattle.gateway.proofs.Calls.{fits-is, leaves-number, number_is}
-use borrow.Author.Rules.{rules}
 use Rattle.gateway.proofs.reauthorize.Goals as goal
 
 pub returns-then-n-ne0 : goal.returns-then-n-ne0

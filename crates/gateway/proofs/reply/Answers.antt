@@ -1,5 +1,4 @@
 -- A refusal is answered with its code; else the answer is 2001, and the names that the AA-Request repeats are those that were read.
-use borrow.Enum.Refused.{opened}
 use mathlib.Core.Path.{◌≡◌, sym, ap, ◌∙◌}
 use Prim.Native.Nat.{◌≤◌}
 use native.Mathlib.Omega.{arith}
@@ -10,7 +9,6 @@ use Rattle.gateway.specs.Code.{call_of}
 use Rattle.gateway.proofs.Calls.{allowed}
 use Rattle.gateway.proofs.Reading.{failed-real, lent-text, origins-short}
 use Rattle.gateway.proofs.Writing.{leaves-going-on, leaves-refused}
-use borrow.Author.Rules.{rules}
 use Rattle.gateway.proofs.reply.Goals as goal
 
 pub read-heard-requires : goal.read-heard-requires
@@ -39,7 +37,7 @@ returns-in_default c =
     let pre-was = c.requires in
     let put-answer-was = c.put_answer-length in
     let e : reading_code given.session.now given.message.now ≡ failed-with-was.result = read-was.ensures.reading.code_is ∙ sym failed-with-was.ensures in
-    let h : 1 ≤ failed-with-was.result = rw failed-with-was.ensures (failed-real given.message.now (reading_code given.session.now given.message.now) read-was.result.fields read-was.ensures.reading (opened match-was.in_default-own.keys2)) in
+    let h : 1 ≤ failed-with-was.result = rw failed-with-was.ensures (failed-real given.message.now (reading_code given.session.now given.message.now) read-was.result.fields read-was.ensures.reading match-was.in_default-own.keys2) in
     leaves-refused (call_of given.host.now given.realm.now given.session.now given.user.now given.label.now given.visited.now given.message.now given.hop given.end given.answer.now given.request.now) (pre-was) failed-with-was.result put-answer-was.result put-answer-was.new.room e h put-answer-was.ensures
 
 pub overflow_add-a_end : goal.overflow_add-a_end

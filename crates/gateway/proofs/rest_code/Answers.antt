@@ -11,13 +11,13 @@ use Rattle.message.specs.Spans.{bytes_field}
 use Rattle.message.proofs.Listing.{go_on, stop}
 use Rattle.gateway.specs.Code.{rest_code}
 use Rattle.gateway.proofs.Reading.{rest-is}
-use borrow.Author.Rules.{rules}
 use Rattle.gateway.proofs.rest_code.Goals as goal
+use Rattle.gateway.proofs.rest_code.Goals.{In-Found}
 
 abbrev behind : List Avp → List ℕ
 behind xs = field_code xs (number_field re_auth_request_type 0 0) ∷ []
 
-passed : (p : goal.In-Found) → rest_code (avps p.args.m.now) ≡ first_of (behind (avps p.args.m.now))
+passed : (p : In-Found) → rest_code (avps p.args.m.now) ≡ first_of (behind (avps p.args.m.now))
 unfolding text_field bytes_field name_at names
 passed p =
     let m = p.args.m.now in
@@ -36,16 +36,18 @@ returns-in_default c =
 pub returns-in_default-t : goal.returns-in_default-t
 unfolding number_field name_at names
 returns-in_default-t c =
+    let w = goal.at.returns-in_default-t c in
     let m = c.args.m.now in
     let st = stop m (number_field re_auth_request_type 0 0) [] c.number_field-t.result c.refusal-in_default-t.result
     c.number_field-t.ensures refl (opened c.in_default-t.in_default-t-own.keys2) c.refusal-in_default-t.ensures in
-    sym (passed c.before.before.before ∙ st.0)
+    sym (passed w.In-Found ∙ st.0)
 
 pub returns : goal.returns
 unfolding number_field name_at names first_of
 returns c =
+    let w = goal.at.returns c in
     let m = c.args.m.now in
     sym
-    (passed c.before.before.before
+    (passed w.In-Found
     ∙ go_on m (number_field re_auth_request_type 0 0) [] c.number_field-t.result c.in-Found-t.field-0
     c.number_field-t.ensures c.in-Found-t.is)

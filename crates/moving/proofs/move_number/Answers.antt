@@ -2,12 +2,10 @@
 use mathlib.Core.Path.{◌≡◌, refl, sym, ◌∙◌}
 use Prim.Native.Nat.{◌-◌, ◌*◌, ◌/◌}
 use native.Mathlib.Omega.{arith}
-use borrow.Author.Tests.{not-true, not-false}
 use lib.ListN.{length}
 use Rattle.table.proofs.Rows.{width-least}
 use Rattle.moving.proofs.Loops.{no_other}
 use Rattle.moving.proofs.Steps.{both_small, by-more, by-room, by_rows, by-table, product-fits, to_one, to-two}
-use borrow.Author.Rules.{rules}
 use Rattle.moving.proofs.move_number.Goals as goal
 
 pub returns-then-form-gt3 : goal.returns-then-form-gt3

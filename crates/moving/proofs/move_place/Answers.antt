@@ -3,7 +3,6 @@ use mathlib.Core.Path.{◌≡◌, ◌∙◌}
 use native.Mathlib.Omega.{arith}
 use lib.ListN.{length, length-set, set}
 use Rattle.moving.proofs.Loops.{free-block, one_block, used-block}
-use borrow.Author.Rules.{rules}
 use Rattle.table.specs.TheTable.{block_length}
 use Rattle.moving.proofs.move_place.Goals as goal
 

@@ -1,13 +1,12 @@
 use mathlib.Core.Path.{◌≡◌, refl, ap, ◌∙◌}
-use Prim.Native.Nat.{ℕ, ◌+◌, ◌-◌, ◌*◌, ◌/◌, ◌%◌, ◌≤◌}
+use Prim.Native.Nat.{ℕ, ◌+◌, ◌*◌, ◌/◌, ◌%◌}
 use native.Mathlib.Omega.{arith}
-use lib.ListN.{length, take}
+use lib.ListN.{length}
 use Rattle.octets.proofs.Pieces.{piece-ends}
 use Rattle.table.specs.TheTable.{block_length}
 use Rattle.table.proofs.Rows.{lent_length}
-use Rattle.moving.proofs.Built.{back-built, back-length, built, built-all, built-start}
+use Rattle.moving.proofs.Built.{back-built, back-length, built-all, built-start}
 use Rattle.moving.proofs.Steps.{eight-parts, first-size, place-by, place_from, places-built}
-use borrow.Author.Rules.{rules}
 use Rattle.moving.proofs.move_places.Goals as goal
 
 pub loop-k-init : goal.loop-k-init

@@ -1,14 +1,9 @@
 -- The invariant: the first k places are those copied: `back-built` of Built, and `places-built` of Steps for all eight.
-use mathlib.Core.Path.{◌≡◌, refl, ap, ◌∙◌}
-use Prim.Native.Nat.{ℕ, ◌+◌, ◌-◌, ◌*◌, ◌/◌, ◌%◌, ◌≤◌}
-use native.Mathlib.Omega.{arith}
+use mathlib.Core.Path.{◌≡◌}
+use Prim.Native.Nat.{◌-◌, ◌*◌, ◌≤◌}
 use lib.ListN.{length, take}
-use Rattle.octets.proofs.Pieces.{piece-ends}
-use Rattle.table.specs.TheTable.{block_length}
-use Rattle.table.proofs.Rows.{lent_length}
-use Rattle.moving.proofs.Built.{back-built, back-length, built, built-all, built-start}
-use Rattle.moving.proofs.Steps.{eight-parts, first-size, place-by, place_from, places-built}
-use borrow.Author.Rules.{rules}
+use Rattle.moving.proofs.Built.{built}
+use Rattle.moving.proofs.Steps.{place_from}
 use Rattle.moving.proofs.move_places.Given as goal
 
 abbrev pub invariant-loop-k : goal.invariant-loop-k

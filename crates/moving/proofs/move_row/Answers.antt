@@ -5,7 +5,6 @@ use lib.ListN.{length}
 use Rattle.row.proofs.Entries.{head-size, row-least}
 use Rattle.row.proofs.Places.{row-sizes}
 use Rattle.moving.proofs.Steps.{put-long, rest-long, row_back}
-use borrow.Author.Rules.{rules}
 use Rattle.moving.proofs.move_row.Goals as goal
 
 pub head-requires : goal.head-requires

@@ -1,13 +1,12 @@
 use mathlib.Core.Path.{◌≡◌, refl, ◌∙◌}
-use Prim.Native.Nat.{◌+◌, ◌-◌, ◌*◌, ◌/◌, ◌≤◌}
+use Prim.Native.Nat.{◌+◌, ◌-◌, ◌*◌}
 use native.Mathlib.Omega.{arith}
-use lib.ListN.{length, take}
+use lib.ListN.{length}
 use Rattle.table.specs.Answers.{lent}
 use Rattle.table.proofs.Rows.{lent_length, rows-most, width-least}
-use Rattle.moving.proofs.Built.{back-built, back-length, built, built-start}
+use Rattle.moving.proofs.Built.{back-built, back-length, built-start}
 use Rattle.moving.proofs.Loops.{is-row-at, row_ends}
 use Rattle.moving.proofs.Steps.{part-row, piece_inside, room_most, row_by, row_inside, row_from, rows-moved, source-right, to-small}
-use borrow.Author.Rules.{rules}
 use Rattle.moving.proofs.move_rows.Goals as goal
 
 pub row_length-width-requires : goal.row_length-width-requires

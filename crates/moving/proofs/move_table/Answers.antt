@@ -2,7 +2,6 @@
 use mathlib.Core.Path.{◌≡◌, sym, ◌∙◌}
 use native.Mathlib.Omega.{arith}
 use Rattle.moving.proofs.Steps.{moved, refused}
-use borrow.Author.Rules.{rules}
 use Rattle.moving.proofs.move_table.Goals as goal
 
 pub move_rows-requires : goal.move_rows-requires

@@ -6,7 +6,6 @@ use native.Mathlib.Omega.{arith}
 use lib.ListN.{length}
 use Rattle.row.proofs.Places.{second-whole}
 use Rattle.moving.proofs.Loops.{realm-none, realm-there}
-use borrow.Author.Rules.{rules}
 use Rattle.table.specs.TheTable.{block_length}
 use Rattle.moving.proofs.place_plain.Goals as goal
 

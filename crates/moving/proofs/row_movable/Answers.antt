@@ -1,6 +1,5 @@
 -- Sound, or else wholly zero: `movable-sound` and `movable-zero` of Loops.
 use Rattle.moving.proofs.Loops.{movable-sound, movable-zero}
-use borrow.Author.Rules.{rules}
 use Rattle.moving.proofs.row_movable.Goals as goal
 
 pub returns-then-row_sound : goal.returns-then-row_sound

@@ -1,12 +1,8 @@
-use mathlib.Core.Path.{◌≡◌, sym, ◌∙◌}
-use Prim.Native.Nat.{◌-◌, ◌≤◌}
+use mathlib.Core.Path.{sym, ◌∙◌}
 use native.Mathlib.Omega.{arith}
-use borrow.Author.Tests.{not-true, not-false}
 use Rattle.row.proofs.Entries.{row-least}
 use Rattle.soundness.proofs.Line.{line_low, line-most, place-high}
-use Rattle.moving.specs.Moving.{fits_form1}
-use Rattle.moving.proofs.Loops.{plain-all, plain-on, plain_over, plain-stop, plain_from}
-use borrow.Author.Rules.{rules}
+use Rattle.moving.proofs.Loops.{plain-all, plain-on, plain_over, plain-stop}
 use Rattle.moving.proofs.row_plain.Goals as goal
 
 pub accesses_in_use-n-requires : goal.accesses_in_use-n-requires

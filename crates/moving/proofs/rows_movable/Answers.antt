@@ -1,15 +1,12 @@
-use mathlib.Core.Path.{◌≡◌, refl, sym, ap, ◌∙◌}
+use mathlib.Core.Path.{refl, sym, ap, ◌∙◌}
 use mathlib.Core.Bool.{true, false}
-use Prim.Native.Nat.{ℕ, ◌-◌, ◌/◌, ◌≤◌}
+use Prim.Native.Nat.{ℕ, ◌/◌}
 use native.Mathlib.Omega.{arith}
-use borrow.Author.Tests.{not-true, not-false}
 use lib.ListN.{length}
 use Rattle.table.specs.Answers.{lent}
-use Rattle.table.specs.TheTable.{row_length, rows}
-use Rattle.octets.specs.Lists.{every}
 use Rattle.table.proofs.Rows.{form-top, rows-most, width-least}
 use Rattle.moving.specs.Moving.{movable}
-use Rattle.moving.proofs.Loops.{every-all, every-on, every-over, every-stop, every_from, is-row-at, row_ends, row-there, said_at}
+use Rattle.moving.proofs.Loops.{every-all, every-on, every-over, every-stop, is-row-at, row_ends, row-there, said_at}
 use Rattle.moving.proofs.rows_movable.Goals as goal
 
 pub row_length-requires : goal.row_length-requires

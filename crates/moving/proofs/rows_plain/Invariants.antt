@@ -1,18 +1,12 @@
 -- As `rows_movable`. A row that moves has an exact order line: `exact-at` of Steps.
-use mathlib.Core.Path.{◌≡◌, refl, sym, ap, ◌∙◌}
-use mathlib.Core.Bool.{true, false}
-use Prim.Native.Nat.{ℕ, ◌-◌, ◌/◌, ◌≤◌}
-use native.Mathlib.Omega.{arith}
-use borrow.Author.Tests.{not-true, not-false}
+use mathlib.Core.Path.{◌≡◌}
+use Prim.Native.Nat.{◌-◌, ◌/◌, ◌≤◌}
 use lib.ListN.{length}
 use Rattle.octets.specs.Lists.{every}
 use Rattle.table.specs.Answers.{lent}
-use Rattle.table.specs.Soundness.{is_row}
 use Rattle.table.specs.TheTable.{row_length, rows}
-use Rattle.table.proofs.Rows.{form-top, rows-most, width-least}
 use Rattle.moving.specs.Moving.{fits_form1}
-use Rattle.moving.proofs.Loops.{every-all, every-on, every-over, every-stop, every_from, is-row-at, row_ends, row-there, said_at}
-use Rattle.moving.proofs.Steps.{exact-at}
+use Rattle.moving.proofs.Loops.{every_from}
 use Rattle.moving.proofs.rows_plain.Given as goal
 
 abbrev pub invariant-loop-i : goal.invariant-loop-i

@@ -4,7 +4,6 @@ use native.Mathlib.Omega.{arith}
 use lib.ListN.{drop}
 use Rattle.message.proofs.Walks.{head-least}
 use Rattle.reader.proofs.Laws.{head-12, head-8, fault-few, fault-bits, fault-short, fault_past}
-use borrow.Author.Rules.{rules}
 use Rattle.reader.proofs.fault_at.Goals as goal
 
 pub returns-then-m-at-lt8 : goal.returns-then-m-at-lt8

@@ -2,7 +2,6 @@
 use mathlib.Core.Path.{sym, ◌∙◌}
 use native.Mathlib.Omega.{arith}
 use Rattle.reader.proofs.Laws.{head-12, head-8, inside, inside-8, long-enough, seen-v, seen-base}
-use borrow.Author.Rules.{rules}
 use Rattle.reader.proofs.seen_at.Goals as goal
 
 pub bounds-m-at : goal.bounds-m-at

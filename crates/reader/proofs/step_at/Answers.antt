@@ -7,7 +7,6 @@ use Rattle.message.specs.Positions.{spot_at}
 use Rattle.message.proofs.Gathering.{slot-says, head-is-one, head-is-bad}
 use Rattle.reader.specs.declared.Step.TheVariants.{One, Bad}
 use Rattle.reader.proofs.Laws.{step_end, step-one, step-bad}
-use borrow.Author.Rules.{rules}
 use Rattle.reader.proofs.step_at.Goals as goal
 
 pub returns-then-m-at : goal.returns-then-m-at

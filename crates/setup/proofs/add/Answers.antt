@@ -1,7 +1,7 @@
 -- One law of SetUps for each way out: `add-first`, `add-12`, `add-refused`, `add_done`.
 use mathlib.Core.Path.{◌≡◌, sym, ap, ◌∙◌}
 use mathlib.Core.List.{List}
-use Prim.Native.Nat.{ℕ, ◌+◌, ◌-◌, ◌*◌, ◌≤◌}
+use Prim.Native.Nat.{ℕ, ◌+◌, ◌*◌, ◌≤◌}
 use native.Mathlib.Omega.{arith}
 use lib.ListN.{length}
 use Rattle.table.specs.Answers.{found, lent, row_end}
@@ -9,7 +9,6 @@ use Rattle.table.specs.TheTable.{Account, Entry, Table, row_at, row_length}
 use Rattle.table.proofs.Rows.{first-table, form_in, form-top, lent_row}
 use Rattle.setup.specs.SetUp.{entry_number}
 use Rattle.setup.proofs.SetUps.{Passed, add-12, add_done, add-first, add-refused, entry-passed, label-fits, lent-is-row}
-use borrow.Author.Rules.{rules}
 use Rattle.setup.proofs.add.Goals as goal
 
 pub returns-then-n-ne0 : goal.returns-then-n-ne0

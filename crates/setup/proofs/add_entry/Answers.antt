@@ -10,7 +10,6 @@ use Rattle.table.specs.TheTable.{Entry, form_of, read_row, row_at, row_bytes}
 use Rattle.table.proofs.Rows.{lent_row}
 use Rattle.changes.specs.Changes.{with_entry}
 use Rattle.changes.proofs.Rows.{back-row, lent-form}
-use borrow.Author.Rules.{rules}
 use Rattle.setup.proofs.add_entry.Goals as goal
 
 pub overflow_mul-a : goal.overflow_mul-a

@@ -1,6 +1,4 @@
 -- Refused by number 1, or every byte zero: `clear-refused` and `clear-done` of SetUps.
-use Prim.Native.Nat.{◌-◌}
-use borrow.Author.Rules.{rules}
 use Rattle.table.specs.Answers.{lent}
 use Rattle.setup.proofs.SetUps.{clear-done, clear-refused}
 use Rattle.setup.proofs.clear.Goals as goal

@@ -1,8 +1,6 @@
 -- The numbers before 11, then 11, and the row: `enter-early`, `enter-11`, `enter-done` of SetUps.
 use mathlib.Core.Path.{sym, ap, ◌∙◌}
-use Prim.Native.Nat.{◌-◌}
 use native.Mathlib.Omega.{arith}
-use borrow.Author.Rules.{rules}
 use borrow.Author.Tests.{leb-true}
 use Rattle.table.specs.Answers.{found, lent, row_end}
 use Rattle.table.proofs.Bytes.{name-length}

@@ -1,8 +1,6 @@
 -- One law of SetUps for each number, in order.
 use mathlib.Core.Path.{sym, ap, ◌∙◌}
-use Prim.Native.Nat.{◌-◌}
 use native.Mathlib.Omega.{arith}
-use borrow.Author.Rules.{rules}
 use borrow.Author.Tests.{leb-true}
 use Rattle.table.specs.Answers.{found, lent}
 use Rattle.setup.specs.SetUp.{share}

@@ -8,7 +8,6 @@ use Rattle.table.specs.TheTable.{form_of, row_bytes}
 use Rattle.changes.specs.Changes.{named}
 use Rattle.changes.proofs.Rows.{back-row, lent-form}
 use Rattle.setup.proofs.SetUps.{lent-full}
-use borrow.Author.Rules.{rules}
 use Rattle.setup.proofs.enter_row.Goals as goal
 
 pub overflow_mul-a : goal.overflow_mul-a

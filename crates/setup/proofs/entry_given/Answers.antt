@@ -1,5 +1,4 @@
 -- A test that fails refuses, the last one decides: `not-given` and `given-last` of SetUps.
-use Prim.Native.Nat.{◌-◌}
 use native.Mathlib.Omega.{arith}
 use lib.ListN.{length}
 use Rattle.setup.proofs.SetUps.{given-last, not-given}

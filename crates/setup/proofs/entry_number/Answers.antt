@@ -1,6 +1,4 @@
 -- An unsound row is 13: `entry-13` of SetUps; the other numbers are those of a sound row.
-use Prim.Native.Nat.{◌-◌}
-use borrow.Author.Rules.{rules}
 use Rattle.table.specs.TheTable.{Entry}
 use Rattle.table.proofs.Tests.{fails, passes_on}
 use Rattle.setup.proofs.SetUps.{entry-13}

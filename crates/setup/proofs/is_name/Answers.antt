@@ -1,7 +1,5 @@
 -- The length decides first, then the digits: `name-rest` of SetUps.
 use mathlib.Core.Path.{◌∙◌}
-use Prim.Native.Nat.{◌-◌}
-use borrow.Author.Rules.{rules}
 use Rattle.setup.proofs.SetUps.{name-long, name-rest, name-short}
 use Rattle.setup.proofs.is_name.Goals as goal
 

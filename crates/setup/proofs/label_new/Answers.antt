@@ -1,15 +1,12 @@
 use mathlib.Core.Bool.{not}
-use mathlib.Core.Path.{◌≡◌, sym, ap, ◌∙◌}
+use mathlib.Core.Path.{sym, ap, ◌∙◌}
 use mathlib.Core.List.{List, []}
-use Prim.Native.Nat.{ℕ, ◌-◌, ◌≤◌}
+use Prim.Native.Nat.{ℕ}
 use native.Mathlib.Omega.{arith}
-use lib.ListN.{drop}
-use Rattle.octets.specs.Lists.{every}
 use Rattle.table.specs.Soundness.{labels, same_label}
 use Rattle.table.specs.TheTable.{read_entries}
 use Rattle.table.proofs.Tests.{every-end, every-on-true, every-out}
 use Rattle.table.proofs.Entries.{label-size, labels_at, length-labels}
-use borrow.Author.Rules.{rules}
 use Rattle.setup.proofs.label_new.Goals as goal
 
 pub label-requires : goal.label-requires

@@ -6,7 +6,6 @@ use Rattle.table.specs.TheTable.{Entry}
 use Rattle.table.proofs.Tests.{fails, passes_on}
 use Rattle.row.proofs.Entries.{count-is, least-of, length-room, most-four}
 use Rattle.setup.proofs.SetUps.{entry-0, entry-14, entry-15, entry-16, entry-17, form-said, label-said, sum_said}
-use borrow.Author.Rules.{rules}
 use Rattle.setup.proofs.next_number.Goals as goal
 
 pub returns-then-not-entry_given : goal.returns-then-not-entry_given

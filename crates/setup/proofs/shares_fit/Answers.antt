@@ -1,7 +1,5 @@
 -- Sixteen of them, and their sum.
-use Prim.Native.Nat.{◌-◌}
 use native.Mathlib.Omega.{arith}
-use borrow.Author.Rules.{rules}
 use Rattle.table.specs.Answers.{lent}
 use Rattle.table.proofs.Rows.{width-least}
 use Rattle.setup.proofs.SetUps.{shares-few, shares-sum-said}

@@ -1,12 +1,8 @@
 -- The invariant: the sum so far is that of the first i shares, each of which 32 bits hold.
-use mathlib.Core.Path.{◌≡◌, ap, ◌∙◌}
+use mathlib.Core.Path.{◌≡◌}
 use Prim.Native.Nat.{◌*◌, ◌-◌, ◌≤◌}
-use native.Mathlib.Omega.{arith}
 use lib.ListN.{take}
-use borrow.Author.Rules.{rules}
-use lib.Seq.{take_all}
 use Rattle.octets.specs.Lists.{sum_of}
-use Rattle.setup.proofs.SetUps.{sum-none, sum_step}
 use Rattle.setup.proofs.shares_sum.Given as goal
 
 abbrev pub invariant-loop-i : goal.invariant-loop-i
