@@ -135,7 +135,6 @@ fn run_in(sys: &System, word: &[u8], table: &mut [u8; 8912897], spare: &mut [u8]
 
 // One room more, where the first is the one to spare.
 #[cycle(run_below_run_large)]
-#[cycle(rooms)]
 fn run_below(sys: &System, word: &[u8], more: usize, room: &mut [u8; 8912897])
     requires { 1 ≤ more }
 {
@@ -145,7 +144,6 @@ fn run_below(sys: &System, word: &[u8], more: usize, room: &mut [u8; 8912897])
 // The rooms for 1,024 rows of either form, one below the other. The compiler does not lay a function that calls itself into another, so they take
 // nothing of the stack where this function is not called.
 #[cycle(run_below_run_large)]
-#[cycle(rooms)]
 fn run_large(sys: &System, word: &[u8], more: usize, spare: &mut [u8]) {
     let mut room = [0u8; 8912897];
     if 0 < more {
