@@ -86,8 +86,7 @@ write_realm-realm-requires c =
     let at-was = c.at-row in
     let noted = c.notice-1 in
     let t = lent given.form given.table.now in
-    let two = c.if-form-ne2.false in
-    (
+    let two = c.if-form-ne2.false in (
       omega (arith, notice-long given.form two, pre-was.0, noted.given),
       ap sound at-was.ensures ∙ pre-was.3,
       ap (λ (s : List ℕ). is_on (order_line s) given.k) at-was.ensures ∙ pre-was.4,

@@ -40,8 +40,7 @@ on_reading-decided-requires c =
     let t = lent given.form given.table.now in
     let m = c.args.message.now in
     let z : call_number t (call_of given.op m given.host.now given.realm.now given.answer.now given.notice.now given.wag) ≡ 0 = sym (call-number-was.ensures given.wag) ∙ test1.false in
-    let heard = c.read-heard.ensures in
-    (
+    let heard = c.read-heard.ensures in (
       notice-fits t given.op m given.host.now given.realm.now given.answer.now given.notice.now given.wag z,
       table-right t given.op m given.host.now given.realm.now given.answer.now given.notice.now given.wag z,
       heard.reading ∙ ap (λ (n : ℕ). read n m) most-policies-was.ensures.0,
