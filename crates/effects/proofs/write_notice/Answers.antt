@@ -16,7 +16,6 @@ use Rattle.rules.specs.Calls.{notice_room}
 use Rattle.effects.specs.Carrying.{cut_for}
 use Rattle.effects.specs.declared.Cut.TheVariants.{Lengths}
 use Rattle.effects.proofs.Rooms.{at_least, at_most, at-place-is, form-there, notice-least, notice-long, notice-one, notice-two, realm-none, texts-are}
-use borrow.Author.Rules.{rules}
 use Rattle.effects.proofs.write_notice.Goals as goal
 
 pub notice_rooms-requires : goal.notice_rooms-requires
@@ -86,8 +85,7 @@ write_realm-realm-requires c =
     let at-was = c.at-row in
     let noted = c.notice-1 in
     let t = lent given.form given.table.now in
-    let two = c.if-form-ne2.false in
-    (
+    let two = c.if-form-ne2.false in (
       omega (arith, notice-long given.form two, pre-was.0, noted.given),
       ap sound at-was.ensures ∙ pre-was.3,
       ap (λ (s : List ℕ). is_on (order_line s) given.k) at-was.ensures ∙ pre-was.4,

@@ -6,12 +6,12 @@ use Rattle.numbers.proofs.kind_number.Goals as goal
 
 pub returns-in-NoAnswer : goal.returns-in-NoAnswer
 unfolding kind_of code_from
-returns-in-NoAnswer c = rw c.in-NoAnswer.is
+returns-in-NoAnswer c = λ code. rw c.in-NoAnswer.is
 
 pub returns-in-Plain : goal.returns-in-Plain
 unfolding kind_of code_from
-returns-in-Plain c = rw c.in-Plain.is
+returns-in-Plain c = λ code. rw c.in-Plain.is
 
 pub returns-in-Experimental : goal.returns-in-Experimental
 unfolding kind_of code_from
-returns-in-Experimental c = rw c.in-Experimental.is
+returns-in-Experimental c = λ code. rw c.in-Experimental.is

@@ -1,4 +1,5 @@
 -- A required field by `refusal`, any other by the cases of the answer.
+use borrow.Enum.Refused.{opened}
 use mathlib.Core.Path.{◌≡◌, refl}
 use mathlib.Core.Bool.{false}
 use mathlib.Core.List.{[], ◌∷◌}
@@ -26,4 +27,4 @@ unfolding code_of
 returns-in-Code c = rw c.in-Code.is
 
 pub returns-in_default : goal.returns-in_default
-returns-in_default c = rw c.if-required.false (no_code c.args.g c.in_default.in_default-own.keys2)
+returns-in_default c = rw c.if-required.false (no_code c.args.g (opened c.in_default.in_default-own.keys2))

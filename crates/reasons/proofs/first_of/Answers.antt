@@ -1,4 +1,5 @@
 -- By the first of the two.
+use borrow.Enum.Refused.{opened}
 use mathlib.Core.Path.{◌≡◌, refl, sym}
 use mathlib.Core.List.{[], ◌∷◌}
 use types.Run.{OneOf, miss}
@@ -47,4 +48,4 @@ returns-in-Passes c =
     rw c.in-Passes.is (sym (only b))
 
 pub returns-in_default : goal.returns-in_default
-returns-in_default c = fails-first c.args.a (check_named c.args.b) c.in_default.in_default-own.keys2
+returns-in_default c = fails-first c.args.a (check_named c.args.b) (opened c.in_default.in_default-own.keys2)

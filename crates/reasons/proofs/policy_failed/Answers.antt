@@ -1,4 +1,5 @@
 -- Asked as if the gateway said yes, the plan tells whether there is an access: `policy-planned` of OnRow.
+use borrow.Enum.Refused.{opened}
 use mathlib.Core.Path.{sym, ap, ◌∙◌}
 use Rattle.order.specs.ChecksInOrder.{check, gateway_says_no}
 use Rattle.message.specs.Codes.{plain}
@@ -28,7 +29,7 @@ returns-then-wag c =
     let p = c.plan_policy-plan in
     λ first second third.
     ap (λ b. check gateway_says_no b (plain 5012)) (sym c.if-wag.true)
-    ∙ policy-goes a.wag p.result c.in_default.in_default-own.keys2
+    ∙ policy-goes a.wag p.result (opened c.in_default.in_default-own.keys2)
     ∙ policy-planned a.session.now first second third (read_row a.row.now) (opening a.session.now) a.wag p.result (p.ensures.0 _ _)
 
 pub returns : goal.returns
@@ -38,5 +39,5 @@ returns c =
     let p = c.plan_policy-plan in
     λ first second third.
     ap (λ b. check gateway_says_no b (plain 5012)) (sym c.if-wag.false)
-    ∙ policy-goes a.wag p.result c.in_default.in_default-own.keys2
+    ∙ policy-goes a.wag p.result (opened c.in_default.in_default-own.keys2)
     ∙ policy-planned a.session.now first second third (read_row a.row.now) (opening a.session.now) a.wag p.result (p.ensures.0 _ _)

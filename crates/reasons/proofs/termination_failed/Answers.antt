@@ -1,4 +1,5 @@
 -- `end-planned` of OnRow.
+use borrow.Enum.Refused.{opened}
 use mathlib.Core.Path.{sym, ap, ◌∙◌}
 use Rattle.octets.specs.Choice.{pick}
 use Rattle.plans.specs.declared.Plan.{Plan}
@@ -25,5 +26,5 @@ returns-in_default c =
     let a = c.args in
     let p = c.plan_termination in
     λ wag.
-    end-passes p.result c.in_default.in_default-own.keys2
+    end-passes p.result (opened c.in_default.in_default-own.keys2)
     ∙ end-planned a.session.now a.label.now wag (read_row a.row.now) (opening a.session.now) p.result (p.ensures.0 _ _)

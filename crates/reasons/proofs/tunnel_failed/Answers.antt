@@ -1,4 +1,5 @@
 -- Refusal by refusal: `tunnel-planned` of OnRow.
+use borrow.Enum.Refused.{opened}
 use mathlib.Core.Path.{refl, sym, ap, ◌∙◌}
 use Rattle.octets.specs.Choice.{pick}
 use Rattle.plans.specs.declared.Plan.{Plan}
@@ -52,5 +53,5 @@ returns-in_default c =
     let a = c.args in
     let p = c.plan_tunnel in
     λ host realm wag.
-    tunnel-passes p.result c.in_default.in_default-own.keys5
+    tunnel-passes p.result (opened c.in_default.in_default-own.keys5)
     ∙ tunnel-planned host realm a.label.now a.visited wag (read_row a.row.now) (opening a.session.now) p.result (p.ensures.0 _ _ refl)

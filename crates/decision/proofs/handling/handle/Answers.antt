@@ -1,13 +1,12 @@
 -- A number, or what is decided and answered.
 use mathlib.Core.Path.{◌≡◌, sym, ap, ◌∙◌}
-use Prim.Native.Nat.{ℕ, ◌-◌}
+use Prim.Native.Nat.{ℕ}
 use Rattle.message.specs.ReadingAMessage.{read}
 use Rattle.table.specs.Answers.{lent}
 use Rattle.rules.specs.Calls.{call_number}
 use Rattle.decision.specs.Outcomes.{call_of}
 use Rattle.decision.proofs.Answered.{written_is}
 use Rattle.decision.proofs.Numbers.{handled, is-ready, notice-fits, silent-is, table-right, unanswered}
-use borrow.Author.Rules.{rules}
 use Rattle.decision.proofs.handling.handle.Goals as goal
 
 pub returns-then-n-ne0 : goal.returns-then-n-ne0
@@ -40,8 +39,7 @@ on_reading-decided-requires c =
     let t = lent given.form given.table.now in
     let m = c.args.message.now in
     let z : call_number t (call_of given.op m given.host.now given.realm.now given.answer.now given.notice.now given.wag) ≡ 0 = sym (call-number-was.ensures given.wag) ∙ test1.false in
-    let heard = c.read-heard.ensures in
-    (
+    let heard = c.read-heard.ensures in (
       notice-fits t given.op m given.host.now given.realm.now given.answer.now given.notice.now given.wag z,
       table-right t given.op m given.host.now given.realm.now given.answer.now given.notice.now given.wag z,
       heard.reading ∙ ap (λ (n : ℕ). read n m) most-policies-was.ensures.0,
