@@ -76,7 +76,7 @@ fn open_with_cut(
     requires { (notice_length form ≤ length notice.old) × (form ≤ 2) × (row_length form * i + row_length form ≤ length table.old) × (sound (row_at (lent form table.old) i) ≡ true)
         × (is_on (order_line (row_at (lent form table.old) i)) k ≡ true) × (n ≤ 4) × (length session.now ≤ 128) × (length host.now ≤ 128) × (length realm.now ≤ 128) }
     ensures { (lent form table.new
-        ≡ with_row (lent form table.old) i (row_bytes form (opened n (record { session = session.entry.now; host = host.now; realm = kept_in form realm.now }) (freed k (read_row (row_at (lent form table.old) i))))))
+        ≡ with_row (lent form table.old) i (row_bytes form (opened n (record { session = session.now; host = host.now; realm = kept_in form realm.now }) (freed k (read_row (row_at (lent form table.old) i))))))
         × (notice.new ≡ notice_room form (at_place k (read_row (row_at (lent form table.old) i)).accesses) notice.old)
         × (result ≡ record { place = lowest_free (freed k (read_row (row_at (lent form table.old) i))).accesses; cut = cut_for (at_place k (read_row (row_at (lent form table.old) i)).accesses) }) }
 {

@@ -1,7 +1,7 @@
 -- The theorem of specs/TheGatewaysRules: the walk reads the seven AVPs as they were laid out, and each passes its test.
 use mathlib.Core.Path.{◌≡◌, refl, sym, ap, ◌∙◌}
 use mathlib.Core.Bool.{true}
-use mathlib.Core.List.{List, [], ◌∷◌, ◌++◌}
+use mathlib.Core.List.{List, [], ◌∷◌}
 use Prim.Native.Nat.{ℕ, ◌+◌, ◌%◌, ◌≤◌}
 use native.Mathlib.Omega.{arith}
 use borrow.Author.Tests.{eq-eqb, le-leb}
@@ -21,7 +21,7 @@ use Rattle.answers.proofs.Writing.{avp-most}
 use Rattle.abort.specs.TheDisconnection.{header}
 use Rattle.abort.specs.TheDisconnectionsRules.{sent}
 use Rattle.abort.proofs.Laid.{avp-four, avp-read, both-four, last-read, body-read}
-use Rattle.gateway.specs.TheGateway.{Call, Texts, call_number, fields, header_code, list_code, reading_code, reauthorize, replied, request, texts_of}
+use Rattle.gateway.specs.TheGateway.{Texts, call_number, fields, header_code, list_code, reading_code, reauthorize, replied, request, texts_of}
 use Rattle.gatewaylaws.specs.TheGatewaysRules.{Fit, GoesOn, LaidOutNoNumber, ReadAsLaidOut, re_auth_avps, re_auth_request}
 
 -- the seven as they are read

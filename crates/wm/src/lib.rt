@@ -51,7 +51,7 @@ pub extern "C" fn wm_add(
     flags: u8,
 ) -> u32
     ensures { left result (lent form table.new)
-        ≡ add (lent form table.old) (record { operator = op; name = name.now }) (record { label = label.entry.now; flags = flags; limit = limit }) }
+        ≡ add (lent form table.old) (record { operator = op; name = name.now }) (record { label = label.now; flags = flags; limit = limit }) }
 {
     setup::add(table, form, op, name, label, limit, flags)
 }

@@ -1,0 +1,13 @@
+-- The digest of all but the last four bytes is compared with the number in them.
+use mathlib.Core.Path.{◌≡◌}
+use Prim.Native.Nat.{◌-◌}
+use native.Mathlib.Omega.{arith}
+use lib.ListN.{length}
+use borrow.Author.Rules.{rules}
+use Rattle.replay_script.proofs.is_checked.Goals as goal
+
+pub returns : goal.returns
+returns c =
+    let w = c.args.whole.now in
+    let from-0 : length w - 4 - 0 ≡ length w - 4 = omega arith in
+    rw (c.digest.ensures.0, c.read32-expected.ensures, from-0)

@@ -1,0 +1,33 @@
+use mathlib.Core.Path.{◌≡◌, sym, ◌∙◌}
+use mathlib.Core.List.{[]}
+use Prim.Native.Nat.{◌+◌, ◌-◌, ◌*◌, ◌≤◌}
+use native.Mathlib.Omega.{arith}
+use lib.ListN.{length, drop}
+use borrow.Author.Rules.{rules}
+use borrow.Author.Tests.{not-true, not-false}
+use Rattle.replay_verdict.specs.Verdicts.{agreed, results_at}
+use Rattle.replay_verdict.proofs.Laws.{result-same, result-other, results_end}
+use Rattle.replay_verdict.proofs.results.Goals as goal
+
+pub returns-then-not-agrees : goal.returns-then-not-agrees
+returns-then-not-agrees c =
+    let l = c.loop-i in
+    let a = c.args in
+    let no = sym c.agrees.ensures ∙ c.if-not-agrees.true in
+    let other = sym c.result-v.ensures ∙ no in
+    no ∙ (sym (result-other a.r.now l.a a.places.now l.i (omega arith) other) ∙ l.invariant.2)
+
+pub loop-i-preserved : goal.loop-i-preserved
+loop-i-preserved c =
+    let l = c.loop-i in
+    let a = c.args in
+    let yes = sym c.agrees.ensures ∙ c.if-not-agrees.false in
+    let there = sym c.result-v.ensures ∙ yes in
+    (omega arith, omega (arith, l.invariant.1), result-same a.r.now l.a a.places.now l.i (omega arith) there ∙ l.invariant.2)
+
+pub returns : goal.returns
+unfolding agreed
+returns c =
+    let l = c.loop-i in
+    let a = c.args in
+    sym (results_end a.r.now l.a a.places.now l.i (omega arith)) ∙ l.invariant.2

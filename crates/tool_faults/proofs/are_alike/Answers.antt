@@ -1,0 +1,41 @@
+-- The room of the entries has four, and a label that is there has at most 100 bytes.
+use mathlib.Core.Path.{ap, sym, ◌∙◌}
+use native.Mathlib.Omega.{arith}
+use lib.ListN.{length}
+use Rattle.octets.proofs.Lists.{within-high}
+use borrow.Author.Tests.{not-false}
+use Rattle.row.proofs.Entries.{length-room}
+use borrow.Author.Rules.{rules}
+use Rattle.tool_faults.proofs.are_alike.Goals as goal
+
+pub has_label-requires : goal.has_label-requires
+has_label-requires c =
+    let entries-room-was = c.entries_room-entries in
+    let given = c.args in
+    let pre-was = c.requires in
+    (ap length entries-room-was.ensures ∙ length-room given.row.now pre-was.0, omega arith)
+
+pub has_label-requires-2 : goal.has_label-requires-2
+has_label-requires-2 c =
+    let entries-room-was = c.entries_room-entries in
+    let given = c.args in
+    let pre-was = c.requires in
+    (ap length entries-room-was.ensures ∙ length-room given.row.now pre-was.0, omega arith)
+
+pub label-requires : goal.label-requires
+label-requires c =
+    let entries-room-was = c.entries_room-entries in
+    let given = c.args in
+    let pre-was = c.requires in
+    let has-label-was = c.has_label in
+    let test1 = c.if-not-has_label in
+    (ap length entries-room-was.ensures ∙ length-room given.row.now pre-was.0, omega arith, within-high 1 100 _ (sym has-label-was.ensures ∙ test1.false))
+
+pub label-requires-2 : goal.label-requires-2
+label-requires-2 c =
+    let entries-room-was = c.entries_room-entries in
+    let given = c.args in
+    let pre-was = c.requires in
+    let has-label2-was = c.has_label-2 in
+    let test2 = c.if-not-has_label-2 in
+    (ap length entries-room-was.ensures ∙ length-room given.row.now pre-was.0, omega arith, within-high 1 100 _ (sym has-label2-was.ensures ∙ test2.false))
