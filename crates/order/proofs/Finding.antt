@@ -2,12 +2,10 @@
 use mathlib.Core.Path.{◌≡◌, refl, sym, ap, ◌∙◌}
 use mathlib.Core.Bool.{Bool, true, false}
 use mathlib.Core.List.{List}
-use Prim.Native.Nat.{ℕ, ◌≤◌}
-use native.Mathlib.Omega.{arith}
+use Prim.Native.Nat.{ℕ}
 use borrow.Author.Tests.{eqb-true, eq-eqb}
-use lib.Dec.{eqb, leb}
-use lib.ListN.{length, get_or, take}
-use lib.Seq.{get_or-take}
+use lib.Dec.{eqb}
+use lib.ListN.{length, get_or}
 use Rattle.octets.specs.Choice.{within}
 use Rattle.octets.specs.Texts.{part}
 use Rattle.octets.proofs.Lists.{and_left, and_right, both, same-eq, same_refl}

@@ -1,13 +1,11 @@
 -- What every reply is like: the answer that it tells of stands in its room, there is one cut at most, and a notice is told whole or not at all.
-use mathlib.Core.Path.{◌≡◌, refl, sym, ap, ◌∙◌}
-use mathlib.Core.Bool.{Bool, true, false}
+use mathlib.Core.Path.{◌≡◌, refl, ap, ◌∙◌}
 use mathlib.Core.List.{List, [], ◌∷◌, ◌++◌}
-use Prim.Native.Nat.{ℕ, zero, suc, ◌+◌, ◌-◌, ◌*◌, ◌≤◌}
-use native.Mathlib.Nat.{zero-add}
+use Prim.Native.Nat.{ℕ, ◌+◌, ◌*◌, ◌≤◌}
 use native.Mathlib.Omega.{arith}
 use borrow.Author.Tests.{eqb-true, eqb-false}
 use lib.Dec.{eqb}
-use lib.ListN.{length, take, drop, length-append, length-drop}
+use lib.ListN.{length, drop, length-append, length-drop}
 use lib.Seq.{length-take-le}
 use Rattle.octets.specs.Choice.{pick}
 use Rattle.octets.specs.Texts.{put}
@@ -20,7 +18,7 @@ use Rattle.message.specs.WritingTheAnswer.{answer, answer_room}
 use Rattle.table.specs.TheTable.{Access, Found, Table, row, nothing, lookup, row_at}
 use Rattle.table.specs.Soundness.{sound}
 use Rattle.rules.specs.Calls.{account, Call, Left, Reply, call_number, handle, most_policies, on_reading, on_row, refusal, reply, result_of, settled, silent}
-use Rattle.order.specs.Demand3.{RoomsOf, told}
+use Rattle.order.specs.Demand3.{told}
 use Rattle.order.proofs.Rooms.{rooms-after}
 
 pub record Fine (r : Reply) : Type 0 where

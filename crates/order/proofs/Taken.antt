@@ -9,7 +9,7 @@ use lib.Dec.{eqb}
 use Rattle.octets.specs.Choice.{pick}
 use Rattle.octets.specs.Lists.{distinct, every, keep}
 use Rattle.octets.specs.Texts.{same}
-use Rattle.octets.proofs.Lists.{and_left, and_right, by-test, eqb_comm, every-imp, every-keep, every_map, keep_all, kept, same-eq, same_refl, same-comm}
+use Rattle.octets.proofs.Lists.{and_left, and_right, by-test, eqb_comm, every-imp, every-keep, every_map, keep_all, kept, same_refl, same-comm}
 use Rattle.table.specs.TheTable.{Access, Subscriber, line}
 use Rattle.table.specs.Soundness.{sessions}
 use Rattle.changes.specs.Changes.{leave}

@@ -13,7 +13,6 @@ use Rattle.message.specs.ReadingAMessage.{Ask, policy, termination, tunnel}
 use Rattle.octets.specs.Choice.{pick, within}
 use Rattle.octets.specs.Lists.{every, first_or, keep, sum_of}
 use Rattle.octets.specs.Texts.{same}
-use Rattle.table.specs.Answers.{found}
 use Rattle.table.specs.Soundness.{limits, on_entry, only_behind, same_label, sessions, under_limits}
 use Rattle.table.specs.TheTable.{Access, Entry, Policies, Subscriber, is_form, line}
 use Rattle.changes.proofs.Stays.{MayHold, MayOpen, under-snoc}

@@ -13,8 +13,7 @@ pub const ENTRY_LENGTH: usize = 140;
 
 pub type Entry = [u8; ENTRY_LENGTH];
 
-// THE BOARD. Its list is one of structs, and no function that holds a reference to a struct is covered by the borrow checker. So a copy of the list goes to it and
-// comes back by value, and two thin functions, proved by hand, lend it: `fed` and `counted`.
+// THE BOARD. Its list is one of structs. A copy of the list goes to it and comes back by value, and two thin functions lend it: `fed` and `counted`.
 
 // Four bytes as a number, the lowest first.
 fn number_of(a: u8, b: u8, c: u8, d: u8) -> u32 {

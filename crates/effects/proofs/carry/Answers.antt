@@ -2,7 +2,7 @@
 use Rattle.effects.specs.declared.Cut.TheVariants.{NoCut}
 use mathlib.Core.Path.{◌≡◌, refl, sym}
 use mathlib.Core.Bool.{true, false, ◌&&◌}
-use Prim.Native.Nat.{◌-◌, ◌<◌, ◌≤◌}
+use Prim.Native.Nat.{◌<◌, ◌≤◌}
 use native.Mathlib.Omega.{arith}
 use borrow.Author.Tests.{eq-eqb, leb-true, ltb-true, ne_eqb}
 use lib.Dec.{eqb, leb, ltb}
@@ -17,7 +17,6 @@ use Rattle.plans.specs.declared.Plan.TheVariants.{Open, Route, Free}
 use Rattle.rules.specs.Deciding.{refuse, grant, open_on}
 use Rattle.rules.specs.Calls.{notice_room, table_after}
 use Rattle.plans.specs.Plans.{fit_plan, fit_policies, plan_code, planned}
-use borrow.Author.Rules.{rules}
 use Rattle.effects.specs.Carrying.{cut_for, done_for}
 use Rattle.effects.proofs.Rooms.{row_stays}
 use Rattle.effects.proofs.carry.Goals as goal

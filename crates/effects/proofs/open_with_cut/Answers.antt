@@ -1,6 +1,4 @@
 -- The notice is written from the row as it was; then the row is what the cut and the opening leave.
-use Prim.Native.Nat.{◌-◌}
-use borrow.Author.Rules.{rules}
 use Rattle.effects.proofs.open_with_cut.Goals as goal
 
 pub returns : goal.returns

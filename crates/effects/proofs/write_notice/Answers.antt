@@ -16,7 +16,6 @@ use Rattle.rules.specs.Calls.{notice_room}
 use Rattle.effects.specs.Carrying.{cut_for}
 use Rattle.effects.specs.declared.Cut.TheVariants.{Lengths}
 use Rattle.effects.proofs.Rooms.{at_least, at_most, at-place-is, form-there, notice-least, notice-long, notice-one, notice-two, realm-none, texts-are}
-use borrow.Author.Rules.{rules}
 use Rattle.effects.proofs.write_notice.Goals as goal
 
 pub notice_rooms-requires : goal.notice_rooms-requires

@@ -11,7 +11,6 @@ use Rattle.table.proofs.Form.{length-second-of, sized}
 use Rattle.row.proofs.Entries.{realm-said, row_of}
 use Rattle.row.proofs.Places.{second-whole}
 use Rattle.effects.proofs.Rooms.{at_least, at_most, realm-is}
-use borrow.Author.Rules.{rules}
 use Rattle.effects.proofs.write_realm.Goals as goal
 
 pub second-second-requires : goal.second-second-requires

@@ -1,8 +1,6 @@
 -- Each way out is the law of the first test that fails.
 use mathlib.Core.Path.{sym, ◌∙◌}
 use native.Mathlib.Omega.{arith}
-use borrow.Author.Rules.{rules}
-use borrow.Author.Tests.{not-true, not-false}
 use Rattle.judge.specs.Code.{case_of}
 use Rattle.decision.specs.Outcomes.{call_of}
 use Rattle.judge.proofs.Cases.{case-before, case-after, case-operator, case-host, case-realm, case-answer, case-notice, case-none}

@@ -1,6 +1,5 @@
 -- Each comparison that tells something tells it before the next is made.
 use mathlib.Core.Path.{sym, ◌∙◌}
-use borrow.Author.Rules.{rules}
 use Rattle.likeness.specs.Code.{said}
 use Rattle.judge.proofs.Cases.{by_answer, by-notice, by_row}
 use Rattle.judge.proofs.first_mismatch.Goals as goal

@@ -1,6 +1,5 @@
 -- What the call leaves is what is due (Holding): the parts compared lie inside the rooms, and they are what the call tells.
 use mathlib.Core.Path.{◌∙◌}
-use borrow.Author.Rules.{rules}
 use Rattle.judge.specs.Code.{case_of}
 use Rattle.decision.specs.Outcomes.{call_of}
 use Rattle.judge.specs.TheJudge.{expected}

@@ -1,6 +1,5 @@
 -- A number of the case's own leaves everything as it was; else the case is held.
 use mathlib.Core.Path.{sym, ◌∙◌}
-use borrow.Author.Rules.{rules}
 use Rattle.judge.specs.Code.{case_of}
 use Rattle.decision.specs.Outcomes.{call_of}
 use Rattle.judge.proofs.Cases.{notice-fits}

@@ -1,7 +1,6 @@
 -- Without a cut none, with one a whole notice.
 use mathlib.Core.Path.{◌≡◌, ap}
 use native.Mathlib.Omega.{arith}
-use borrow.Author.Rules.{rules}
 use Rattle.decision.specs.Outcomes.{cut_made}
 use Rattle.judge.proofs.notice_told.Goals as goal
 

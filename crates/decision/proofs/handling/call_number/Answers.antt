@@ -1,16 +1,13 @@
 -- Each way out is the law of the first test that fails.
 use Rattle.table.specs.Answers.{lent}
-use borrow.Author.Tests.{not-true, not-false}
 use mathlib.Core.Path.{◌≡◌, sym, ◌∙◌}
 use mathlib.Core.Bool.{true}
-use Prim.Native.Nat.{◌-◌}
 use native.Mathlib.Omega.{arith}
 use lib.ListN.{length}
 use Rattle.octets.specs.Choice.{within}
 use Rattle.table.specs.TheTable.{first_number}
 use Rattle.decision.specs.Outcomes.{call_of}
 use Rattle.decision.proofs.Numbers.{number-first, number-host, number-realm, number-answer, number-notice, number-message}
-use borrow.Author.Rules.{rules}
 use Rattle.decision.proofs.handling.call_number.Goals as goal
 
 pub returns-then-n-ne0 : goal.returns-then-n-ne0

@@ -1,7 +1,6 @@
 -- The texts are those of the spans.
 use mathlib.Core.Bool.{true}
 use mathlib.Core.Path.{◌≡◌, ap, ◌∙◌}
-use Prim.Native.Nat.{ℕ, ◌-◌}
 use native.Mathlib.Omega.{arith}
 use lib.ListN.{length}
 use Rattle.table.specs.Answers.{lent}
@@ -11,7 +10,6 @@ use Rattle.plans.specs.Plans.{Brought, fit_plan, planned}
 use Rattle.effects.specs.Carrying.{brought_in, done_for}
 use Rattle.decision.specs.Outcomes.{brought, policies_at}
 use Rattle.decision.proofs.Answered.{inside-1, inside-2, inside-3, inside-4, inside-5, inside-6}
-use borrow.Author.Rules.{rules}
 use Rattle.decision.proofs.handling.carry_out.Goals as goal
 
 pub text-session-requires : goal.text-session-requires

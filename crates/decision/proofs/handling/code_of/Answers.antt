@@ -1,8 +1,6 @@
 -- Case by case of the plan.
-use Prim.Native.Nat.{◌-◌}
 use Rattle.message.specs.Codes.{number_of}
 use Rattle.plans.specs.Plans.{plan_code}
-use borrow.Author.Rules.{rules}
 use Rattle.decision.proofs.handling.code_of.Goals as goal
 
 pub returns-in-NotSubscribed : goal.returns-in-NotSubscribed

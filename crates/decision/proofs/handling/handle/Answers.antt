@@ -1,13 +1,12 @@
 -- A number, or what is decided and answered.
 use mathlib.Core.Path.{◌≡◌, sym, ap, ◌∙◌}
-use Prim.Native.Nat.{ℕ, ◌-◌}
+use Prim.Native.Nat.{ℕ}
 use Rattle.message.specs.ReadingAMessage.{read}
 use Rattle.table.specs.Answers.{lent}
 use Rattle.rules.specs.Calls.{call_number}
 use Rattle.decision.specs.Outcomes.{call_of}
 use Rattle.decision.proofs.Answered.{written_is}
 use Rattle.decision.proofs.Numbers.{handled, is-ready, notice-fits, silent-is, table-right, unanswered}
-use borrow.Author.Rules.{rules}
 use Rattle.decision.proofs.handling.handle.Goals as goal
 
 pub returns-then-n-ne0 : goal.returns-then-n-ne0

@@ -1,9 +1,7 @@
 -- Case by case of the plan.
-use Prim.Native.Nat.{◌-◌}
 use Rattle.message.specs.Codes.{number_of}
 use Rattle.message.specs.Kinds.{code_from}
 use Rattle.plans.specs.Plans.{plan_code}
-use borrow.Author.Rules.{rules}
 use Rattle.decision.proofs.handling.kind_of.Goals as goal
 
 pub returns-in-NotSubscribed : goal.returns-in-NotSubscribed

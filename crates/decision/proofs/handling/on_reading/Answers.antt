@@ -1,7 +1,6 @@
 -- Refused as it was read, or a request.
 use mathlib.Core.Bool.{true, ◌&&◌}
 use mathlib.Core.Path.{◌≡◌, sym, ◌∙◌}
-use Prim.Native.Nat.{◌-◌}
 use native.Mathlib.Omega.{arith}
 use Rattle.octets.specs.Lists.{every}
 use Rattle.octets.proofs.Lists.{and_left, and_right}
@@ -13,7 +12,6 @@ use Rattle.table.specs.Answers.{lent}
 use Rattle.rules.specs.Calls.{account, most_policies, on_reading}
 use Rattle.decision.specs.Outcomes.{call_of}
 use Rattle.decision.proofs.Answered.{nobody-named}
-use borrow.Author.Rules.{rules}
 use Rattle.decision.proofs.handling.on_reading.Goals as goal
 
 pub returns-in-Refused : goal.returns-in-Refused

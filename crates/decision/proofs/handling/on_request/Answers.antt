@@ -2,9 +2,8 @@
 use mathlib.Core.Bool.{true, false}
 use mathlib.Core.Path.{◌≡◌, sym, ap, ◌∙◌}
 use mathlib.Core.List.{List}
-use Prim.Native.Nat.{ℕ, ◌+◌, ◌-◌, ◌*◌, ◌≤◌}
+use Prim.Native.Nat.{ℕ, ◌+◌, ◌*◌, ◌≤◌}
 use native.Mathlib.Omega.{arith}
-use borrow.Author.Tests.{not-true, not-false}
 use lib.ListN.{length}
 use Rattle.octets.specs.Choice.{pick}
 use Rattle.message.specs.Kinds.{code_from}
@@ -16,7 +15,6 @@ use Rattle.table.proofs.Rows.{form_in, form-top}
 use Rattle.rules.specs.Calls.{on_row}
 use Rattle.decision.specs.Outcomes.{call_of}
 use Rattle.decision.proofs.Answered.{nobody-named, row-there}
-use borrow.Author.Rules.{rules}
 use Rattle.decision.proofs.handling.on_request.Goals as goal
 
 pub returns-in_default : goal.returns-in_default

@@ -2,17 +2,15 @@
 use mathlib.Core.Path.{◌≡◌, sym, ap, ◌∙◌}
 use mathlib.Core.List.{List}
 use mathlib.Core.Bool.{true}
-use Prim.Native.Nat.{ℕ, ◌-◌}
+use Prim.Native.Nat.{ℕ}
 use Rattle.octets.specs.Lists.{every}
 use Rattle.octets.proofs.Lists.{and_left, and_right}
 use Rattle.message.specs.Spans.{asks, bytes_of, spans_in, is_inside}
 use Rattle.table.specs.TheTable.{Policies, read_row}
 use Rattle.rules.specs.Deciding.{decide, terminate, type0, type1}
 use Rattle.changes.specs.Changes.{Opening, kept_in}
-use Rattle.plans.specs.Plans.{fitting}
 use Rattle.decision.proofs.Answered.{policies-fit}
 use Rattle.decision.specs.Outcomes.{brought, no_text, policies_at, texts_of}
-use borrow.Author.Rules.{rules}
 use Rattle.decision.proofs.handling.plan_for.Goals as goal
 
 pub text-requires : goal.text-requires

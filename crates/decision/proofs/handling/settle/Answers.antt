@@ -2,7 +2,7 @@
 use mathlib.Core.Bool.{true}
 use mathlib.Core.Path.{◌≡◌, sym, ap, ◌∙◌}
 use mathlib.Core.List.{List}
-use Prim.Native.Nat.{ℕ, ◌-◌}
+use Prim.Native.Nat.{ℕ}
 use native.Mathlib.Omega.{arith}
 use lib.ListN.{length}
 use Rattle.octets.specs.Lists.{every}
@@ -18,7 +18,6 @@ use Rattle.effects.specs.Carrying.{done_for}
 use Rattle.decision.specs.declared.Texts.{Texts}
 use Rattle.decision.specs.Outcomes.{brought, policies_at, spans_of, texts_of}
 use Rattle.decision.proofs.Answered.{plan-code, plan-small, request-fits, settled_is, texts-inside, texts-short, user-holds, user-short}
-use borrow.Author.Rules.{rules}
 use Rattle.decision.proofs.handling.settle.Goals as goal
 
 pub plan_for-plan-requires : goal.plan_for-plan-requires

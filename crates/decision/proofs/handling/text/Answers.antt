@@ -5,7 +5,6 @@ use native.Mathlib.Omega.{arith}
 use lib.ListN.{length}
 use borrow.Author.Tests.{leb-true}
 use Rattle.message.specs.Spans.{bytes_of, is_inside}
-use borrow.Author.Rules.{rules}
 use Rattle.decision.proofs.handling.text.Goals as goal
 
 pub overflow_add-end : goal.overflow_add-end

@@ -1,7 +1,6 @@
 -- Case by case of the request.
 use mathlib.Core.Path.{refl}
 use Rattle.decision.specs.Outcomes.{no_text, texts_of}
-use borrow.Author.Rules.{rules}
 use Rattle.decision.proofs.handling.texts_of.Goals as goal
 
 pub returns-in-Tunnel : goal.returns-in-Tunnel

@@ -4,7 +4,6 @@ use native.Mathlib.Omega.{arith}
 use lib.ListN.{length}
 use Rattle.table.specs.TheTable.{read_row}
 use Rattle.row.proofs.Entries.{count-is, most-four, least-of}
-use borrow.Author.Rules.{rules}
 use Rattle.plans.proofs.finding.entry_count.Goals as goal
 
 pub entry_count-requires : goal.entry_count-requires

@@ -1,12 +1,12 @@
 use mathlib.Core.Bool.{true, false}
 use Rattle.table.specs.TheTable.{read_row}
 use Rattle.table.specs.Soundness.{same_label}
-use Rattle.rules.specs.Deciding.{entry_from, entry_named, entry_at, no_entry}
+use Rattle.rules.specs.Deciding.{entry_named, entry_at, no_entry}
 use Rattle.plans.proofs.Entries.{name-over, name-hit, name-on}
 use mathlib.Core.Path.{◌≡◌, refl, sym, ◌∙◌}
-use Prim.Native.Nat.{◌+◌, ◌-◌, ◌≤◌}
+use Prim.Native.Nat.{◌-◌, ◌≤◌}
 use native.Mathlib.Omega.{arith}
-use lib.ListN.{length, get_or, drop}
+use lib.ListN.{length, get_or}
 use borrow.Author.Rules.{rules}
 use Rattle.plans.proofs.finding.entry_named.Goals as goal
 

@@ -1,14 +1,9 @@
 -- The invariant: the search from the n-th entry on finds what the whole search finds.
-use mathlib.Core.Bool.{true, false}
 use Rattle.table.specs.TheTable.{read_row}
-use Rattle.table.specs.Soundness.{same_label}
-use Rattle.rules.specs.Deciding.{entry_from, entry_named, entry_at, no_entry}
-use Rattle.plans.proofs.Entries.{name-over, name-hit, name-on}
-use mathlib.Core.Path.{◌≡◌, refl, sym, ◌∙◌}
+use Rattle.rules.specs.Deciding.{entry_from, entry_named}
+use mathlib.Core.Path.{◌≡◌}
 use Prim.Native.Nat.{◌+◌, ◌-◌, ◌≤◌}
-use native.Mathlib.Omega.{arith}
-use lib.ListN.{length, get_or, drop}
-use borrow.Author.Rules.{rules}
+use lib.ListN.{length, drop}
 use Rattle.plans.proofs.finding.entry_named.Given as goal
 
 abbrev pub invariant-loop-n : goal.invariant-loop-n

@@ -1,15 +1,13 @@
 use mathlib.Core.Bool.{true, false}
 use Rattle.octets.specs.Choice.{within}
-use Rattle.octets.specs.Lists.{every}
 use Rattle.octets.proofs.Lists.{within-high, within_low}
 use Rattle.table.specs.TheTable.{order_line}
 use Rattle.row.proofs.Entries.{row_of}
-use Rattle.plans.proofs.Search.{short, all_in, hunt, below, place_in, rest_in, hit, on, hunt-over}
+use Rattle.plans.proofs.Search.{short, all_in, below, place_in, rest_in, hit, on, hunt-over}
 use Rattle.plans.proofs.Found.{entry_is, first-is}
 use mathlib.Core.Path.{◌≡◌, refl, sym, ◌∙◌}
-use Prim.Native.Nat.{◌-◌, ◌≤◌}
 use native.Mathlib.Omega.{arith}
-use lib.ListN.{get_or, drop}
+use lib.ListN.{get_or}
 use borrow.Author.Rules.{rules}
 use Rattle.plans.proofs.finding.first_on.Goals as goal
 

@@ -8,7 +8,6 @@ use Rattle.octets.specs.Texts.{part}
 use Rattle.table.specs.TheTable.{Entry, read_entry}
 use Rattle.row.proofs.Entries.{length-room, most-four, least-of}
 use Rattle.plans.proofs.Entries.{entry-is}
-use borrow.Author.Rules.{rules}
 use Rattle.plans.proofs.finding.flags_of.Goals as goal
 
 pub entries_room-requires : goal.entries_room-requires

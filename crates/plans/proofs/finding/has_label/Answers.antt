@@ -1,15 +1,14 @@
 -- The entry's label.
 use mathlib.Core.Path.{ap, sym, ◌∙◌}
 use mathlib.Core.List.{List}
-use Prim.Native.Nat.{ℕ, ◌*◌, ◌-◌, ◌≤◌}
+use Prim.Native.Nat.{ℕ, ◌*◌, ◌-◌}
 use native.Mathlib.Omega.{arith}
-use lib.ListN.{get_or, length}
+use lib.ListN.{length}
 use Rattle.octets.specs.Texts.{part}
 use Rattle.table.specs.Soundness.{same_label}
 use Rattle.table.specs.TheTable.{Entry, read_entry}
 use Rattle.row.proofs.Entries.{length-room, most-four, least-of}
 use Rattle.plans.proofs.Entries.{entry-is, label-short}
-use borrow.Author.Rules.{rules}
 use Rattle.plans.proofs.finding.has_label.Goals as goal
 
 pub entries_room-requires : goal.entries_room-requires

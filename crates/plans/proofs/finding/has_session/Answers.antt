@@ -3,7 +3,6 @@ use mathlib.Core.Path.{ap, ◌∙◌}
 use mathlib.Core.List.{List}
 use Prim.Native.Nat.{ℕ}
 use Rattle.octets.specs.Texts.{same}
-use borrow.Author.Rules.{rules}
 use Rattle.plans.proofs.finding.has_session.Goals as goal
 
 pub returns : goal.returns

@@ -1,7 +1,5 @@
 -- Both tests, one after the other.
 use mathlib.Core.Path.{sym, ◌∙◌}
-use Prim.Native.Nat.{◌-◌}
-use borrow.Author.Rules.{rules}
 use Rattle.plans.proofs.finding.is_access.Goals as goal
 
 pub returns-then-on_entry : goal.returns-then-on_entry

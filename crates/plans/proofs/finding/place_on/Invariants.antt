@@ -1,17 +1,13 @@
 -- The invariant: the search from the i-th place on finds what the whole search finds; what it finds has entry and Session-Id.
-use mathlib.Core.Bool.{true, false}
+use mathlib.Core.Bool.{true}
 use Rattle.octets.specs.Choice.{within}
 use Rattle.octets.specs.Lists.{every}
-use Rattle.octets.proofs.Lists.{within-high, within_low}
 use Rattle.table.specs.TheTable.{order_line}
-use Rattle.row.proofs.Entries.{row_of}
-use Rattle.plans.proofs.Search.{short, all_in, hunt, below, place_in, rest_in, hit, on, hunt-over}
-use Rattle.plans.proofs.Found.{both_are, ended_is}
-use mathlib.Core.Path.{◌≡◌, refl, sym, ◌∙◌}
+use Rattle.plans.proofs.Search.{hunt}
+use Rattle.plans.proofs.Found.{both_are}
+use mathlib.Core.Path.{◌≡◌}
 use Prim.Native.Nat.{◌-◌, ◌≤◌}
-use native.Mathlib.Omega.{arith}
-use lib.ListN.{get_or, drop}
-use borrow.Author.Rules.{rules}
+use lib.ListN.{drop}
 use Rattle.plans.proofs.finding.place_on.Given as goal
 
 abbrev pub invariant-loop-place : goal.invariant-loop-place

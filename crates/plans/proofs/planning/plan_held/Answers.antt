@@ -9,7 +9,6 @@ use Rattle.rules.specs.Deciding.{none, with_session}
 use Rattle.plans.specs.Plans.{fit_plan, planned, plan_code}
 use Rattle.plans.proofs.Found.{none-ended}
 use Rattle.plans.proofs.Verdicts.{goes_on, stands-elsewhere}
-use borrow.Author.Rules.{rules}
 use Rattle.plans.proofs.planning.plan_held.Goals as goal
 
 pub returns-then-place_on-ne0 : goal.returns-then-place_on-ne0

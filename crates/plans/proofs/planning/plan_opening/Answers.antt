@@ -6,10 +6,9 @@ use Rattle.row.proofs.Entries.{row_of}
 use Rattle.plans.proofs.Found.{line-sound}
 use Rattle.plans.proofs.Verdicts.{opens, cuts, one-to-cut, fit-open, fit_cut}
 use mathlib.Core.Path.{◌≡◌}
-use Prim.Native.Nat.{◌-◌, ◌<◌, ◌≤◌}
+use Prim.Native.Nat.{◌<◌, ◌≤◌}
 use native.Mathlib.Omega.{arith}
 use lib.ListN.{length}
-use borrow.Author.Rules.{rules}
 use Rattle.plans.proofs.planning.plan_opening.Goals as goal
 
 pub accesses_on-requires : goal.accesses_on-requires

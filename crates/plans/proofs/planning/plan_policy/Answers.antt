@@ -1,5 +1,4 @@
 -- Each way out is the law of the test that failed, or of both having passed.
-use Rattle.octets.proofs.Lists.{both}
 use Rattle.plans.specs.Plans.{fit_plan}
 use mathlib.Core.Bool.{true, false}
 use lib.Dec.{eqb}
@@ -10,8 +9,7 @@ use Rattle.plans.specs.Plans.{planned, plan_code}
 use Rattle.plans.proofs.Found.{none-with}
 use Rattle.plans.proofs.Verdicts.{no_access, gateway-no, gateway-yes, fit-place}
 use mathlib.Core.Path.{◌≡◌, refl, sym, ap, ◌∙◌}
-use Prim.Native.Nat.{ℕ, ◌-◌}
-use borrow.Author.Rules.{rules}
+use Prim.Native.Nat.{ℕ}
 use Rattle.plans.proofs.planning.plan_policy.Goals as goal
 
 pub returns-then-k-eq0 : goal.returns-then-k-eq0

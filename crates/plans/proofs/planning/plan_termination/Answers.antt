@@ -9,8 +9,7 @@ use Rattle.plans.specs.Plans.{planned, plan_code}
 use Rattle.plans.proofs.Found.{none-ended}
 use Rattle.plans.proofs.Verdicts.{not-used, is-ended, fit-ended}
 use mathlib.Core.Path.{◌≡◌, refl, sym, ap, ◌∙◌}
-use Prim.Native.Nat.{ℕ, ◌-◌}
-use borrow.Author.Rules.{rules}
+use Prim.Native.Nat.{ℕ}
 use Rattle.plans.proofs.planning.plan_termination.Goals as goal
 
 pub returns-then-k-eq0 : goal.returns-then-k-eq0

@@ -10,8 +10,7 @@ use Rattle.plans.proofs.Found.{none-with}
 use Rattle.plans.proofs.Verdicts.{not-subscribed, is-barred, no-roaming, is_held, is-admitted}
 use mathlib.Core.List.{List}
 use mathlib.Core.Path.{◌≡◌, refl, sym, ap, ◌∙◌}
-use Prim.Native.Nat.{ℕ, ◌-◌, ◌/◌, ◌%◌}
-use borrow.Author.Rules.{rules}
+use Prim.Native.Nat.{ℕ, ◌/◌, ◌%◌}
 use Rattle.plans.proofs.planning.plan_tunnel.Goals as goal
 
 pub returns-then-n-eq0 : goal.returns-then-n-eq0

@@ -1,5 +1,4 @@
 -- By the two cases of the visited network.
-use Prim.Native.Nat.{◌-◌}
 use Rattle.plans.proofs.planning.roams_unasked.Goals as goal
 
 pub returns-then-visited : goal.returns-then-visited
