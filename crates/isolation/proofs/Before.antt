@@ -1,18 +1,15 @@
 -- A table on which byte 19 of every row is zero.
-use mathlib.Core.Path.{◌≡◌, refl, sym, ap, ◌∙◌}
-use mathlib.Core.Bool.{Bool, true, false, ◌&&◌, not}
+use mathlib.Core.Path.{◌≡◌, refl, sym, ◌∙◌}
+use mathlib.Core.Bool.{true, false, not}
 use mathlib.Core.List.{List, [], ◌∷◌}
 use Prim.Native.Nat.{ℕ}
 use borrow.Author.Tests.{eqb-true, eqb-false, ne_eqb}
 use lib.Dec.{eqb}
 use lib.ListN.{get_or}
-use Rattle.octets.specs.Choice.{pick}
 use Rattle.octets.specs.Lists.{every}
-use Rattle.octets.proofs.Lists.{and_left, and_right, by-test, every-imp}
-use Rattle.message.specs.Codes.{user_unknown}
-use Rattle.message.specs.ReadingAMessage.{Request, read, request}
-use Rattle.table.specs.TheTable.{Account, Found, first_row, has_name, is_row_of, lookup, nothing, rows}
-use Rattle.rules.specs.Calls.{Call, account, call_number, handle, on_reading, on_row, refusal}
+use Rattle.octets.proofs.Lists.{and_left, and_right, every-imp}
+use Rattle.table.specs.TheTable.{Account, first_row, has_name, is_row_of, lookup, nothing, rows}
+use Rattle.rules.specs.Calls.{account, on_reading, on_row}
 use Rattle.decision.proofs.Numbers.{handled}
 use Rattle.isolation.specs.Isolation.{NameAlone, UnknownToOthers}
 use Rattle.isolation.proofs.Firsts.{first-none}

@@ -1,15 +1,15 @@
 -- The first row that passes a test: changed, or asked; and the rows of one operator among all.
-use mathlib.Core.Path.{◌≡◌, refl, sym, ap, ◌∙◌}
+use mathlib.Core.Path.{◌≡◌, refl, ap}
 use mathlib.Core.Bool.{Bool, true, false, ◌&&◌, not}
 use mathlib.Core.List.{List, [], ◌∷◌, ◌++◌}
-use Prim.Native.Nat.{ℕ, zero, suc, ◌+◌, ◌≤◌, ◌<◌}
+use Prim.Native.Nat.{ℕ, suc, ◌+◌, ◌≤◌}
 use native.Mathlib.Omega.{arith}
-use borrow.Author.Tests.{eqb-true, eqb-false, eq-eqb, le-leb, leb-true, not-true}
+use borrow.Author.Tests.{eqb-false, le-leb, leb-true, not-true}
 use lib.Dec.{eqb, leb}
-use lib.ListN.{length, get_or, set, length-append}
-use Rattle.octets.specs.Choice.{pick, within}
+use lib.ListN.{length, get_or, set}
+use Rattle.octets.specs.Choice.{pick}
 use Rattle.octets.specs.Lists.{every, keep, sum_of}
-use Rattle.octets.proofs.Lists.{and_left, and_right, both, by-test, every-keep, every-both, in_within, keep-keep, keep-split, kept, within-high, within_low}
+use Rattle.octets.proofs.Lists.{and_left, and_right, both, by-test, every-keep, every-both, keep-keep, keep-split, kept}
 use Rattle.table.specs.TheTable.{Found, row, nothing, later, first_row, is_found}
 
 -- THE FIRST THAT PASSES

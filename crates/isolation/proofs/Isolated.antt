@@ -2,7 +2,7 @@
 use mathlib.Core.Path.{◌≡◌, refl, sym, ap, ◌∙◌, subst}
 use mathlib.Core.Bool.{Bool, true, false, ◌&&◌, not}
 use mathlib.Core.List.{List, [], ◌∷◌, map}
-use Prim.Native.Nat.{ℕ, ◌+◌, ◌*◌, ◌/◌, ◌%◌, ◌≤◌}
+use Prim.Native.Nat.{ℕ, ◌*◌, ◌/◌}
 use native.Mathlib.Omega.{arith}
 use borrow.Author.Tests.{eqb-true, eqb-false, ne_eqb, not-true}
 use lib.Dec.{eqb, leb}
@@ -21,11 +21,11 @@ use Rattle.changes.specs.Changes.{named}
 use Rattle.setup.specs.SetUp.{SetUp, add, add_at, enter, leaving, left, share, with_row_at}
 use Rattle.setup.specs.Parts.{share_number}
 use Rattle.setup.proofs.SetUps.{enter-early, add-first, share-first, share-passed}
-use Rattle.rules.specs.Calls.{Call, Left, call_number, handle, ran_first, run, silent}
+use Rattle.rules.specs.Calls.{Left, call_number, handle, ran_first, run, silent}
 use Rattle.decision.proofs.Numbers.{unanswered}
 use Rattle.order.proofs.Handling.{number-bad}
 use Rattle.order.proofs.Lists as L
-use Rattle.isolation.specs.Isolation.{Alike, Done, FormStays, Isolated, NeverEleven, Operation, Past, SameFor, WithinShare, Word, adding, answer, answered, asking, done, done_first, entering, is_by, number, operations_of, operator_of, past, set_up, told_to, zero_table}
+use Rattle.isolation.specs.Isolation.{FormStays, Isolated, NeverEleven, Operation, WithinShare, Word, adding, answer, answered, asking, done, done_first, entering, is_by, number, operations_of, operator_of, past, set_up, told_to, zero_table}
 use Rattle.isolation.proofs.Reached.{Reached, blank-keep, cleared, own_of, zero-rows}
 use Rattle.isolation.proofs.Steps.{Stepped, enter-is, rows_for, step, word_for}
 

@@ -1,17 +1,16 @@
 -- Tables that are reached from a cleared one: rows in use, each of an operator, and behind them nothing but wholly zero rows.
-use mathlib.Core.Path.{◌≡◌, refl, sym, ap, ◌∙◌}
-use mathlib.Core.Bool.{Bool, true, false, ◌&&◌, not}
+use mathlib.Core.Path.{◌≡◌, refl, ap, ◌∙◌}
+use mathlib.Core.Bool.{Bool, true, false, ◌&&◌}
 use mathlib.Core.List.{List, [], ◌∷◌, ◌++◌, append-nil}
-use Prim.Native.Nat.{ℕ, zero, suc, ◌+◌, ◌-◌, ◌*◌, ◌/◌, ◌%◌, ◌≤◌, ◌<◌}
-use native.Mathlib.Nat.{mul-zero, mul-suc}
+use Prim.Native.Nat.{ℕ, zero, suc, ◌+◌, ◌-◌, ◌*◌, ◌/◌, ◌%◌, ◌≤◌}
 use native.Mathlib.Omega.{arith}
-use borrow.Author.Tests.{eqb-true, eq-eqb, le-leb, leb-true}
+use borrow.Author.Tests.{eq-eqb, le-leb, leb-true}
 use lib.Dec.{eqb, leb}
 use lib.ListN.{length, get_or, length-append}
 use Rattle.octets.specs.Choice.{pick, require, within}
 use Rattle.octets.specs.Lists.{every, keep, sum_of}
-use Rattle.octets.specs.Texts.{all_zero, pieces, same, zeros}
-use Rattle.octets.proofs.Lists.{and_left, and_right, both, by-test, every-imp, in_within, keep-and, same_refl, within-high, within_low}
+use Rattle.octets.specs.Texts.{all_zero, pieces, zeros}
+use Rattle.octets.proofs.Lists.{and_left, and_right, both, every-imp, keep-and, same_refl}
 use Rattle.octets.proofs.Pieces.{drop-zeros, length-pieces, one_more, take-zeros}
 use Rattle.octets.proofs.Texts.{length-zeros}
 use Rattle.table.specs.Answers.{lent}

@@ -3,22 +3,22 @@
 use mathlib.Core.Path.{◌≡◌, refl, sym, ap, ◌∙◌, subst}
 use mathlib.Core.Bool.{Bool, true, false, ◌&&◌, not}
 use mathlib.Core.List.{List, [], ◌∷◌, ◌++◌, append-nil}
-use Prim.Native.Nat.{ℕ, zero, suc, ◌+◌, ◌-◌, ◌*◌, ◌/◌, ◌≤◌, ◌<◌}
+use Prim.Native.Nat.{ℕ, zero, suc, ◌-◌, ◌/◌, ◌≤◌, ◌<◌}
 use native.Mathlib.Omega.{arith}
-use borrow.Author.Tests.{eqb-true, eqb-false, eq-eqb, ne_eqb, le-leb, leb-true, not-true}
+use borrow.Author.Tests.{eqb-true, eqb-false, eq-eqb, leb-true}
 use lib.Dec.{eqb, leb, ltb}
-use lib.ListN.{length, get_or, set, take, drop, length-append}
+use lib.ListN.{length, get_or, set, drop, length-append}
 use lib.Seq.{get_or-take}
 use Rattle.octets.specs.Choice.{first_of, pick, require, within}
 use Rattle.octets.specs.Lists.{every, keep, sum_of}
-use Rattle.octets.specs.Texts.{all_zero, filled, pieces, zeros}
+use Rattle.octets.specs.Texts.{all_zero, pieces}
 use Rattle.octets.proofs.Choice.{by-pick}
-use Rattle.octets.proofs.Lists.{and_left, and_right, both, by-test, every_append, every-imp, every_one, keep_snoc, within-high}
+use Rattle.octets.proofs.Lists.{and_left, and_right, both, by-test, every_append, every-imp, every_one, keep_snoc}
 use Rattle.octets.proofs.Pieces.{length-pieces}
 use Rattle.message.specs.ReadingAMessage.{Reading, refused, request, read}
 use Rattle.table.specs.Answers.{lent}
-use Rattle.table.specs.Soundness.{is_name, sound}
-use Rattle.table.specs.TheTable.{most_rows, Account, Entry, Found, Subscriber, Table, first_number, first_row, found_by, has_name, is_form, is_found, is_own, is_row_of, lookup, nothing, own_rows, read_row, row, row_at, row_bytes, row_length, rows, table_number, with_row}
+use Rattle.table.specs.Soundness.{is_name}
+use Rattle.table.specs.TheTable.{most_rows, Account, Entry, Found, Subscriber, Table, first_number, first_row, found_by, has_name, is_form, is_found, is_own, is_row_of, lookup, nothing, own_rows, read_row, row, row_at, row_bytes, row_length, rows, with_row}
 use Rattle.table.proofs.Bytes.{length-row}
 use Rattle.table.proofs.Rows.{first-operator, length-row_at, length-with_row, not-zero, nth-row, row_same, rows-with}
 use Rattle.changes.specs.Changes.{named, with_entry}
@@ -26,12 +26,12 @@ use Rattle.changes.proofs.Steps.{row-account}
 use Rattle.setup.specs.SetUp.{SetUp, add, add_at, enter, entry_number, leaving, left, share, shares_fit}
 use Rattle.setup.specs.Parts.{share_number}
 use Rattle.setup.proofs.SetUps.{MayEnterRow, enter-done, enter-early, entry-passed, share-passed, shares-sixteen}
-use Rattle.rules.specs.Calls.{Call, Left, Reply, handle, most_policies}
+use Rattle.rules.specs.Calls.{Call, handle, most_policies}
 use Rattle.order.specs.Demand3.{Subject, nobody, subscriber, own_number, sent_by, subject}
 use Rattle.order.proofs.Finding.{finds}
-use Rattle.order.proofs.Handling.{Agrees, Kept, There, account_of, act, ans, kept, lost, one-call, says, self, tab, there, written}
+use Rattle.order.proofs.Handling.{Agrees, Kept, There, act, ans, kept, lost, one-call, says, self, tab, there, written}
 use Rattle.order.proofs.Alone as A
-use Rattle.isolation.specs.Isolation.{Done, Operation, Word, adding, answer, answered, asking, done, entering, number, operator_of, set_up}
+use Rattle.isolation.specs.Isolation.{Operation, Word, adding, answer, answered, asking, done, entering, number, operator_of, set_up}
 use Rattle.isolation.proofs.Firsts.{asked, asked-found, asked-keep, at_found, changed, changed-before, changed-found, count-changed, every-changed, first-behind, found-asked, keep-changed, keep-other, set-behind, with_found}
 use Rattle.isolation.proofs.Reached.{Reached, all_of, blank, count-is, few, good-table, is_used, keep-used, length-blank, own_of, rows_of, zero-first, zero-zero, zero_row}
 

@@ -1,10 +1,10 @@
 -- Operators on one table: what one operator is told depends on its own rows, its own share, the sum of the shares and the table's length, and on
 -- nothing else of the others. Stated as non-interference: two histories in which one operator does the same tell it the same, whatever the others do.
 -- It holds of tables of either form (W5); the form is the table's, all operators have the same, and no operation changes it.
-use Rattle.std.specs.Prelude.{◌≡◌, Bool, true, false, List, [], ◌∷◌, ℕ, ◌≤◌, eqb, leb, length, get_or}
+use Rattle.std.specs.Prelude.{◌≡◌, Bool, true, false, List, [], ◌∷◌, ℕ, ◌≤◌, eqb, length, get_or}
 use Rattle.octets.specs.Choice.{pick}
 use Rattle.octets.specs.Lists.{every, keep, sum_of}
-use Rattle.octets.specs.Texts.{all_zero, zeros}
+use Rattle.octets.specs.Texts.{zeros}
 use Rattle.table.specs.TheTable.{Account, Entry, Table, own_rows, has_name, lookup, first_row, rows}
 use Rattle.message.specs.Codes.{user_unknown}
 use Rattle.message.specs.ReadingAMessage.{Request, request, read}
