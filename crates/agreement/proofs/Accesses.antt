@@ -6,11 +6,10 @@ use Prim.Native.Nat.{ℕ}
 use native.Mathlib.Omega.{arith}
 use borrow.Author.Tests.{eqb-true, not-true}
 use lib.Dec.{eqb}
-use lib.ListN.{length}
 use Rattle.octets.specs.Choice.{pick, within}
 use Rattle.octets.specs.Lists.{first_or, keep}
 use Rattle.octets.specs.Texts.{same}
-use Rattle.octets.proofs.Lists.{and_left, and_right, by-test, keep-none, same-eq, same_refl}
+use Rattle.octets.proofs.Lists.{and_left, by-test, keep-none, same-eq, same_refl}
 use Rattle.message.specs.ReadingAMessage.{Ask, tunnel, policy, termination}
 use Rattle.table.specs.TheTable.{Access, Policies, Subscriber, line}
 use Rattle.table.specs.Soundness.{on_entry}

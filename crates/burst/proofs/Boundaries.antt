@@ -1,17 +1,17 @@
 -- Where the next message ends, test by test; and the whole messages, one and then the others, whatever counts them.
 use mathlib.Core.Path.{◌≡◌, refl, sym, ap, ◌∙◌}
-use mathlib.Core.Bool.{Bool, true, false, ◌&&◌}
+use mathlib.Core.Bool.{false, ◌&&◌}
 use mathlib.Core.List.{List, [], ◌∷◌}
-use Prim.Native.Nat.{ℕ, zero, suc, ◌+◌, ◌-◌, ◌≤◌, ◌<◌}
+use Prim.Native.Nat.{ℕ, zero, suc, ◌+◌, ◌≤◌, ◌<◌}
 use native.Mathlib.Nat.{add_assoc}
 use native.Mathlib.Omega.{arith}
-use borrow.Author.Tests.{le-leb, lt-leb, leb-true, ne_eqb, eqb-false}
+use borrow.Author.Tests.{le-leb, lt-leb, ne_eqb, eqb-false}
 use lib.Dec.{eqb, leb}
-use lib.ListN.{length, take, drop, get_or, length-drop}
+use lib.ListN.{length, take, drop, length-drop}
 use lib.Seq.{get_or-drop, drop-drop}
 use Rattle.octets.specs.Choice.{pick, within}
 use Rattle.octets.specs.Numbers.{net24}
-use Rattle.octets.proofs.Lists.{by-test, and_left, and_right, both, within_low, within-high, in_within}
+use Rattle.octets.proofs.Lists.{by-test, and_right, within-high, in_within}
 use Rattle.burst.specs.TheBurst.{next_length, whole_up_to, whole_messages}
 
 -- THE NEXT MESSAGE

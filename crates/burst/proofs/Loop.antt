@@ -9,13 +9,13 @@ use borrow.Author.Tests.{eq-eqb, leb-true, ne_eqb}
 use lib.Dec.{eqb, leb}
 use lib.ListN.{length, take, drop, get_or, set, drop_of_length-le, length-append, length-drop, length-map, length-set}
 use lib.Seq.{get_or-drop, length-take-le, take_all}
-use Rattle.octets.specs.Choice.{pick, require, first_of, within}
+use Rattle.octets.specs.Choice.{pick}
 use Rattle.octets.proofs.Choice.{by-pick, first_passes, others-pass, passed}
 use Rattle.octets.proofs.Lists.{and_left, and_right}
 use Rattle.message.specs.TheRooms.{answer_least, notice_length}
 use Rattle.table.specs.Answers.{lent}
 use Rattle.table.specs.TheTable.{Table, first_number}
-use Rattle.rules.specs.Calls.{Call, Left, Result, handle}
+use Rattle.rules.specs.Calls.{Call, Left, handle}
 use Rattle.decision.specs.declared.Outcome.{Outcome}
 use Rattle.decision.specs.Outcomes.{call_of, cut_made, leaves as call_leaves, result_said}
 use Rattle.burst.specs.TheBurst.{Burst, Bursted, burst, burst_number, next_length, refused_burst, whole_messages}

@@ -1,27 +1,27 @@
 -- A burst, message by message: what one message leaves, and behind it what the burst leaves of all that is not used.
 use mathlib.Core.Path.{◌≡◌, refl, sym, ap, ap₂, ◌∙◌, subst}
-use mathlib.Core.Bool.{Bool, true, false, ◌&&◌, not}
+use mathlib.Core.Bool.{not}
 use mathlib.Core.List.{List, [], ◌∷◌, ◌++◌, append_assoc, map}
-use Prim.Native.Nat.{ℕ, zero, suc, ◌+◌, ◌-◌, ◌*◌, ◌≤◌, ◌<◌}
+use Prim.Native.Nat.{ℕ, suc, ◌+◌, ◌-◌, ◌*◌, ◌≤◌, ◌<◌}
 use native.Mathlib.Nat.{zero-add}
 use native.Mathlib.Omega.{arith}
-use borrow.Author.Tests.{le-leb, lt-leb, eq-eqb, ne_eqb}
-use lib.Dec.{eqb, leb}
-use lib.ListN.{length, take, drop, get_or, length-append, length-drop, take-append-drop}
+use borrow.Author.Tests.{le-leb}
+use lib.Dec.{eqb}
+use lib.ListN.{length, take, drop, get_or, length-append, length-drop}
 use lib.Seq.{take_at, drop_at, drop-cons, drop-drop, length-take-le}
 use Rattle.octets.specs.Choice.{pick}
 use Rattle.octets.specs.Lists.{sum_of}
-use Rattle.octets.specs.Texts.{put, zeros}
-use Rattle.octets.proofs.Texts.{length-zeros, put-nothing}
+use Rattle.octets.specs.Texts.{put}
+use Rattle.octets.proofs.Texts.{length-zeros}
 use Rattle.message.specs.TheRooms.{answer_least, notice_length}
 use Rattle.table.specs.TheTable.{Table}
-use Rattle.rules.specs.Calls.{Call, Left, Ran, Reply, Result, handle, ran_first, run}
+use Rattle.rules.specs.Calls.{Call, Left, Result, handle, ran_first, run}
 use Rattle.order.specs.Demand3.{SameLeft, Told, brought, told}
 use Rattle.order.proofs.Lists.{form-stays}
 use Rattle.order.proofs.Rooms.{brought-decides, rooms-after}
-use Rattle.burst.specs.TheBurst.{Burst, Bursted, Taken, all_told, bursted, call_for, calls_for, calls_of, how_many, joined, next_length, refused_burst, whole_messages}
+use Rattle.burst.specs.TheBurst.{Burst, Bursted, Taken, all_told, bursted, call_for, calls_for, calls_of, how_many, joined, next_length, whole_messages}
 use Rattle.burst.specs.GoingOn.{rest, together}
-use Rattle.burst.proofs.Boundaries.{next_fits, whole-next, whole-none}
+use Rattle.burst.proofs.Boundaries.{next_fits, whole-next}
 use Rattle.order.proofs.Handled.{notice-length, told-length}
 
 -- What a burst that is not refused leaves.

@@ -1,17 +1,16 @@
 -- The turns of the loop: what is written so far, put before what the burst leaves of the rest, is always the same.
-use mathlib.Core.Path.{◌≡◌, refl, sym, ap, ap₂, ◌∙◌}
-use mathlib.Core.Bool.{Bool, true, false, ◌&&◌}
-use mathlib.Core.List.{List, [], ◌∷◌, ◌++◌, append_assoc, map}
-use Prim.Native.Nat.{ℕ, zero, suc, ◌+◌, ◌-◌, ◌*◌, ◌≤◌, ◌<◌}
+use mathlib.Core.Path.{◌≡◌, refl, sym, ap, ◌∙◌}
+use mathlib.Core.Bool.{false, ◌&&◌}
+use mathlib.Core.List.{List, [], ◌∷◌, ◌++◌, append_assoc}
+use Prim.Native.Nat.{ℕ, ◌+◌, ◌*◌, ◌≤◌, ◌<◌}
 use native.Mathlib.Nat.{add-mul, add-zero, zero-add, zero-mul}
 use native.Mathlib.Omega.{arith}
 use borrow.Author.Tests.{le-leb, leb-false, leb-true, lt-leb}
-use lib.Dec.{eqb, leb}
-use lib.ListN.{length, take, drop, get_or, length-append, length-drop, take-append-drop}
-use lib.Seq.{drop-append-add, drop_at, drop-drop, length-take-le, take-append-add}
+use lib.Dec.{leb}
+use lib.ListN.{length, take, drop, take-append-drop}
+use lib.Seq.{drop-append-add, drop-drop, length-take-le, take-append-add}
 use Rattle.octets.specs.Choice.{pick}
 use Rattle.octets.specs.Lists.{sum_of}
-use Rattle.octets.specs.Texts.{put}
 use Rattle.octets.proofs.Lists.{by-test}
 use Rattle.octets.proofs.Texts.{put-nothing}
 use Rattle.message.specs.TheRooms.{answer_least, notice_length}
@@ -19,7 +18,7 @@ use Rattle.table.specs.TheTable.{Table}
 use Rattle.rules.specs.Calls.{Left, Result, handle, run}
 use Rattle.order.specs.Demand3.{Told, told}
 use Rattle.order.proofs.Rooms.{rooms-after}
-use Rattle.burst.specs.TheBurst.{Burst, Bursted, Taken, all_told, bursted, calls_for, calls_of, how_many, joined, next_length, refused_burst, whole_messages}
+use Rattle.burst.specs.TheBurst.{Burst, Bursted, all_told, bursted, calls_for, calls_of, how_many, joined, next_length, refused_burst}
 use Rattle.burst.specs.GoingOn.{rest, together}
 use Rattle.burst.proofs.Boundaries.{whole-none}
 use Rattle.order.proofs.Handled.{notice-length, told-length}

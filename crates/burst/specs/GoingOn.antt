@@ -1,6 +1,6 @@
 -- A burst that goes on: what is left for the next call, and what two calls leave together. The loop keeps it turn by turn, and crate `burstlaws` says it
 -- of calls.
-use Rattle.std.specs.Prelude.{List, ◌++◌, ℕ, ◌+◌, ◌*◌, take, drop}
+use Rattle.std.specs.Prelude.{◌++◌, ℕ, ◌+◌, ◌*◌, take, drop}
 use Rattle.message.specs.TheRooms.{notice_length}
 use Rattle.burst.specs.TheBurst.{Burst, Bursted, Taken}
 

@@ -1,12 +1,12 @@
 -- A burst (W2): messages back to back in one call, each with its word from the WAG; answers, notices and results come the same way.
-use Rattle.std.specs.Prelude.{Bool, ◌&&◌, not, List, [], ◌∷◌, ◌++◌, map, ℕ, zero, suc, ◌-◌, ◌*◌, eqb, leb, length, take, drop}
+use Rattle.std.specs.Prelude.{◌&&◌, not, List, [], ◌∷◌, ◌++◌, map, ℕ, zero, suc, ◌-◌, eqb, leb, length, take, drop}
 use Rattle.octets.specs.Choice.{pick, require, first_of, within}
 use Rattle.octets.specs.Lists.{sum_of}
 use Rattle.octets.specs.Numbers.{net24}
 use Rattle.octets.specs.Texts.{put, zeros}
 use Rattle.message.specs.TheRooms.{answer_least, notice_length}
 use Rattle.table.specs.TheTable.{Table, first_number}
-use Rattle.rules.specs.Calls.{Call, Result, Reply, Ran, run}
+use Rattle.rules.specs.Calls.{Call, Result, Ran, run}
 use Rattle.order.specs.Demand3.{Told, told}
 
 -- WHAT IS LENT WITH THE TABLE

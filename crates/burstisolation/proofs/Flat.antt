@@ -3,7 +3,6 @@ use mathlib.Core.Path.{◌≡◌, refl, sym, ap, ◌∙◌}
 use mathlib.Core.List.{List, [], ◌∷◌, ◌++◌, map}
 use Prim.Native.Nat.{ℕ}
 use lib.Dec.{eqb}
-use lib.ListN.{take}
 use Rattle.octets.specs.Choice.{pick}
 use Rattle.octets.proofs.Lists.{by-test}
 use Rattle.table.specs.TheTable.{Table}
@@ -11,7 +10,7 @@ use Rattle.setup.specs.SetUp.{enter}
 use Rattle.rules.specs.Calls.{Call, handle, ran_first, run}
 use Rattle.isolation.specs.Isolation.{Operation, answered, asking, done, done_first, past, zero_table}
 use Rattle.isolation.proofs.Isolated.{form-stays, never-eleven, within-share}
-use Rattle.burst.specs.TheBurst.{Burst, burst, burst_number, bursted, calls_of, refused_burst}
+use Rattle.burst.specs.TheBurst.{Burst, burst, burst_number, bursted, refused_burst}
 use Rattle.burstlaws.specs.BurstsRules.{taken_calls}
 use Rattle.burstisolation.specs.IsolationWithBursts.{Action, FormStaysWithBursts, NeverElevenWithBursts, WithinShareWithBursts, WithoutBursts, acted, acted_first, at_once, bursting, history, in_words, single, singly}
 

@@ -1,14 +1,12 @@
 -- Many calls equal one: the last two are one, then that one and the one before it. The second of two calls has the number of the one call, so that it
 -- is not refused by 18 either.
 use mathlib.Core.Path.{◌≡◌, refl, sym, ap, ◌∙◌}
-use mathlib.Core.Bool.{false}
-use mathlib.Core.List.{List, [], ◌∷◌}
+use mathlib.Core.List.{[], ◌∷◌}
 use Prim.Native.Nat.{ℕ}
 use lib.Dec.{eqb}
-use Rattle.table.specs.TheTable.{Table}
 use Rattle.burst.specs.TheBurst.{Burst, Bursted, burst, burst_number}
 use Rattle.burst.specs.GoingOn.{rest, together}
-use Rattle.burstlaws.specs.BurstsRules.{Part, first_part}
+use Rattle.burstlaws.specs.BurstsRules.{first_part}
 use Rattle.burstlaws.specs.ManyCalls.{ManyCalls, in_calls}
 use Rattle.burstlaws.proofs.ToldEach.{number_is}
 use Rattle.burstlaws.proofs.TwoCalls.{two-calls}

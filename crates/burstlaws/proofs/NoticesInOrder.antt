@@ -1,8 +1,8 @@
 -- The written notices, cut into pieces, are those of the results with a cut, in their order.
 use mathlib.Core.Path.{◌≡◌, refl, sym, ap, ◌∙◌, subst}
-use mathlib.Core.Bool.{Bool, true, false, ◌&&◌}
+use mathlib.Core.Bool.{Bool, true, false}
 use mathlib.Core.List.{List, [], ◌∷◌, ◌++◌, append_assoc, map}
-use Prim.Native.Nat.{ℕ, zero, suc, ◌+◌, ◌*◌, ◌≤◌}
+use Prim.Native.Nat.{ℕ, suc, ◌+◌, ◌*◌, ◌≤◌}
 use native.Mathlib.Nat.{zero-mul}
 use native.Mathlib.Omega.{arith}
 use borrow.Author.Tests.{eqb-false, eqb-true, leb-true}
@@ -18,10 +18,10 @@ use Rattle.changes.proofs.Steps.{keep-map}
 use Rattle.table.specs.TheTable.{Table}
 use Rattle.rules.specs.Calls.{Call, Result}
 use Rattle.order.specs.Demand3.{Told, brought}
-use Rattle.burst.specs.TheBurst.{Burst, Bursted, bursted, joined}
+use Rattle.burst.specs.TheBurst.{Burst, bursted, joined}
 use Rattle.burst.proofs.Loop.{burst-goes}
 use Rattle.burst.proofs.Steps.{go_on}
-use Rattle.burstlaws.specs.BurstsRules.{NoticesInOrder, WhoseNotices, told_all, with_cut}
+use Rattle.burstlaws.specs.BurstsRules.{NoticesInOrder, WhoseNotices, with_cut}
 use Rattle.burstlaws.proofs.OneByOne.{same-told, taken-calls}
 use Rattle.burstlaws.proofs.Written.{count, count-told, first_calls, not-refused, tolds, tolds-whole, whole}
 

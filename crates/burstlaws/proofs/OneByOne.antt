@@ -6,7 +6,7 @@ use lib.ListN.{length, take, drop, length-map}
 use lib.Seq.{take_at}
 use Rattle.table.specs.TheTable.{Table}
 use Rattle.rules.specs.Calls.{Call, Result, run}
-use Rattle.order.specs.Demand3.{Told, brought, told}
+use Rattle.order.specs.Demand3.{Told, brought}
 use Rattle.order.proofs.Rooms.{SameRan, same-run}
 use Rattle.burst.specs.TheBurst.{Burst, Bursted, burst, bursted, calls_of, joined}
 use Rattle.burst.proofs.Loop.{burst-goes}

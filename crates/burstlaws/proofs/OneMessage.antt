@@ -1,5 +1,5 @@
 -- A burst of one whole message is one call.
-use mathlib.Core.Path.{◌≡◌, refl, sym, ap, ◌∙◌}
+use mathlib.Core.Path.{◌≡◌, sym, ap, ◌∙◌}
 use mathlib.Core.Bool.{not}
 use mathlib.Core.List.{List, [], ◌∷◌, ◌++◌}
 use Prim.Native.Nat.{ℕ, ◌*◌, ◌≤◌, ◌<◌}
@@ -13,9 +13,8 @@ use Rattle.octets.proofs.Lists.{by-test}
 use Rattle.message.specs.TheRooms.{answer_least, notice_length}
 use Rattle.table.specs.TheTable.{Table}
 use Rattle.rules.specs.Calls.{Call, Left, handle}
-use Rattle.order.specs.Demand3.{told}
 use Rattle.order.proofs.Rooms.{rooms-after}
-use Rattle.burst.specs.TheBurst.{Burst, Bursted, burst, burst_number, next_length, refused_burst, whole_messages}
+use Rattle.burst.specs.TheBurst.{Burst, burst_number, next_length, refused_burst, whole_messages}
 use Rattle.burst.specs.GoingOn.{rest, together}
 use Rattle.burst.proofs.Boundaries.{next_fits, whole-next, whole-none}
 use Rattle.order.proofs.Handled.{notice-length, told-length}

@@ -1,6 +1,5 @@
 -- The messages that are taken, end to end, are the first bytes of those lent.
 use mathlib.Core.Path.{◌≡◌, refl, sym, ap, ◌∙◌, subst}
-use mathlib.Core.Bool.{Bool, true, false}
 use mathlib.Core.List.{List, [], ◌∷◌, ◌++◌, map}
 use Prim.Native.Nat.{ℕ, zero, suc, ◌+◌, ◌≤◌}
 use native.Mathlib.Omega.{arith}
@@ -12,7 +11,7 @@ use Rattle.octets.specs.Lists.{sum_of}
 use Rattle.octets.proofs.Lists.{by-test}
 use Rattle.table.specs.TheTable.{Table}
 use Rattle.rules.specs.Calls.{Call}
-use Rattle.burst.specs.TheBurst.{Burst, Bursted, burst, burst_number, bursted, call_for, calls_for, calls_of, joined, next_length, whole_messages, whole_up_to}
+use Rattle.burst.specs.TheBurst.{Burst, Bursted, burst_number, bursted, call_for, calls_for, calls_of, joined, next_length, whole_messages, whole_up_to}
 use Rattle.burst.proofs.Boundaries.{next_fits}
 use Rattle.burst.proofs.Loop.{burst-goes, words-fit}
 use Rattle.burst.proofs.Steps.{go_on}

@@ -1,23 +1,23 @@
 -- A burst that takes fewer messages than are whole has too little room left for one more.
 use mathlib.Core.Path.{◌≡◌, refl, sym, ap, ap₂, ◌∙◌, subst}
-use mathlib.Core.Bool.{Bool, true, false, ◌&&◌}
+use mathlib.Core.Bool.{Bool, false, ◌&&◌}
 use mathlib.Core.List.{List, [], ◌∷◌, ◌++◌, map}
-use Prim.Native.Nat.{ℕ, zero, suc, ◌+◌, ◌-◌, ◌*◌, ◌≤◌, ◌<◌}
+use Prim.Native.Nat.{ℕ, zero, suc, ◌+◌, ◌-◌, ◌*◌, ◌<◌}
 use native.Mathlib.Nat.{sub-zero}
 use native.Mathlib.Omega.{arith}
-use lib.Dec.{eqb, leb}
+use lib.Dec.{leb}
 use lib.ListN.{length, take, length-append, length-map}
 use Rattle.octets.proofs.Choice.{by-pick}
 use Rattle.message.specs.TheRooms.{answer_least, notice_length}
 use Rattle.table.specs.TheTable.{Table}
 use Rattle.rules.specs.Calls.{Call, Reply, handle, ran_first, run}
 use Rattle.order.specs.Demand3.{Told, told}
-use Rattle.burst.specs.TheBurst.{Burst, Bursted, all_told, burst, burst_number, bursted, calls_of, how_many, joined, whole_messages}
+use Rattle.burst.specs.TheBurst.{Burst, Bursted, all_told, burst_number, bursted, calls_of, how_many, joined, whole_messages}
 use Rattle.burst.proofs.Loop.{burst-goes}
 use Rattle.burst.proofs.Steps.{go_on}
 use Rattle.burstlaws.specs.BurstsRules.{WhyItStopped, room_for_one}
 use Rattle.burstlaws.proofs.TakenAreFirst.{all-messages}
-use Rattle.burstlaws.proofs.Written.{all_told_lem, count, first_calls, map-take, not-refused, notices-length, tolds, tolds-whole}
+use Rattle.burstlaws.proofs.Written.{all_told_lem, count, map-take, not-refused, notices-length, tolds, tolds-whole}
 
 abbrev pub answers_of : List Told → List ℕ
 answers_of xs = joined (map (λ (x : Told). x.answer) xs)

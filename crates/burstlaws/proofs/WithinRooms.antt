@@ -1,8 +1,8 @@
 -- A burst stays within the messages, the rooms and the places: a message is taken only where there is room for any answer and any notice.
-use mathlib.Core.Path.{◌≡◌, refl, sym, ap, ◌∙◌, subst}
-use mathlib.Core.Bool.{Bool, true, false, ◌&&◌}
+use mathlib.Core.Path.{◌≡◌, refl, ◌∙◌, subst}
+use mathlib.Core.Bool.{true, ◌&&◌}
 use mathlib.Core.List.{List, [], ◌∷◌, ◌++◌, map}
-use Prim.Native.Nat.{ℕ, zero, suc, ◌+◌, ◌-◌, ◌*◌, ◌≤◌}
+use Prim.Native.Nat.{ℕ, zero, suc, ◌+◌, ◌-◌, ◌≤◌}
 use native.Mathlib.Nat.{zero-mul}
 use native.Mathlib.Omega.{arith}
 use borrow.Author.Tests.{leb-true}
@@ -11,7 +11,6 @@ use lib.ListN.{length, take, drop, length-append, length-drop, length-map}
 use lib.Seq.{length-take-le}
 use Rattle.octets.specs.Choice.{pick}
 use Rattle.octets.specs.Lists.{every, sum_of}
-use Rattle.octets.specs.Texts.{put}
 use Rattle.octets.proofs.Choice.{by-pick}
 use Rattle.octets.proofs.Lists.{and_left, and_right, by-test}
 use Rattle.octets.proofs.Texts.{length-put}
@@ -19,7 +18,7 @@ use Rattle.message.specs.TheRooms.{answer_least, notice_length}
 use Rattle.table.specs.TheTable.{Table}
 use Rattle.rules.specs.Calls.{Result}
 use Rattle.order.specs.Demand3.{Told}
-use Rattle.burst.specs.TheBurst.{Burst, all_told, burst, burst_number, bursted, calls_of, how_many, joined, next_length, refused_burst, whole_messages, whole_up_to}
+use Rattle.burst.specs.TheBurst.{Burst, all_told, burst_number, bursted, calls_of, how_many, joined, next_length, refused_burst, whole_messages, whole_up_to}
 use Rattle.burst.proofs.Boundaries.{next_fits}
 use Rattle.burst.proofs.Loop.{places-fit}
 use Rattle.burst.proofs.Steps.{go_on}

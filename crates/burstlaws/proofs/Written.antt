@@ -1,20 +1,20 @@
 -- What a burst that is not refused writes: how many messages it takes, and that each notice has its whole length.
 use mathlib.Core.Path.{◌≡◌, refl, sym, ap, ◌∙◌, subst}
-use mathlib.Core.Bool.{Bool, true, false, ◌&&◌}
-use mathlib.Core.List.{List, [], ◌∷◌, ◌++◌, map}
-use Prim.Native.Nat.{ℕ, zero, suc, ◌+◌, ◌-◌, ◌*◌, ◌≤◌}
+use mathlib.Core.Bool.{Bool, true, ◌&&◌}
+use mathlib.Core.List.{List, [], ◌∷◌, map}
+use Prim.Native.Nat.{ℕ, zero, suc, ◌-◌, ◌*◌, ◌≤◌}
 use native.Mathlib.Nat.{add-mul, zero-mul}
 use native.Mathlib.Omega.{arith}
 use borrow.Author.Tests.{eq-eqb, eqb-true, eqb-false, le-leb}
 use lib.Dec.{eqb, leb}
-use lib.ListN.{length, take, drop, length-append, length-map}
+use lib.ListN.{length, take, length-append, length-map}
 use lib.Seq.{length-take-le}
 use Rattle.octets.specs.Lists.{every, sum_of}
 use Rattle.octets.proofs.Choice.{by-pick}
 use Rattle.octets.proofs.Lists.{and_left, and_right, both, by-test}
 use Rattle.message.specs.TheRooms.{answer_least, notice_length}
 use Rattle.table.specs.TheTable.{Table}
-use Rattle.rules.specs.Calls.{Call, Reply, handle, ran_first, run}
+use Rattle.rules.specs.Calls.{Call, handle, ran_first, run}
 use Rattle.order.specs.Demand3.{Told, told}
 use Rattle.order.proofs.Lists.{one-reply-each}
 use Rattle.burst.specs.TheBurst.{Burst, Bursted, all_told, burst, burst_number, calls_of, how_many, joined, refused_burst}

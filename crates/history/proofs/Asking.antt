@@ -7,17 +7,17 @@ use native.Mathlib.Omega.{arith}
 use borrow.Author.Tests.{eqb-true, eq-eqb, ne_eqb, not-true}
 use lib.Dec.{eqb}
 use lib.ListN.{take}
-use Rattle.octets.specs.Choice.{pick, within}
+use Rattle.octets.specs.Choice.{pick}
 use Rattle.octets.specs.Lists.{distinct, keep}
 use Rattle.octets.specs.Texts.{same}
 use Rattle.octets.proofs.Lists.{and_left, and_right, by-test, same-eq, within_low}
 use Rattle.message.specs.Codes.{plain}
 use Rattle.message.specs.ReadingAMessage.{Ask, tunnel, policy, termination}
-use Rattle.table.specs.TheTable.{Access, Account, Entry, Subscriber, Table, is_form, lookup, read_row, row, row_at}
+use Rattle.table.specs.TheTable.{Access, Account, Subscriber, Table, is_form, lookup, read_row, row, row_at}
 use Rattle.table.specs.Soundness.{on_entry, sessions}
 use Rattle.table.proofs.Good.{Good}
 use Rattle.table.proofs.Rows.{form_in}
-use Rattle.changes.specs.Changes.{kept_in, opened}
+use Rattle.changes.specs.Changes.{kept_in}
 use Rattle.rules.specs.Deciding.{entry_at, entry_named, with_session}
 use Rattle.rules.specs.Calls.{Call, Reply, call_number, handle, ran_first, reply, result_of, run}
 use Rattle.order.specs.ChecksInOrder.{deciding_checks, none_fails}

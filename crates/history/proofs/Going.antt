@@ -1,8 +1,8 @@
 -- From table to table: what operations that were seen make of one subscriber's line and of its counts, one after another.
 use mathlib.Core.Path.{◌≡◌, refl, sym, ap, ◌∙◌, subst}
-use mathlib.Core.Bool.{Bool, true, false, ◌&&◌, ◌||◌, or-true}
+use mathlib.Core.Bool.{Bool, true, ◌&&◌, ◌||◌, or-true}
 use mathlib.Core.List.{List, [], ◌∷◌, ◌++◌, map}
-use Prim.Native.Nat.{ℕ, suc, ◌+◌, ◌≤◌}
+use Prim.Native.Nat.{ℕ, suc, ◌≤◌}
 use native.Mathlib.Omega.{arith}
 use borrow.Author.Tests.{eqb-false, eqb-true}
 use lib.Dec.{eqb}
@@ -15,7 +15,7 @@ use Rattle.message.specs.ReadingAMessage.{Ask}
 use Rattle.table.specs.TheTable.{Account, Found, Table, lookup, nothing, read_row, row, row_at}
 use Rattle.table.specs.Soundness.{sound}
 use Rattle.table.proofs.Sound.{says-good}
-use Rattle.setup.specs.SetUp.{add, clear, enter}
+use Rattle.setup.specs.SetUp.{clear}
 use Rattle.rules.specs.Calls.{Call, handle, ran_first, run}
 use Rattle.order.specs.Demand2.{request_in}
 use Rattle.order.specs.Demand3.{Told, is_of, subscriber, told}

@@ -7,7 +7,7 @@ use native.Mathlib.Omega.{arith}
 use borrow.Author.Tests.{eq-eqb, ltb-false, not-true}
 use lib.Dec.{eqb, ltb}
 use lib.ListN.{length, get_or, take, length-map}
-use Rattle.octets.specs.Choice.{pick, within}
+use Rattle.octets.specs.Choice.{pick}
 use Rattle.octets.specs.Lists.{distinct, every, keep}
 use Rattle.octets.specs.Texts.{same}
 use Rattle.octets.proofs.Lists.{and_left, and_right, by-test, distinct-keep, same-comm}
@@ -25,11 +25,11 @@ use Rattle.order.specs.OpenedFirst.{Tunnel, label_asked, tunnel_of, tunnels}
 use Rattle.order.proofs.Checks.{Won, won}
 use Rattle.order.proofs.Opening.{own-found, won-success}
 use Rattle.order.proofs.Taken.{same_first}
-use Rattle.history.specs.Histories.{Cleared, from_cleared}
+use Rattle.history.specs.Histories.{from_cleared}
 use Rattle.history.specs.OrderOfOpening.{line_at, listed, on_name, standing, tunnel_cut}
 use Rattle.history.specs.WhatFollows.{LastOpenedStays, WithinLimit, limit_at, limit_of, limit_on}
 use Rattle.history.proofs.Ages.{gone, order-of-opening, reached-fine}
-use Rattle.history.proofs.Asking.{Asked, asked, asked-there, asks, full-there, good, once-listed, own-subject, passes, says, stands_at, succeeded}
+use Rattle.history.proofs.Asking.{asked, asked-there, asks, full-there, good, once-listed, own-subject, passes, stands_at, succeeded}
 use Rattle.history.proofs.Labels.{no_name, on-entry}
 use Rattle.history.proofs.SettingUp.{Fine, cleared-form, found-sound, impossible}
 use Rattle.history.proofs.Taking.{every-amid, many, sids}

@@ -1,6 +1,6 @@
 -- An account has one row at most: entering refuses an account that has one, and nothing else changes by whom a row is found.
 use mathlib.Core.Path.{◌≡◌, refl, sym, ap, ◌∙◌, subst}
-use mathlib.Core.Bool.{Bool, true, false}
+use mathlib.Core.Bool.{Bool, false}
 use mathlib.Core.List.{List, [], ◌∷◌}
 use Prim.Native.Nat.{ℕ, zero, suc, ◌/◌, ◌≤◌}
 use native.Mathlib.Omega.{arith}
@@ -24,7 +24,7 @@ use Rattle.order.proofs.Opening.{found_at, one-owner, same-account}
 use Rattle.order.proofs.Rest.{in_table}
 use Rattle.order.proofs.Setting.{add-first, entered-found, not-held}
 use Rattle.table.proofs.Rows.{first-table}
-use Rattle.history.proofs.SettingUp.{AddWent, EnterWent, add-went, after, after_is, cleared-nothing, enter-went, found-as-before, good, inside, more, none-failed, not_found, row_before, row_new, rows-after, stayed-add, stayed-enter, then, then_is, was-zero, wrote-add, wrote-enter, zero-unfound}
+use Rattle.history.proofs.SettingUp.{AddWent, EnterWent, add-went, after, after_is, cleared-nothing, enter-went, found-as-before, good, inside, more, none-failed, not_found, row_before, row_new, rows-after, stayed-add, stayed-enter, then_is, was-zero, wrote-add, wrote-enter, zero-unfound}
 
 -- how many rows are an account's
 abbrev pub rows_for : Account → Table → ℕ

@@ -6,8 +6,8 @@ use Prim.Native.Nat.{ℕ, zero, suc, ◌-◌, ◌*◌, ◌/◌, ◌<◌}
 use native.Mathlib.Omega.{arith}
 use borrow.Author.Tests.{eqb-false, eqb-true}
 use lib.Dec.{eqb}
-use lib.ListN.{length, get_or, set, take, drop}
-use Rattle.octets.specs.Choice.{pick, within}
+use lib.ListN.{length, get_or, set, take}
+use Rattle.octets.specs.Choice.{within}
 use Rattle.octets.specs.Lists.{every}
 use Rattle.octets.specs.Texts.{all_zero, pieces, same, zeros}
 use Rattle.octets.proofs.Choice.{by-pick}

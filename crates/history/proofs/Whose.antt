@@ -1,6 +1,5 @@
 -- Whose what was seen is: each success is an account's, and nothing else was told of a place or a cut.
-use mathlib.Core.Path.{◌≡◌, refl, sym, ap, ◌∙◌, subst}
-use mathlib.Core.Bool.{true, false}
+use mathlib.Core.Path.{◌≡◌, refl, sym, ◌∙◌, subst}
 use mathlib.Core.List.{List, [], ◌∷◌, ◌++◌, map}
 use Prim.Native.Nat.{ℕ}
 use borrow.Author.Tests.{eqb-false, eqb-true}

@@ -7,7 +7,7 @@ use native.Mathlib.Omega.{arith}
 use borrow.Author.Tests.{eqb-true, eqb-false, leb-true, le-leb}
 use lib.Dec.{eqb, leb}
 use lib.ListN.{length}
-use Rattle.octets.specs.Choice.{pick, within}
+use Rattle.octets.specs.Choice.{within}
 use Rattle.octets.specs.Lists.{every, first_or, keep}
 use Rattle.octets.proofs.Choice.{by-pick}
 use Rattle.octets.proofs.Lists.{and_left, and_right, both, by-test, every-imp, every-keep, within-high}

@@ -13,9 +13,9 @@ use Rattle.octets.specs.Lists.{keep}
 use Rattle.octets.specs.Texts.{same}
 use Rattle.octets.proofs.Lists.{and_left, and_right, both, by-test, same_refl}
 use Rattle.message.specs.Codes.{number_of, plain}
-use Rattle.message.specs.ReadingAMessage.{Ask, Request, read, request as request-of, tunnel}
+use Rattle.message.specs.ReadingAMessage.{Request, read, request as request-of, tunnel}
 use Rattle.message.proofs.Lengths.{passing}
-use Rattle.table.specs.TheTable.{Access as Tunnel, Account, Found, Subscriber, Table, barred, is_row_of, lookup, may_roam, nothing, read_row, row, row_at, row_bytes, table_number, width, with_row}
+use Rattle.table.specs.TheTable.{Access as Tunnel, Found, Subscriber, Table, barred, is_row_of, lookup, may_roam, nothing, read_row, row, row_at, row_bytes, table_number, width, with_row}
 use Rattle.table.specs.Soundness.{sound}
 use Rattle.table.proofs.Rows.{row_same, row_at-form, whole-rows}
 use Rattle.table.proofs.Sound.{row_is}

@@ -1,6 +1,6 @@
 -- The worked cases, computed by the definitions.
 use mathlib.Core.Path.{◌≡◌, refl}
-use mathlib.Core.Bool.{true, ◌&&◌}
+use mathlib.Core.Bool.{true}
 use Rattle.octets.specs.Choice.{pick, require, first_of, within}
 use Rattle.octets.specs.Lists.{every, keep, distinct, first_or, sum_of, counted, is_on, up_to0}
 use Rattle.octets.specs.Numbers.{net24, net32, in24, in32, up4}
@@ -18,7 +18,7 @@ use Rattle.changes.specs.Changes.{leave, freed, vacant, lowest_free, new_access,
 use Rattle.setup.specs.SetUp.{leaving, clear, shares_fit, share, enter_number, with_row_at, enter, entry_number, add_at, add}
 use Rattle.rules.specs.Calls.{call_number, silent, notice_bytes, notice_room, result_of, reply, refusal, table_after, settled, on_row, account, on_reading, handle, ran_first, run, most_policies}
 use Rattle.rules.specs.Deciding.{refuse, grant, entry_from, entry_named, no_entry, entry_at, with_session, place_of, none, at_place, open_on, first_on, at_limit, admit, stands_on, held_already, type0, type1, terminate, decide}
-use Rattle.rules.specs.WorkedCases.{of, one_share, with_label, start, notice_before, ask_with, ask_from, ask, no_cut, cut_of_both, cut_of, cut_of2, granted, denied, goes_on, twelve, gated, capital_entry, in_both_cases, capital_only, others, shared, both, other, board_entry, operators, blank, start_in, policy_of, access_says, first_says, in_room, in_form2}
+use Rattle.rules.specs.WorkedCases.{of, one_share, with_label, start, notice_before, ask_with, ask_from, ask, no_cut, cut_of_both, cut_of, cut_of2, granted, denied, goes_on, twelve, gated, capital_entry, in_both_cases, capital_only, others, blank, start_in}
 use Rattle.gateway.specs.WorkedCases.{lent, request_by_hand}
 use Rattle.renewal.specs.TheAccessGoesOn.{maintains, maintained_in, still_stands}
 use Rattle.renewal.specs.WorkedCases.{cases}

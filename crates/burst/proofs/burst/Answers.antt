@@ -6,7 +6,6 @@ use Rattle.table.specs.Answers.{lent}
 use Rattle.burst.specs.TheBurst.{refused_burst}
 use Rattle.burst.specs.Code.{burst_of, leaves, result_in}
 use Rattle.burst.proofs.Loop.{burst-refused}
-use borrow.Author.Rules.{rules}
 use Rattle.burst.proofs.burst.Goals as goal
 
 pub returns-then-n-ne0 : goal.returns-then-n-ne0

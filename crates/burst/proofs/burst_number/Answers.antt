@@ -1,9 +1,7 @@
 -- Each way out is the law of the first test that fails.
 use mathlib.Core.Path.{◌≡◌, sym, ◌∙◌}
 use mathlib.Core.Bool.{true}
-use Prim.Native.Nat.{◌-◌}
 use native.Mathlib.Omega.{arith}
-use borrow.Author.Tests.{not-true, not-false}
 use lib.ListN.{length}
 use Rattle.octets.specs.Choice.{within}
 use Rattle.table.specs.Answers.{lent}
@@ -11,7 +9,6 @@ use Rattle.table.specs.TheTable.{first_number}
 use Rattle.burst.specs.TheBurst.{whole_messages}
 use Rattle.burst.specs.Code.{burst_of}
 use Rattle.burst.proofs.Refusals.{refused-first, refused-host, refused-realm, refused-wags, refused-results, refused-not}
-use borrow.Author.Rules.{rules}
 use Rattle.burst.proofs.burst_number.Goals as goal
 
 pub returns-then-n-ne0 : goal.returns-then-n-ne0

@@ -1,11 +1,10 @@
 -- Each way out is the law of the test that fails, on the bytes that are left.
 use mathlib.Core.Path.{◌≡◌, sym, ◌∙◌}
-use Prim.Native.Nat.{◌-◌, ◌+◌}
+use Prim.Native.Nat.{◌-◌}
 use native.Mathlib.Omega.{arith}
 use lib.ListN.{length, drop, length-drop}
 use Rattle.octets.specs.Numbers.{net24}
 use Rattle.burst.proofs.Boundaries.{header_at, next-short, next_under, next_past, next-is}
-use borrow.Author.Rules.{rules}
 use Rattle.burst.proofs.next_length.Goals as goal
 
 pub returns-then-left-lt-LENGTH_END : goal.returns-then-left-lt-LENGTH_END

@@ -1,10 +1,8 @@
 -- The tests of the rooms, and then the boundary.
-use mathlib.Core.Path.{◌≡◌, sym, ◌∙◌}
-use Prim.Native.Nat.{◌-◌}
+use mathlib.Core.Path.{sym, ◌∙◌}
 use lib.ListN.{drop}
 use Rattle.burst.specs.TheBurst.{next_length}
 use Rattle.burst.proofs.Turns.{no-answer-room, no-notice-room, room-for-both}
-use borrow.Author.Rules.{rules}
 use Rattle.burst.proofs.next_taken.Goals as goal
 
 pub returns-then-answers-lt-ANSWER_LEAST : goal.returns-then-answers-lt-ANSWER_LEAST

@@ -7,7 +7,6 @@ use Rattle.numbers.specs.declared.Numbers.{Numbers}
 use Rattle.numbers.specs.InNumbers.{numbers_said}
 use Rattle.burst.specs.Code.{result_in}
 use Rattle.burst.proofs.Places.{map-set}
-use borrow.Author.Rules.{rules}
 use Rattle.burst.proofs.put_result.Goals as goal
 
 abbrev eight : Numbers → List ℕ

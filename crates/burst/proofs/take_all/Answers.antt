@@ -1,14 +1,12 @@
 use mathlib.Core.Path.{refl, sym, ◌∙◌}
 use mathlib.Core.Bool.{not}
 use mathlib.Core.List.{map}
-use Prim.Native.Nat.{◌-◌}
 use native.Mathlib.Omega.{arith}
 use lib.Dec.{eqb}
-use lib.ListN.{length, get_or}
+use lib.ListN.{get_or}
 use Rattle.table.specs.Answers.{lent}
 use Rattle.burst.specs.Code.{burst_of, result_in}
-use Rattle.burst.proofs.Loop.{Going, burst-goes, from-fits, going-again, going-first, going-last, one-cut, place-left, used-fits, word-left}
-use borrow.Author.Rules.{rules}
+use Rattle.burst.proofs.Loop.{burst-goes, from-fits, going-again, going-first, going-last, one-cut, place-left, used-fits, word-left}
 use Rattle.burst.proofs.take_all.Goals as goal
 
 pub loop-next-preserved : goal.loop-next-preserved

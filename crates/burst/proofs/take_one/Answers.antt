@@ -5,7 +5,6 @@ use Rattle.rules.specs.Calls.{Left}
 use Rattle.decision.specs.Outcomes.{leaves}
 use Rattle.numbers.specs.InNumbers.{In32}
 use Rattle.numbers.proofs.Small.{small}
-use borrow.Author.Rules.{rules}
 use Rattle.burst.proofs.take_one.Goals as goal
 
 pub put_result-requires : goal.put_result-requires

@@ -1,11 +1,10 @@
 use mathlib.Core.Path.{◌≡◌, sym, ap, ◌∙◌}
 use mathlib.Core.List.{[]}
-use Prim.Native.Nat.{◌-◌, ◌+◌, ◌≤◌}
+use Prim.Native.Nat.{◌+◌, ◌≤◌}
 use native.Mathlib.Omega.{arith}
-use lib.ListN.{length, drop, length-drop}
+use lib.ListN.{length, drop}
 use Rattle.burst.specs.TheBurst.{next_length, whole_messages}
 use Rattle.burst.proofs.Boundaries.{next-within, whole-none, whole-count}
-use borrow.Author.Rules.{rules}
 use Rattle.burst.proofs.whole_messages.Goals as goal
 
 pub loop-next-init : goal.loop-next-init

@@ -1,12 +1,8 @@
 -- What is counted, with the whole messages that are left, is all of them.
-use mathlib.Core.Path.{◌≡◌, sym, ap, ◌∙◌}
-use mathlib.Core.List.{[]}
+use mathlib.Core.Path.{◌≡◌}
 use Prim.Native.Nat.{◌-◌, ◌+◌, ◌≤◌}
-use native.Mathlib.Omega.{arith}
-use lib.ListN.{length, drop, length-drop}
+use lib.ListN.{length, drop}
 use Rattle.burst.specs.TheBurst.{next_length, whole_messages}
-use Rattle.burst.proofs.Boundaries.{next-within, whole-none, whole-count}
-use borrow.Author.Rules.{rules}
 use Rattle.burst.proofs.whole_messages.Given as goal
 
 abbrev pub invariant-loop-next : goal.invariant-loop-next

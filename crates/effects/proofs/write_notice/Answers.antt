@@ -83,10 +83,9 @@ write_realm-realm-requires c =
     let given = c.args in
     let pre-was = c.requires in
     let at-was = c.at-row in
-    let noted = c.notice-1 in
     let t = lent given.form given.table.now in
     let two = c.if-form-ne2.false in (
-      omega (arith, notice-long given.form two, pre-was.0, noted.given),
+      omega (arith, notice-long given.form two, pre-was.0),
       ap sound at-was.ensures ∙ pre-was.3,
       ap (λ (s : List ℕ). is_on (order_line s) given.k) at-was.ensures ∙ pre-was.4,
       ap form_of at-was.ensures ∙ form-there t given.i pre-was.2 ∙ two,

@@ -1,6 +1,5 @@
 -- Each case of a cut has its number.
 use Rattle.decision.specs.Outcomes.{cut_made}
-use borrow.Author.Rules.{rules}
 use Rattle.numbers.proofs.cut_number.Goals as goal
 
 pub returns-in-NoCut : goal.returns-in-NoCut

@@ -1,6 +1,5 @@
 -- Each case of a cut has its length.
 use Rattle.decision.specs.Outcomes.{cut_host}
-use borrow.Author.Rules.{rules}
 use Rattle.numbers.proofs.host_number.Goals as goal
 
 pub narrow-requires : goal.narrow-requires

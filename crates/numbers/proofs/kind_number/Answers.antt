@@ -1,7 +1,6 @@
 -- Each kind has its number, whatever the code.
 use Rattle.message.specs.Codes.{kind_of}
 use Rattle.message.specs.Kinds.{code_from}
-use borrow.Author.Rules.{rules}
 use Rattle.numbers.proofs.kind_number.Goals as goal
 
 pub returns-in-NoAnswer : goal.returns-in-NoAnswer

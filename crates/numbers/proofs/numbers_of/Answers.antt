@@ -1,7 +1,6 @@
 -- Number by number, from what each part promises.
 use Rattle.decision.specs.Outcomes.{result_said}
 use Rattle.numbers.specs.InNumbers.{numbers_said}
-use borrow.Author.Rules.{rules}
 use Rattle.numbers.proofs.numbers_of.Goals as goal
 
 -- what is returned comes before the bounds: a wrong number is refused here

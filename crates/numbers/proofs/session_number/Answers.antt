@@ -1,6 +1,5 @@
 -- Each case of a cut has its length.
 use Rattle.decision.specs.Outcomes.{cut_session}
-use borrow.Author.Rules.{rules}
 use Rattle.numbers.proofs.session_number.Goals as goal
 
 pub narrow-requires : goal.narrow-requires

@@ -11,7 +11,6 @@ use Rattle.decision.specs.Outcomes.{call_of}
 use Rattle.order.specs.ChecksInOrder.{first_failed, reading_checks}
 use Rattle.rules.specs.Calls.{account, most_policies}
 use Rattle.reasons.proofs.OnRow.{not-read, was_read}
-use borrow.Author.Rules.{rules}
 use Rattle.reasons.proofs.answered_for.Goals as goal
 
 pub read-heard-requires : goal.read-heard-requires

@@ -2,7 +2,6 @@
 use mathlib.Core.Path.{sym, ap, ◌∙◌}
 use Rattle.reasons.specs.Reasons.{check_named}
 use Rattle.reasons.proofs.Laws.{fault_at, fault-entry}
-use borrow.Author.Rules.{rules}
 use Rattle.reasons.proofs.avp_failed.Goals as goal
 
 pub returns-in-Few : goal.returns-in-Few

@@ -10,7 +10,6 @@ use Rattle.message.specs.declared.Got.TheVariants.{Found, Absent, Code}
 use Rattle.message.specs.contracts.Got.{the_type}
 use Rattle.octets.specs.Choice.{require}
 use Rattle.message.specs.Spans.{code_of}
-use borrow.Author.Rules.{rules}
 use Rattle.reasons.proofs.code_in.Goals as goal
 
 no_code : (g : Got) → OneOf (0 ∷ 1 ∷ []) (tag_of the_type g) → 0 ≡ code_of false g

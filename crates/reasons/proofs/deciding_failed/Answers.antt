@@ -4,7 +4,6 @@ use mathlib.Core.Bool.{true}
 use Rattle.octets.specs.Lists.{every}
 use Rattle.octets.proofs.Lists.{and_left, and_right}
 use Rattle.message.specs.Spans.{asks, bytes_of, spans_in, is_inside}
-use borrow.Author.Rules.{rules}
 use Rattle.reasons.proofs.deciding_failed.Goals as goal
 
 pub text-requires : goal.text-requires

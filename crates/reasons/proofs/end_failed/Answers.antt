@@ -5,7 +5,6 @@ use Rattle.message.specs.Positions.{names, name_at}
 use Rattle.message.specs.Spans.{bytes_field}
 use Rattle.reasons.specs.Parts.{behind_type}
 use Rattle.reasons.proofs.Laws.{fields-joined}
-use borrow.Author.Rules.{rules}
 use Rattle.reasons.proofs.end_failed.Goals as goal
 
 pub returns : goal.returns

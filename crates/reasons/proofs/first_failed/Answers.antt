@@ -6,7 +6,6 @@ use Rattle.decision.specs.Outcomes.{call_of}
 use Rattle.decision.proofs.Numbers.{is-ready, table-right}
 use Rattle.reasons.specs.Reasons.{check_named, ground_named}
 use Rattle.reasons.proofs.OnRow.{unanswered-ground, answered-ground}
-use borrow.Author.Rules.{rules}
 use Rattle.reasons.proofs.first_failed.Goals as goal
 
 pub returns-then-n-ne0 : goal.returns-then-n-ne0

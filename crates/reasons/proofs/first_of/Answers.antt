@@ -10,7 +10,6 @@ use Rattle.reasons.specs.declared.Reason.TheVariants.{Passes, ReservedBits, Erro
 use Rattle.reasons.specs.Reasons.{check_named}
 use Rattle.reasons.specs.contracts.Reason.{the_type}
 use Rattle.reasons.proofs.Laws.{only}
-use borrow.Author.Rules.{rules}
 use Rattle.reasons.proofs.first_of.Goals as goal
 
 -- every reason but the first names a check that fails

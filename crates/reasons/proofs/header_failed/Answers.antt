@@ -4,7 +4,6 @@ use Rattle.octets.specs.Choice.{pick}
 use Rattle.message.specs.ReadingAMessage.{header_code}
 use Rattle.reasons.specs.Reasons.{check_named}
 use Rattle.reasons.proofs.Laws.{header_entry, header-entry, header-last}
-use borrow.Author.Rules.{rules}
 use Rattle.reasons.proofs.header_failed.Goals as goal
 
 pub returns-in-0 : goal.returns-in-0

@@ -18,7 +18,6 @@ use Rattle.reasons.specs.declared.Reason.{Reason}
 use Rattle.reasons.specs.Reasons.{check_named}
 use Rattle.reasons.specs.Parts.{behind_type, first_of_fields}
 use Rattle.reasons.proofs.Laws.{field-one, fields-joined, field-stops, field-passes}
-use borrow.Author.Rules.{rules}
 use Rattle.reasons.proofs.list_265_failed.Goals as goal
 
 -- the fields before the type

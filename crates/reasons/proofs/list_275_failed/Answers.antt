@@ -4,7 +4,6 @@ use Rattle.message.specs.ReadingAMessage.{text_field, label_field, number_field,
 use Rattle.message.specs.Positions.{names, name_at}
 use Rattle.message.specs.Spans.{bytes_field}
 use Rattle.reasons.proofs.Laws.{fields-joined}
-use borrow.Author.Rules.{rules}
 use Rattle.reasons.proofs.list_275_failed.Goals as goal
 
 pub returns : goal.returns

@@ -1,9 +1,7 @@
 -- Session-Id first, then the fields of both requests, then those of the command.
 use mathlib.Core.Path.{sym, ◌∙◌}
-use borrow.Author.Tests.{not-true, not-false}
 use Rattle.reasons.specs.Reasons.{check_named}
 use Rattle.reasons.proofs.Laws.{fields-joined, not_first, list-265, list-275}
-use borrow.Author.Rules.{rules}
 use Rattle.reasons.proofs.lists_failed.Goals as goal
 
 pub returns-then-not-starts : goal.returns-then-not-starts

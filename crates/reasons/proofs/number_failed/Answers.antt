@@ -3,7 +3,6 @@ use mathlib.Core.Path.{refl, sym, ◌∙◌}
 use Rattle.message.specs.ReadingAMessage.{avps, having, number_field, field_code}
 use Rattle.message.specs.Positions.{name_at}
 use Rattle.reasons.proofs.Laws.{field-one}
-use borrow.Author.Rules.{rules}
 use Rattle.reasons.proofs.number_failed.Goals as goal
 
 pub returns : goal.returns

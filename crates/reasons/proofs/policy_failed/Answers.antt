@@ -10,7 +10,6 @@ use Rattle.plans.specs.Plans.{plan_code}
 use Rattle.table.specs.TheTable.{read_row}
 use Rattle.reasons.specs.Reasons.{check_named}
 use Rattle.reasons.proofs.OnRow.{opening, policy_entry, policy-planned, policy-goes}
-use borrow.Author.Rules.{rules}
 use Rattle.reasons.proofs.policy_failed.Goals as goal
 
 pub returns-in-UnableToComply : goal.returns-in-UnableToComply

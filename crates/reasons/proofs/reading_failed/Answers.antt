@@ -2,7 +2,6 @@
 use mathlib.Core.Path.{refl, sym, ◌∙◌}
 use Rattle.octets.specs.Texts.{zeros}
 use Rattle.reasons.proofs.Laws.{header-first, walk_first, lists-last}
-use borrow.Author.Rules.{rules}
 use Rattle.reasons.proofs.reading_failed.Goals as goal
 
 pub returns-then-header_code-ne0 : goal.returns-then-header_code-ne0

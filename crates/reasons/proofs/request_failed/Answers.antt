@@ -5,7 +5,6 @@ use mathlib.Core.Bool.{true, false}
 use Prim.Native.Nat.{ℕ, ◌+◌, ◌*◌, ◌≤◌}
 use native.Mathlib.Omega.{arith}
 use lib.ListN.{length}
-use borrow.Author.Tests.{not-true, not-false}
 use Rattle.message.specs.Spans.{asks, bytes_of}
 use Rattle.table.specs.TheTable.{Found, lookup, nothing, read_row, row, row_at, row_length}
 use Rattle.table.specs.Soundness.{is_row, sound}
@@ -15,7 +14,6 @@ use Rattle.decision.proofs.Answered.{row-there}
 use Rattle.order.specs.ChecksInOrder.{first_failed, deciding_checks}
 use Rattle.reasons.specs.Reasons.{check_named}
 use Rattle.reasons.proofs.OnRow.{no-row, unsound-row, sound-row}
-use borrow.Author.Rules.{rules}
 use Rattle.reasons.proofs.request_failed.Goals as goal
 
 pub returns-in_default : goal.returns-in_default

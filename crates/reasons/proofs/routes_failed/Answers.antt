@@ -4,7 +4,6 @@ use mathlib.Core.Bool.{Bool}
 use Rattle.message.specs.ReadingAMessage.{avps, having, field_code, routing_policy, texts_field}
 use Rattle.message.specs.Positions.{names, name_at}
 use Rattle.reasons.proofs.Laws.{field-one}
-use borrow.Author.Rules.{rules}
 use Rattle.reasons.proofs.routes_failed.Goals as goal
 
 pub returns-then-required : goal.returns-then-required

@@ -8,7 +8,6 @@ use Rattle.plans.specs.Plans.{plan_code}
 use Rattle.table.specs.TheTable.{read_row}
 use Rattle.reasons.specs.Reasons.{check_named}
 use Rattle.reasons.proofs.OnRow.{opening, end_entry, end-planned, end-passes}
-use borrow.Author.Rules.{rules}
 use Rattle.reasons.proofs.termination_failed.Goals as goal
 
 pub returns-in-UnusedByUser : goal.returns-in-UnusedByUser

@@ -4,7 +4,6 @@ use Rattle.message.specs.ReadingAMessage.{avps, having, field_code}
 use Rattle.message.specs.Positions.{name_at}
 use Rattle.message.specs.Spans.{bytes_field}
 use Rattle.reasons.proofs.Laws.{field-one}
-use borrow.Author.Rules.{rules}
 use Rattle.reasons.proofs.text_failed.Goals as goal
 
 pub returns : goal.returns

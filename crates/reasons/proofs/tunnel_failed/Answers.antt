@@ -8,7 +8,6 @@ use Rattle.plans.specs.Plans.{plan_code}
 use Rattle.table.specs.TheTable.{read_row}
 use Rattle.reasons.specs.Reasons.{check_named}
 use Rattle.reasons.proofs.OnRow.{opening, tunnel_entry, tunnel-planned, tunnel-passes}
-use borrow.Author.Rules.{rules}
 use Rattle.reasons.proofs.tunnel_failed.Goals as goal
 
 pub returns-in-NotSubscribed : goal.returns-in-NotSubscribed

@@ -1,15 +1,12 @@
 use mathlib.Core.Path.{◌≡◌, refl, sym, ◌∙◌}
-use Prim.Native.Nat.{◌-◌, ◌≤◌}
 use native.Mathlib.Omega.{arith}
-use borrow.Author.Tests.{not-true, not-false}
-use lib.ListN.{length, drop}
+use lib.ListN.{drop}
 use Rattle.reader.specs.Steps.{step_at}
 use Rattle.reader.specs.declared.Step.TheVariants.{One}
 use Rattle.reader.proofs.Laws.{placed}
-use Rattle.order.specs.ChecksInOrder.{first_failed, walk_from, walk_checks}
+use Rattle.order.specs.ChecksInOrder.{walk_checks}
 use Rattle.reasons.specs.Reasons.{check_named}
 use Rattle.reasons.proofs.Laws.{walk_ends, walk-stops, walk-refuses, walk-goes}
-use borrow.Author.Rules.{rules}
 use Rattle.reasons.proofs.walk_failed.Goals as goal
 
 pub loop-fault-init : goal.loop-fault-init

@@ -1,16 +1,8 @@
 -- What is left to walk has the same first failing check: `walk-goes` of Laws; an AVP that is not supported is that check: `walk-refuses`.
-use mathlib.Core.Path.{◌≡◌, refl, sym, ◌∙◌}
+use mathlib.Core.Path.{◌≡◌}
 use Prim.Native.Nat.{◌-◌, ◌≤◌}
-use native.Mathlib.Omega.{arith}
-use borrow.Author.Tests.{not-true, not-false}
 use lib.ListN.{length, drop}
-use Rattle.reader.specs.Steps.{step_at}
-use Rattle.reader.specs.declared.Step.TheVariants.{One}
-use Rattle.reader.proofs.Laws.{placed}
 use Rattle.order.specs.ChecksInOrder.{first_failed, walk_from, walk_checks}
-use Rattle.reasons.specs.Reasons.{check_named}
-use Rattle.reasons.proofs.Laws.{walk_ends, walk-stops, walk-refuses, walk-goes}
-use borrow.Author.Rules.{rules}
 use Rattle.reasons.proofs.walk_failed.Given as goal
 
 abbrev pub invariant-loop-fault : goal.invariant-loop-fault

@@ -17,4 +17,4 @@ loop-i-preserved c =
     )
 
 pub returns : goal.returns
-returns c = c.loop-i.invariant.2 i (omega arith)
+returns c i p = c.loop-i.invariant.2 i (omega arith)

@@ -5,7 +5,6 @@ use Rattle.gateway.specs.Code.{call_of, leaves}
 use Rattle.gateway.specs.TheGateway.{Call, Left, reauthorize}
 use Rattle.gateway.proofs.Sizes.{sizes}
 use Rattle.wm_gateway.specs.InC.{leaves_in_c}
-use borrow.Author.Rules.{rules}
 use Rattle.wm_gateway.proofs.wm_reauth.Goals as goal
 
 pub narrow-length-requires : goal.narrow-length-requires

@@ -1,5 +1,4 @@
 -- What judging leaves, its numbers by their names in C. Written out so that a call with other arguments is refused here, at the promise.
-use borrow.Author.Rules.{rules}
 use Rattle.likeness.specs.Code.{said}
 use Rattle.judge.specs.Code.{leaves}
 use Rattle.wm_judge.specs.InC.{leaves_in_c}
