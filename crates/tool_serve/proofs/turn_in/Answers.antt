@@ -3,4 +3,4 @@ use borrow.Author.Rules.{rules}
 use Rattle.tool_serve.proofs.turn_in.Goals as goal
 
 pub shape_of-messages : goal.shape_of-messages
-shape_of-messages c = search (rules, c.gather-p.auto.realm)
+shape_of-messages c = search (rules, c.gather-p.auto.messages)
