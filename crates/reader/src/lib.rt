@@ -113,7 +113,7 @@ fn step_at(m: &[u8], at: usize) -> Step
 
 // THE READER
 
-#[derive(Drop)]
+#[derive(Clone, Copy)]
 pub struct Reader<'a> {
     pub src: &'a [u8],
     pub at: usize,

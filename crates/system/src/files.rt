@@ -31,18 +31,6 @@ fn status_of(known: &Metadata) -> Status {
     }
 }
 
-// What is known of no file.
-fn nothing() -> Status {
-    Status {
-        device: 0,
-        inode: 0,
-        names: 0,
-        mode: 0,
-        owner: 0,
-        group: 0,
-    }
-}
-
 fn ask(file: &File) -> io::Result<Status> {
     let known = file.metadata()?;
     Ok(status_of(&known))
@@ -258,8 +246,8 @@ impl System {
         }
     }
 
-    // What is known of an open file, of nothing where it is not open.
-    pub fn fstat(&self, fd: i32) -> Status {
+    // What is known of an open file.
+    pub fn fstat(&self, fd: i32) -> Option<Status> {
         if fd == STDOUT_FILENO {
             return self.known(ask_by_name(self, "/proc/self/fd/1"));
         }
@@ -269,31 +257,31 @@ impl System {
         self.status(fd)
     }
 
-    fn known(&self, asked: io::Result<Status>) -> Status {
+    fn known(&self, asked: io::Result<Status>) -> Option<Status> {
         match asked {
-            Ok(s) => s,
+            Ok(s) => Some(s),
             Err(e) => {
                 self.failed(&e);
-                nothing()
+                None
             }
         }
     }
 
-    fn status(&self, fd: i32) -> Status {
+    fn status(&self, fd: i32) -> Option<Status> {
         let Ok(files) = self.files.try_borrow() else {
-            return nothing();
+            return None;
         };
         let i = place_of(fd);
         if MOST_FILES <= i {
             self.set_errno(EBADF);
-            return nothing();
+            return None;
         }
         let all = &*files;
         match &all[i] {
             Some(file) => self.known(ask(file)),
             None => {
                 self.set_errno(EBADF);
-                nothing()
+                None
             }
         }
     }

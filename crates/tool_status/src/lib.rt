@@ -10,9 +10,24 @@ const PLAIN: u32 = 0o100000;
 
 const FOLDER: u32 = 0o040000;
 
+// What is known of no file.
+fn blank() -> Status {
+    Status {
+        device: 0,
+        inode: 0,
+        names: 0,
+        mode: 0,
+        owner: 0,
+        group: 0,
+    }
+}
+
 // What is known of the file that is open as `fd`; of none where it is not open.
 pub fn of(sys: &System, fd: i32) -> Status {
-    sys.fstat(fd)
+    match sys.fstat(fd) {
+        Some(s) => s,
+        None => blank(),
+    }
 }
 
 // Whether two files are one, whatever they are called.

@@ -2,4 +2,3 @@ pub mod Small
 pub mod NoSecondAnswer
 pub mod Ensured
 pub mod EnsuredOfTheBoard
-pub mod Fed

@@ -9,7 +9,7 @@ use Rattle.replay_verdict.proofs.result.Goals as goal
 
 pub loop-k-init : goal.loop-k-init
 loop-k-init c = let a = c.args in
-    (omega arith, search rules, numbers-start a.r.now a.at a.t3)
+    (omega arith, search rules, numbers-start a.r.now a.at a.place)
 
 pub returns-then-expected-got : goal.returns-then-expected-got
 unfolding agreed
@@ -17,19 +17,19 @@ returns-then-expected-got c =
     let l = c.loop-k in
     let a = c.args in
     let n = c.number-expected in
-    sym (number-other a.r.now (a.at + 4 * l.k) a.t3 l.k (omega (arith, l.invariant.1)) (λ e. c.if-expected-got.true (n.ensures.0 ∙ e))) ∙ l.invariant.2
+    sym (number-other a.r.now (a.at + 4 * l.k) a.place l.k (omega (arith, l.invariant.1)) (λ e. c.if-expected-got.true (n.ensures.0 ∙ e))) ∙ l.invariant.2
 
 pub loop-k-preserved : goal.loop-k-preserved
 loop-k-preserved c =
     let l = c.loop-k in
     let a = c.args in
     let n = c.number-expected in
-    let step = number_same a.r.now (a.at + 4 * l.k) a.t3 l.k (omega (arith, l.invariant.1)) (sym n.ensures.0 ∙ c.if-expected-got.false) in
-    (omega arith, l.invariant.1, numbers-next a.r.now a.at a.t3 l.k ∙ (step ∙ l.invariant.2))
+    let step = number_same a.r.now (a.at + 4 * l.k) a.place l.k (omega (arith, l.invariant.1)) (sym n.ensures.0 ∙ c.if-expected-got.false) in
+    (omega arith, l.invariant.1, numbers-next a.r.now a.at a.place l.k ∙ (step ∙ l.invariant.2))
 
 pub returns : goal.returns
 unfolding agreed
 returns c =
     let l = c.loop-k in
     let a = c.args in
-    sym (numbers-end a.r.now (a.at + 4 * l.k) a.t3 l.k (omega (arith, l.invariant.1))) ∙ l.invariant.2
+    sym (numbers-end a.r.now (a.at + 4 * l.k) a.place l.k (omega (arith, l.invariant.1))) ∙ l.invariant.2

@@ -5,7 +5,6 @@ use Rattle.abort.specs.Code.{cut_of, leaves}
 use Rattle.abort.specs.TheDisconnection.{Left, write_abort}
 use Rattle.wm.specs.InC.{written_in_c}
 use Rattle.wm.proofs.Small.{abort-small}
-use borrow.Author.Rules.{rules}
 use Rattle.wm.proofs.wm_abort.Goals as goal
 
 pub narrow-length-requires : goal.narrow-length-requires
@@ -13,7 +12,7 @@ unfolding leaves
 narrow-length-requires c =
     let given = c.args in
     let write-was = c.write-w in
-    let cut = cut_of given.notice.now given.cut-session given.cut-host given.cut-realm in
+    let cut = cut_of given.notice.now given.cut_session given.cut_host given.cut_realm in
     let size : write-was.result.length ≡ (write_abort given.host.now given.realm.now cut given.hop given.end given.room.now).size =
     ap (λ (l : Left). l.size) write-was.ensures in
     omega (arith, size, abort-small given.host.now given.realm.now cut given.hop given.end given.room.now)

@@ -3,7 +3,6 @@ use mathlib.Core.Path.{◌≡◌, refl, sym, ◌∙◌}
 use mathlib.Core.Bool.{true, false}
 use Rattle.octets.specs.Choice.{pick}
 use Rattle.abort.specs.TheDisconnection.{belongs}
-use borrow.Author.Rules.{rules}
 use Rattle.wm.proofs.wm_abort_answered.Goals as goal
 
 pub returns-then-answered : goal.returns-then-answered

@@ -1,5 +1,4 @@
 -- `search` finds this too. It is written out so that a call with other arguments is refused here, at the promise.
-use borrow.Author.Rules.{rules}
 use Rattle.wm.proofs.wm_add.Goals as goal
 
 pub returns : goal.returns

@@ -6,7 +6,6 @@ use Rattle.numbers.specs.InNumbers.{In32}
 use Rattle.numbers.proofs.Small.{small}
 use Rattle.wm.specs.InC.{leaves_in_c}
 use Rattle.rules.specs.Calls.{Left}
-use borrow.Author.Rules.{rules}
 use Rattle.wm.proofs.wm_handle.Goals as goal
 
 pub numbers_of-requires : goal.numbers_of-requires
