@@ -1,7 +1,5 @@
 -- The rooms are as long after the call as before it.
-use Prim.Native.Nat.{◌+◌, ◌-◌, ◌≤◌}
 use native.Mathlib.Omega.{arith}
-use borrow.Author.Rules.{rules}
 use Rattle.replay_calls.proofs.ask.Goals as goal
 
 pub judged-requires : goal.judged-requires

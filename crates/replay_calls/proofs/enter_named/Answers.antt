@@ -1,8 +1,6 @@
 -- The shares read, at most 17, are lent.
-use Prim.Native.Nat.{◌+◌, ◌-◌, ◌≤◌}
 use mathlib.Core.Path.{sym}
 use native.Mathlib.Omega.{arith}
-use borrow.Author.Rules.{rules}
 use Rattle.replay_calls.proofs.enter_named.Goals as goal
 
 pub slice_bounds-all-end : goal.slice_bounds-all-end

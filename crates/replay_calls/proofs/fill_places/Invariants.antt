@@ -1,7 +1,6 @@
 -- The places stay as many as they are.
 use mathlib.Core.Path.{◌≡◌}
 use lib.ListN.{length}
-use borrow.Author.Rules.{rules}
 use Rattle.replay_calls.proofs.fill_places.Given as goal
 
 abbrev pub invariant-loop-i : goal.invariant-loop-i

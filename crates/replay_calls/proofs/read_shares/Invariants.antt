@@ -1,9 +1,7 @@
 -- Each share is read within the record.
-use Prim.Native.Nat.{◌-◌, ◌≤◌, ◌<◌}
-use native.Mathlib.Omega.{arith}
+use Prim.Native.Nat.{◌-◌, ◌≤◌}
 use mathlib.Core.Path.{◌≡◌}
 use lib.ListN.{length}
-use borrow.Author.Rules.{rules}
 use Rattle.replay_calls.proofs.read_shares.Given as goal
 
 abbrev pub invariant-loop-i : goal.invariant-loop-i

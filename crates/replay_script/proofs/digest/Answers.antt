@@ -1,10 +1,9 @@
 use Rattle.replay_script.specs.TheScript.{digest_of}
 use Rattle.replay_script.proofs.Steps.{digest-step, digest-end}
 use mathlib.Core.Path.{◌≡◌, sym, ◌∙◌}
-use Prim.Native.Nat.{◌+◌, ◌-◌, ◌<◌, ◌≤◌}
+use Prim.Native.Nat.{◌+◌}
 use native.Mathlib.Omega.{arith}
-use lib.ListN.{length, drop}
-use borrow.Author.Rules.{rules}
+use lib.ListN.{drop}
 use Rattle.replay_script.proofs.digest.Goals as goal
 
 pub loop-i-preserved : goal.loop-i-preserved

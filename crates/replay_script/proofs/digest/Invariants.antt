@@ -1,11 +1,8 @@
 -- The digest from byte i on, begun at h, is that of the whole.
 use Rattle.replay_script.specs.TheScript.{digest_of}
-use Rattle.replay_script.proofs.Steps.{digest-step, digest-end}
-use mathlib.Core.Path.{◌≡◌, sym, ◌∙◌}
-use Prim.Native.Nat.{◌+◌, ◌-◌, ◌<◌, ◌≤◌}
-use native.Mathlib.Omega.{arith}
+use mathlib.Core.Path.{◌≡◌}
+use Prim.Native.Nat.{◌-◌, ◌<◌, ◌≤◌}
 use lib.ListN.{length, drop}
-use borrow.Author.Rules.{rules}
 use Rattle.replay_script.proofs.digest.Given as goal
 
 abbrev pub invariant-loop-i : goal.invariant-loop-i

@@ -1,7 +1,6 @@
 -- One byte more in a digest: the product stays below 2^62, so no sum wraps.
 use Rattle.replay_script.specs.TheScript.{digest_step}
 use Rattle.replay_script.proofs.Steps.{product}
-use Prim.Native.Nat.{◌-◌}
 use native.Mathlib.Omega.{arith}
 use borrow.Author.Rules.{rules}
 use Rattle.replay_script.proofs.digested.Goals as goal

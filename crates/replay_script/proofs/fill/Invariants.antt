@@ -1,11 +1,8 @@
 -- Every byte below i is that of a filled room.
 use Rattle.replay_script.specs.TheScript.{room_byte}
-use Rattle.replay_script.proofs.Steps.{fill_step}
 use mathlib.Core.Path.{◌≡◌}
 use Prim.Native.Nat.{ℕ, ◌-◌, ◌<◌, ◌≤◌}
-use native.Mathlib.Omega.{arith}
-use lib.ListN.{length, get_or, length-set}
-use borrow.Author.Rules.{rules}
+use lib.ListN.{length, get_or}
 use Rattle.replay_script.proofs.fill.Given as goal
 
 abbrev pub invariant-loop-i : goal.invariant-loop-i

@@ -1,10 +1,9 @@
 use Rattle.replay_script.specs.TheScript.{unlike}
 use Rattle.replay_script.proofs.Steps.{unlike-step, unlike-differ, unlike-end}
 use mathlib.Core.Path.{◌≡◌}
-use Prim.Native.Nat.{suc, ◌+◌, ◌-◌, ◌≤◌}
+use Prim.Native.Nat.{suc, ◌+◌}
 use native.Mathlib.Omega.{arith}
-use lib.ListN.{length, drop}
-use borrow.Author.Rules.{rules}
+use lib.ListN.{drop}
 use Rattle.replay_script.proofs.first_unlike.Goals as goal
 
 pub returns-then-a-i : goal.returns-then-a-i

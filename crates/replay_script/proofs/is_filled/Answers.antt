@@ -1,10 +1,8 @@
-use Rattle.replay_script.specs.TheScript.{as_filled, room_byte}
+use Rattle.replay_script.specs.TheScript.{room_byte}
 use Rattle.replay_script.proofs.Steps.{filled-step, filled-differ, filled-end}
 use mathlib.Core.Path.{◌≡◌, sym, ◌∙◌}
-use Prim.Native.Nat.{◌-◌, ◌≤◌}
 use native.Mathlib.Omega.{arith}
-use lib.ListN.{length, get_or, drop}
-use borrow.Author.Rules.{rules}
+use lib.ListN.{get_or}
 use Rattle.replay_script.proofs.is_filled.Goals as goal
 
 pub returns-then-room-i : goal.returns-then-room-i

@@ -1,11 +1,8 @@
 -- Whether the room is as filled from i on is whether it is from the start on.
-use Rattle.replay_script.specs.TheScript.{as_filled, room_byte}
-use Rattle.replay_script.proofs.Steps.{filled-step, filled-differ, filled-end}
-use mathlib.Core.Path.{◌≡◌, sym, ◌∙◌}
+use Rattle.replay_script.specs.TheScript.{as_filled}
+use mathlib.Core.Path.{◌≡◌}
 use Prim.Native.Nat.{◌-◌, ◌≤◌}
-use native.Mathlib.Omega.{arith}
-use lib.ListN.{length, get_or, drop}
-use borrow.Author.Rules.{rules}
+use lib.ListN.{length, drop}
 use Rattle.replay_script.proofs.is_filled.Given as goal
 
 abbrev pub invariant-loop-i : goal.invariant-loop-i

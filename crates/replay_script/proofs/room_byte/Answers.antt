@@ -1,6 +1,5 @@
 -- The byte of a room is its definition.
 use Rattle.replay_script.specs.TheScript.{room_byte}
-use Prim.Native.Nat.{◌-◌}
 use borrow.Author.Rules.{rules}
 use Rattle.replay_script.proofs.room_byte.Goals as goal
 

@@ -2,7 +2,6 @@
 use mathlib.Core.Path.{refl}
 use Rattle.replay_verdict.specs.Verdicts.{answer_numbers}
 use Rattle.replay_verdict.proofs.Laws.{two, numbers}
-use borrow.Author.Rules.{rules}
 use Rattle.replay_verdict.proofs.answered.Goals as goal
 
 pub returns : goal.returns

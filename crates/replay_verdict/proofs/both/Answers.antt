@@ -1,6 +1,5 @@
 -- The first where it does not agree, else the second.
 use mathlib.Core.Path.{◌∙◌, sym}
-use borrow.Author.Rules.{rules}
 use Rattle.replay_verdict.proofs.both.Goals as goal
 
 pub returns-then-agrees : goal.returns-then-agrees

@@ -5,7 +5,6 @@ use native.Mathlib.Omega.{arith}
 use lib.ListN.{length}
 use Rattle.replay_verdict.specs.Verdicts.{agreed}
 use Rattle.replay_verdict.proofs.Laws.{change-short, change-differs, change-stands}
-use borrow.Author.Rules.{rules}
 use Rattle.replay_verdict.proofs.change.Goals as goal
 
 pub returns-then-table-to : goal.returns-then-table-to

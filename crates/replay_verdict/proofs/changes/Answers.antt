@@ -1,11 +1,10 @@
-use mathlib.Core.Path.{◌≡◌, sym, ◌∙◌}
-use Prim.Native.Nat.{◌+◌, ◌-◌, ◌≤◌}
+use mathlib.Core.Path.{sym, ◌∙◌}
+use Prim.Native.Nat.{◌+◌}
 use native.Mathlib.Omega.{arith}
 use lib.ListN.{length}
-use borrow.Author.Tests.{eq-eqb, ne_eqb, not-true, not-false}
-use Rattle.replay_verdict.specs.Verdicts.{agreed, changes_from}
+use borrow.Author.Tests.{eq-eqb, ne_eqb}
+use Rattle.replay_verdict.specs.Verdicts.{agreed}
 use Rattle.replay_verdict.proofs.Laws.{after, change-lent, changes-short, changes-other, changes-turn, changes-end}
-use borrow.Author.Rules.{rules}
 use Rattle.replay_verdict.proofs.changes.Goals as goal
 
 pub returns-then-s-p : goal.returns-then-s-p

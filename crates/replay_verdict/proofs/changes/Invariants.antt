@@ -1,12 +1,8 @@
 -- The rest from p on, with the changes that are left, says what the whole does.
-use mathlib.Core.Path.{◌≡◌, sym, ◌∙◌}
-use Prim.Native.Nat.{◌+◌, ◌-◌, ◌≤◌}
-use native.Mathlib.Omega.{arith}
+use mathlib.Core.Path.{◌≡◌}
+use Prim.Native.Nat.{◌≤◌}
 use lib.ListN.{length}
-use borrow.Author.Tests.{eq-eqb, ne_eqb, not-true, not-false}
-use Rattle.replay_verdict.specs.Verdicts.{agreed, changes_from}
-use Rattle.replay_verdict.proofs.Laws.{after, change-lent, changes-short, changes-other, changes-turn, changes-end}
-use borrow.Author.Rules.{rules}
+use Rattle.replay_verdict.specs.Verdicts.{changes_from}
 use Rattle.replay_verdict.proofs.changes.Given as goal
 
 abbrev pub invariant-loop-left : goal.invariant-loop-left

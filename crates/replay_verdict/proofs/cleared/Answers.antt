@@ -3,7 +3,6 @@ use mathlib.Core.Path.{◌∙◌, sym}
 use borrow.Author.Tests.{eq-eqb, ne_eqb}
 use Rattle.octets.specs.Choice.{pick}
 use Rattle.replay_verdict.specs.Verdicts.{agreed, cleared_as}
-use borrow.Author.Rules.{rules}
 use Rattle.replay_verdict.proofs.cleared.Goals as goal
 
 pub returns-then-mark-ne1 : goal.returns-then-mark-ne1

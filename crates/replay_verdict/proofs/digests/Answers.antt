@@ -4,7 +4,6 @@ use borrow.Author.Tests.{eq-eqb, ne_eqb}
 use Rattle.octets.specs.Choice.{pick}
 use Rattle.replay_verdict.specs.Verdicts.{agreed, digests_as}
 use Rattle.replay_verdict.proofs.Laws.{two, numbers}
-use borrow.Author.Rules.{rules}
 use Rattle.replay_verdict.proofs.digests.Goals as goal
 
 pub returns-then-s-eq0 : goal.returns-then-s-eq0

@@ -1,10 +1,9 @@
 -- The record has no room for what is always there, or each part is judged in its order.
 use mathlib.Core.Path.{sym, ap, ◌∙◌}
-use Prim.Native.Nat.{ℕ, ◌+◌, ◌-◌}
+use Prim.Native.Nat.{ℕ, ◌+◌}
 use native.Mathlib.Omega.{arith}
 use Rattle.replay_verdict.specs.Verdicts.{agreed, answer_end, notice_end, room_as, table_as, text_at}
 use Rattle.replay_verdict.proofs.Laws.{two, text-lent, rest-lent, notice-ends, behind, no-form, in-form}
-use borrow.Author.Rules.{rules}
 use Rattle.replay_verdict.proofs.judged.Goals as goal
 
 pub returns-then-n-a : goal.returns-then-n-a

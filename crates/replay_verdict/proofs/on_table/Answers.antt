@@ -5,7 +5,6 @@ use native.Mathlib.Omega.{arith}
 use lib.ListN.{length, take, drop}
 use Rattle.replay_verdict.specs.Verdicts.{digests_as, table_as}
 use Rattle.replay_verdict.proofs.Laws.{two, changes-lent}
-use borrow.Author.Rules.{rules}
 use Rattle.replay_verdict.proofs.on_table.Goals as goal
 
 pub returns : goal.returns

@@ -1,11 +1,8 @@
 -- What is left of the place has the same answer as the whole.
-use mathlib.Core.Path.{◌≡◌, sym, ◌∙◌}
+use mathlib.Core.Path.{◌≡◌}
 use Prim.Native.Nat.{◌+◌, ◌-◌, ◌*◌, ◌≤◌}
-use native.Mathlib.Omega.{arith}
 use lib.ListN.{length, drop}
-use borrow.Author.Rules.{rules}
-use Rattle.replay_verdict.specs.Verdicts.{agreed, numbers_at}
-use Rattle.replay_verdict.proofs.Laws.{number_same, number-other, numbers-end, numbers-start, numbers-next}
+use Rattle.replay_verdict.specs.Verdicts.{numbers_at}
 use Rattle.replay_verdict.proofs.result.Given as goal
 
 abbrev pub invariant-loop-k : goal.invariant-loop-k

@@ -1,11 +1,6 @@
-use mathlib.Core.Path.{◌≡◌, sym, ◌∙◌}
-use mathlib.Core.List.{[]}
-use Prim.Native.Nat.{◌+◌, ◌-◌, ◌*◌, ◌≤◌}
+use mathlib.Core.Path.{sym, ◌∙◌}
 use native.Mathlib.Omega.{arith}
-use lib.ListN.{length, drop}
-use borrow.Author.Rules.{rules}
-use borrow.Author.Tests.{not-true, not-false}
-use Rattle.replay_verdict.specs.Verdicts.{agreed, results_at}
+use Rattle.replay_verdict.specs.Verdicts.{agreed}
 use Rattle.replay_verdict.proofs.Laws.{result-same, result-other, results_end}
 use Rattle.replay_verdict.proofs.results.Goals as goal
 

@@ -5,7 +5,6 @@ use native.Mathlib.Omega.{arith}
 use lib.ListN.{length}
 use Rattle.replay_verdict.specs.Verdicts.{agreed}
 use Rattle.replay_verdict.proofs.Laws.{room-short, room-differs, room-rest}
-use borrow.Author.Rules.{rules}
 use Rattle.replay_verdict.proofs.room.Goals as goal
 
 pub returns-then-room-n : goal.returns-then-room-n

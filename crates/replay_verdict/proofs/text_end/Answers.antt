@@ -5,7 +5,6 @@ use lib.ListN.{length}
 use borrow.Author.Tests.{lt-ltb, le-ltb}
 use Rattle.octets.specs.Choice.{pick}
 use Rattle.replay_verdict.specs.Verdicts.{text_end}
-use borrow.Author.Rules.{rules}
 use Rattle.replay_verdict.proofs.text_end.Goals as goal
 
 pub returns-then-r-start : goal.returns-then-r-start
