@@ -9,8 +9,7 @@ use Rattle.replay_script.proofs.fill.Goals as goal
 
 pub loop-i-preserved : goal.loop-i-preserved
 loop-i-preserved c =
-    let seed = c.args.seed in
-    (
+    let seed = c.args.seed in (
       omega arith,
       simp length-set c.loop-i.invariant.1,
       fill_step seed c.loop-i.room c.loop-i.i c.room_byte.result (omega arith) c.room_byte.ensures c.loop-i.invariant.2,
