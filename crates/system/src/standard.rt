@@ -1,5 +1,5 @@
 // The three files that every program begins with, and what is known of processes.
-use crate::{EBADF, STDERR_FILENO, STDOUT_FILENO, System};
+use crate::{EBADF, EPIPE, STDERR_FILENO, STDOUT_FILENO, System};
 use std::io::Write;
 use std::os::fd::{AsRawFd, IntoRawFd};
 use std::{fs, io, process};
@@ -21,7 +21,23 @@ impl System {
 
     pub(crate) fn put_error(&self, text: &[u8]) -> bool {
         let mut out = self.rt.stderr();
-        self.is_ok(&put_all(&mut out, text))
+        if self.is_ok(&put_all(&mut out, text)) {
+            return true;
+        }
+        if self.errno() == EPIPE {
+            self.unread();
+        }
+        false
+    }
+
+    // Nobody reads what is said. That is marked once, before a mark for anything else, and nothing more is written to standard output: what is done only once it is
+    // said is not done.
+    pub fn unread(&self) {
+        if !self.is_shut.get() {
+            self.mark(b"unread");
+            self.shut_output();
+        }
+        self.set_errno(EPIPE);
     }
 
     pub(crate) fn is_ok(&self, done: &io::Result<()>) -> bool {

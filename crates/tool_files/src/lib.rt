@@ -88,8 +88,7 @@ fn unheard(sys: &System) {
         return;
     }
     if sys.errno() == system::EPIPE {
-        sys.mark(b"unread");
-        sys.shut_output();
+        sys.unread();
         return;
     }
     refuse_file(sys, b"standard output");
