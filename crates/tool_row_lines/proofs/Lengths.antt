@@ -4,7 +4,9 @@ use mathlib.Core.Bool.{Bool, true, false}
 use mathlib.Core.List.{List}
 use Prim.Native.Nat.{ℕ, ◌≤◌}
 use native.Mathlib.Omega.{arith}
+use lib.Dec.{eqb}
 use lib.ListN.{length}
+use borrow.Author.Tests.{eqb-true}
 use Rattle.octets.specs.Choice.{within}
 use Rattle.table.specs.Soundness.{is_row}
 use Rattle.table.specs.TheTable.{block_length, form_of, is_form, row_length}

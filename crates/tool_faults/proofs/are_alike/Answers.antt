@@ -3,7 +3,9 @@ use mathlib.Core.Path.{ap, sym, ◌∙◌}
 use native.Mathlib.Omega.{arith}
 use lib.ListN.{length}
 use Rattle.octets.proofs.Lists.{within-high}
+use borrow.Author.Tests.{not-false}
 use Rattle.row.proofs.Entries.{length-room}
+use borrow.Author.Rules.{rules}
 use Rattle.tool_faults.proofs.are_alike.Goals as goal
 
 pub has_label-requires : goal.has_label-requires

@@ -5,6 +5,7 @@ use Prim.Native.Nat.{◌*◌, ◌-◌}
 use lib.ListN.{length}
 use Rattle.octets.proofs.Texts.{length_part}
 use Rattle.row.proofs.Entries.{length-room}
+use borrow.Author.Rules.{rules}
 use Rattle.tool_faults.proofs.is_entry_bent.Goals as goal
 
 pub entry-bytes-requires : goal.entry-bytes-requires

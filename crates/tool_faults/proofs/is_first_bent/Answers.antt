@@ -2,6 +2,7 @@
 use mathlib.Core.Path.{ap, ◌∙◌}
 use lib.ListN.{length}
 use Rattle.table.proofs.Form.{length-first-of, sized}
+use borrow.Author.Rules.{rules}
 use Rattle.tool_faults.proofs.is_first_bent.Goals as goal
 
 pub access_form-requires : goal.access_form-requires

@@ -3,6 +3,7 @@ use mathlib.Core.Path.{ap}
 use native.Mathlib.Omega.{arith}
 use lib.ListN.{length}
 use Rattle.table.proofs.Form.{length-first-of, sized}
+use borrow.Author.Rules.{rules}
 use Rattle.tool_faults.proofs.is_mark_wrong.Goals as goal
 
 pub bounds-block-4 : goal.bounds-block-4

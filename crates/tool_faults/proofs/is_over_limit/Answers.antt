@@ -3,6 +3,7 @@ use mathlib.Core.Path.{ap, ◌∙◌}
 use native.Mathlib.Omega.{arith}
 use lib.ListN.{length}
 use Rattle.row.proofs.Entries.{length-room}
+use borrow.Author.Rules.{rules}
 use Rattle.tool_faults.proofs.is_over_limit.Goals as goal
 
 pub limit-limit-requires : goal.limit-limit-requires

@@ -2,6 +2,7 @@
 use mathlib.Core.Path.{ap, ◌∙◌}
 use lib.ListN.{length}
 use Rattle.table.proofs.Form.{length-first-of, sized}
+use borrow.Author.Rules.{rules}
 use Rattle.tool_faults.proofs.place_sums.Goals as goal
 
 pub block_sums_agree-agree-requires : goal.block_sums_agree-agree-requires

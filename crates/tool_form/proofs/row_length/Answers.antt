@@ -1,6 +1,7 @@
 -- A row has 4,608 or 8,704 bytes.
 use native.Mathlib.Omega.{arith}
 use Rattle.table.specs.TheTable.{row_length}
+use borrow.Author.Rules.{rules}
 use Rattle.tool_form.proofs.row_length.Goals as goal
 
 pub returns-then-form-eq2 : goal.returns-then-form-eq2

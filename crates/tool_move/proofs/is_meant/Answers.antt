@@ -1,5 +1,7 @@
 -- What is looked at is a row.
 use mathlib.Core.Path.{sym, ◌∙◌}
+use borrow.Author.Tests.{not-false}
+use borrow.Author.Rules.{rules}
 use Rattle.tool_move.proofs.is_meant.Goals as goal
 
 pub is_unsound-requires : goal.is_unsound-requires

@@ -1,5 +1,8 @@
 use mathlib.Core.Path.{sym, ◌∙◌}
+use Prim.Native.Nat.{◌-◌, ◌≤◌}
 use native.Mathlib.Omega.{arith}
+use borrow.Author.Tests.{not-false}
+use borrow.Author.Rules.{rules}
 use Rattle.tool_reply_line.proofs.line.Goals as goal
 
 pub line_place-requires : goal.line_place-requires

@@ -1,4 +1,5 @@
 -- What stands behind the host is of the same row and place.
+use borrow.Author.Rules.{rules}
 use Rattle.tool_row_lines.proofs.access_at.Goals as goal
 
 pub rest-h-requires : goal.rest-h-requires

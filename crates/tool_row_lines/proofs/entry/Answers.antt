@@ -3,6 +3,7 @@ use mathlib.Core.Path.{ap, ◌∙◌}
 use native.Mathlib.Omega.{arith}
 use lib.ListN.{length}
 use Rattle.row.proofs.Entries.{length-room}
+use borrow.Author.Rules.{rules}
 use Rattle.tool_row_lines.proofs.entry.Goals as goal
 
 pub limit-requires : goal.limit-requires

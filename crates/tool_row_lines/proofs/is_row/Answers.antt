@@ -1,6 +1,7 @@
 -- The two lengths that a row may have.
 use mathlib.Core.Path.{sym, ◌∙◌}
 use Rattle.tool_row_lines.proofs.Lengths.{no-row, row-of-1, row-of-2}
+use borrow.Author.Rules.{rules}
 use Rattle.tool_row_lines.proofs.is_row.Goals as goal
 
 pub returns-then-row-row_length : goal.returns-then-row-row_length

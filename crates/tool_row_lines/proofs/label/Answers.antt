@@ -4,6 +4,7 @@ use native.Mathlib.Omega.{arith}
 use lib.ListN.{length}
 use Rattle.octets.proofs.Lists.{within-high}
 use Rattle.row.proofs.Entries.{length-room}
+use borrow.Author.Rules.{rules}
 use Rattle.tool_row_lines.proofs.label.Goals as goal
 
 pub has_label-requires : goal.has_label-requires

@@ -1,5 +1,6 @@
 -- What is shown is a row.
 use mathlib.Core.Path.{sym, ◌∙◌}
+use borrow.Author.Rules.{rules}
 use Rattle.tool_show.proofs.show_or_skip.Goals as goal
 
 pub show_row-requires : goal.show_row-requires
