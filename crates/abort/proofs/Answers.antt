@@ -60,15 +60,6 @@ module _ (hop end : ℕ) (m : List ℕ) where
   to-size e = has_end (eqb-true (message_number m) 8 (and_left (eqb (message_number m) 8) _ e))
 
 -- the command's three bytes: a zero, and two that are read the lower first
-pub command-is : (m : List ℕ) → get_or m 5 0 ≡ 0 → get_or m 6 0 < 256 → get_or m 7 0 < 256 → eqb (get_or m 6 0 + get_or m 7 0 * 256) 4609 ≡ eqb (command m) 274
-unfolding net24
-command-is m z b c =
-    by-test (eqb (get_or m 6 0 + get_or m 7 0 * 256) 4609)
-    (λ t. let e : get_or m 6 0 + get_or m 7 0 * 256 ≡ 4609 = eqb-true (get_or m 6 0 + get_or m 7 0 * 256) 4609 t in
-    t ∙ sym (eq-eqb (get_or m 5 0 * 65536 + get_or m 6 0 * 256 + get_or m 7 0) 274 (omega arith)))
-    (λ t. let e : get_or m 6 0 + get_or m 7 0 * 256 ≡ 4609 → ⊥ = eqb-false (get_or m 6 0 + get_or m 7 0 * 256) 4609 t in
-    t ∙ sym (ne_eqb (get_or m 5 0 * 65536 + get_or m 6 0 * 256 + get_or m 7 0) 274 (λ y. e (omega arith))))
-
 pub command-not : (m : List ℕ) → (get_or m 5 0 ≡ 0 → ⊥) → eqb (command m) 274 ≡ false
 unfolding net24
 command-not m z = ne_eqb (get_or m 5 0 * 65536 + get_or m 6 0 * 256 + get_or m 7 0) 274 (λ y. z (omega arith))
@@ -223,6 +214,9 @@ two_bytes m at z =
     let b : at + 5 + 1 ≡ at + 6 = omega arith in
     let c : at + 5 + 2 ≡ at + 7 = omega arith in
     rw (b, c, z) (omega arith)
+
+pub command-two : (m : List ℕ) → get_or m 5 0 ≡ 0 → command m ≡ get_or m 6 0 * 256 + get_or m 7 0
+command-two m z = two_bytes m 0 z
 
 module _ (m : List ℕ) (at left : ℕ) (h : at + left ≡ length m) where
   size : length (drop at m) ≡ left

@@ -1,5 +1,5 @@
 -- What the code's numbers and parts say in the disconnection's terms.
-use Rattle.std.specs.Prelude.{Bool, ◌&&◌, ◌||◌, not, List, ◌++◌, ◌≡◌, ℕ, ◌≤◌, eqb, length, drop}
+use Rattle.std.specs.Prelude.{Option, MatchOption, ◌≢◌, Bool, ◌&&◌, ◌||◌, not, List, ◌++◌, ◌≡◌, ℕ, ◌≤◌, eqb, length, drop}
 use Rattle.octets.specs.Choice.{pick}
 use Rattle.octets.specs.Numbers.{net32}
 use Rattle.message.specs.ReadingAMessage.{session_id, has_v, avp_length, avp_code, Walk, having, value_of}
@@ -14,6 +14,10 @@ cut_of notice cut_session cut_host cut_realm = record { notice = notice; cut_ses
 abbrev pub saying : (host realm session gateway_host gateway_realm : List ℕ) → (hop end : ℕ) → Abort
 saying host realm session gateway_host gateway_realm hop end =
     record { host = host; realm = realm; session = session; gateway_host = gateway_host; gateway_realm = gateway_realm; hop = hop; end = end }
+
+-- The number of a refusal as the code has it: none for 0.
+abbrev pub Refuses : ℕ → Option ℕ → Type 0
+Refuses number r = MatchOption r (number ≡ 0) (λ n. (n ≡ number) × (n ≢ 0))
 
 -- A number and a length, and the room as it stands then.
 unfoldable pub leaves : Written → List ℕ → Left

@@ -2,20 +2,20 @@
 // of it only how its notice of a cut is laid out.
 #![tactic(auto)]
 
-ghost use Rattle.std.specs.Prelude.{◌≡◌, false, ◌||◌, List, ℕ, ◌+◌, ◌≤◌, ◌<◌, eqb, length, drop};
+ghost use Rattle.std.specs.Prelude.{◌≡◌, ◌≢◌, false, ◌||◌, List, ℕ, ◌+◌, ◌≤◌, ◌<◌, MatchOption, eqb, length, drop};
 ghost use Rattle.octets.specs.Choice.{within};
 ghost use Rattle.octets.specs.Texts.{put};
 ghost use Rattle.message.specs.ReadingAMessage.{command, walk};
 ghost use Rattle.message.specs.CallsThatGetNoAnswer.{message_most};
 ghost use Rattle.abort.specs.TheDisconnection.{abort_least, abort_number, header, write_abort, answers_to, answers_for, belongs};
-ghost use Rattle.abort.specs.Code.{cut_of, saying, leaves, Short, Sent, passed_length, plain_code, first_length, rest_answers, spoilt};
+ghost use Rattle.abort.specs.Code.{Refuses, cut_of, saying, leaves, Short, Sent, passed_length, plain_code, first_length, rest_answers, spoilt};
 
 // WRITING THE REQUEST
 
 // The room that a request asks for.
 pub const ROOM_LEAST: usize = 1024;
 
-// A number, 0 where the request was written, and its length.
+// A number, 0 where the request was written, and its length: the two numbers that C's `wm_abort` returns.
 #[derive(Clone, Copy)]
 pub struct Written {
     pub number: u32,
@@ -25,13 +25,10 @@ pub struct Written {
 fn is_text(n: usize) -> bool
     ensures { result ≡ within 1 128 n }
 {
-    if n < 1 {
-        return false;
-    }
-    n <= message::TEXT_MOST
+    1 <= n && n <= message::TEXT_MOST
 }
 
-// The number of the first test that fails, for a room of so many bytes.
+// The number of the first test that fails, for a room of so many bytes; none where all pass.
 fn number(
     host: &[u8],
     realm: &[u8],
@@ -40,31 +37,31 @@ fn number(
     cut_host: usize,
     cut_realm: usize,
     size: usize,
-) -> u32
-    ensures { (room : List ℕ) → length room ≡ size → result ≡ abort_number host.now realm.now (cut_of notice.now cut_session cut_host cut_realm) room }
+) -> Option<u32>
+    ensures { (room : List ℕ) → length room ≡ size → Refuses (abort_number host.now realm.now (cut_of notice.now cut_session cut_host cut_realm) room) result }
 {
     if !is_text(host.len()) {
-        return 2;
+        return Some(2);
     }
     if !is_text(realm.len()) {
-        return 2;
+        return Some(2);
     }
     if notice.len() < answers::NOTICE_LENGTH_2 {
-        return 4;
+        return Some(4);
     }
     if !is_text(cut_session) {
-        return 22;
+        return Some(22);
     }
     if !is_text(cut_host) {
-        return 22;
+        return Some(22);
     }
     if !is_text(cut_realm) {
-        return 22;
+        return Some(22);
     }
     if size < ROOM_LEAST {
-        return 23;
+        return Some(23);
     }
-    0
+    None
 }
 
 // The header of a request of n bytes, which two bytes hold.
@@ -72,27 +69,11 @@ fn put_header(room: &mut [u8], n: usize, hop: u32, end: u32)
     requires { (20 ≤ length room.old) × (n < 65536) }
     ensures { room.new ≡ put room.old 0 (header n 192 274 hop end) }
 {
+    let [.., x, y] = n.to_be_bytes();
+    let [a, b, c, d] = hop.to_be_bytes();
+    let [e, f, g, h] = end.to_be_bytes();
     let head = [
-        1,
-        0,
-        (n / 256 % 256) as u8,
-        (n % 256) as u8,
-        192,
-        0,
-        1,
-        18,
-        0,
-        0,
-        0,
-        1,
-        (hop / 16777216 % 256) as u8,
-        (hop / 65536 % 256) as u8,
-        (hop / 256 % 256) as u8,
-        (hop % 256) as u8,
-        (end / 16777216 % 256) as u8,
-        (end / 65536 % 256) as u8,
-        (end / 256 % 256) as u8,
-        (end % 256) as u8,
+        1, 0, x, y, 192, 0, 1, 18, 0, 0, 0, 1, a, b, c, d, e, f, g, h,
     ];
     octets::put_bytes(room, 0, &head);
 }
@@ -136,7 +117,7 @@ pub fn write(
 ) -> Written
     ensures { leaves result room.new ≡ write_abort host.now realm.now (cut_of notice.now cut_session cut_host cut_realm) hop end room.old }
 {
-    let n = number(
+    if let Some(number) = number(
         host,
         realm,
         notice,
@@ -144,12 +125,8 @@ pub fn write(
         cut_host,
         cut_realm,
         room.len(),
-    );
-    if n != 0 {
-        return Written {
-            number: n,
-            length: 0,
-        };
+    ) {
+        return Written { number, length: 0 };
     }
     let host_end = answers::NOTICE_HOST + cut_host;
     let realm_end = answers::NOTICE_REALM + cut_realm;
@@ -171,15 +148,12 @@ pub fn write(
 
 // RECOGNIZING THE ANSWER
 
-// Whether the command is 274: a zero byte, then 1 and 18, which are read at once, the lower first.
+// Whether the command is 274: a zero byte, then 1 and 18, which are read at once.
 fn is_abort(m: &[u8]) -> bool
     requires { 20 ≤ length m.now }
     ensures { result ≡ eqb (command m.now) 274 }
 {
-    if m[5] != 0 {
-        return false;
-    }
-    octets::long(m[6]) + octets::long(m[7]) * 256 == 4609
+    m[5] == 0 && u16::from_be_bytes([m[6], m[7]]) == 274
 }
 
 // An answer by its header: to the request with these identifiers.
@@ -198,36 +172,36 @@ fn answers_to(answer: &[u8], hop: u32, end: u32) -> bool
     octets::read32(answer, 16) == end
 }
 
-// The length of the AVP at a place, with so many bytes left from there on; 0 where it fails one of the four tests. Where the first of
+// The length of the AVP at a place, with so many bytes left from there on, if it passes the four tests. Where the first of
 // its three bytes is not zero it is past every answer, so that the other two are read at once.
-fn length_at(m: &[u8], at: usize, left: usize) -> usize
+fn length_at(m: &[u8], at: usize, left: usize) -> Option<usize>
     requires { (at + left ≡ length m.now) × (left ≤ message_most) }
-    ensures { result ≡ passed_length (drop at m.now) }
+    ensures { MatchOption result (passed_length (drop at m.now) ≡ 0) (λ n. (passed_length (drop at m.now) ≡ n) × (n ≢ 0)) }
 {
     if left < 8 {
-        return 0;
+        return None;
     }
     let flags = m[at + 4];
     if flags % 32 != 0 {
-        return 0;
+        return None;
     }
     if m[at + 5] != 0 {
-        return 0;
+        return None;
     }
-    let n = octets::long(m[at + 6]) * 256 + octets::long(m[at + 7]);
+    let n = usize::from(m[at + 6]) * 256 + usize::from(m[at + 7]);
     if left < (n + 3) / 4 * 4 {
-        return 0;
+        return None;
     }
     if 128 <= flags {
         if n < 12 {
-            return 0;
+            return None;
         }
-        return n;
+        return Some(n);
     }
     if n < 8 {
-        return 0;
+        return None;
     }
-    n
+    Some(n)
 }
 
 // The code of the AVP at a place; 0 with V, which is no code that is looked for.
@@ -245,26 +219,15 @@ fn code_at(m: &[u8], at: usize) -> u32
 fn is_spoilt(found: bool, code: u32, n: usize) -> bool
     ensures { result ≡ spoilt found code n }
 {
-    if code == 263 {
-        return true; // a second Session-Id
-    }
-    if code != 268 {
-        return false;
-    }
-    if found {
-        return true; // a second Result-Code
-    }
-    n != 12
+    // a second Session-Id, a second Result-Code, a Result-Code of another length
+    code == 263 || (code == 268 && (found || n != 12))
 }
 
 // Whether a Result-Code is there now: one that was there before, or this AVP.
 fn is_found(found: bool, code: u32) -> bool
     ensures { result ≡ found || eqb code 268 }
 {
-    if found {
-        return true;
-    }
-    code == 268
+    found || code == 268
 }
 
 // The AVPs behind the Session-Id, to the end or to the first for which the answer does not belong. The number of bytes left goes along:
@@ -276,11 +239,11 @@ fn rest_answers(answer: &[u8], from: usize) -> bool
     let mut at: usize = from;
     let mut left: usize = answer.len() - from;
     let mut found: bool = false;
+    // An index loop: the length that each AVP says is the step to the next.
     while left != 0 {
-        let n = length_at(answer, at, left);
-        if n == 0 {
+        let Some(n) = length_at(answer, at, left) else {
             return false;
-        }
+        };
         let code = code_at(answer, at);
         if is_spoilt(found, code, n) {
             return false;
@@ -293,32 +256,32 @@ fn rest_answers(answer: &[u8], from: usize) -> bool
     found
 }
 
-// The length of the first AVP; 0 where it is no Session-Id or fails one of the four tests.
-fn first_length(answer: &[u8]) -> usize
+// The length of the first AVP, if it is a Session-Id that passes the four tests.
+fn first_length(answer: &[u8]) -> Option<usize>
     requires { (28 ≤ length answer.now) × (length answer.now ≤ message_most) }
-    ensures { result ≡ first_length (drop 20 answer.now) }
+    ensures { MatchOption result (first_length (drop 20 answer.now) ≡ 0) (λ n. (first_length (drop 20 answer.now) ≡ n) × (n ≢ 0)) }
 {
     if octets::read32(answer, message::HEADER_LENGTH) != 263 {
-        return 0;
+        return None;
     }
     let flags = answer[24];
     if 128 <= flags {
-        return 0;
+        return None;
     }
     if flags % 32 != 0 {
-        return 0;
+        return None;
     }
     if answer[25] != 0 {
-        return 0;
+        return None;
     }
-    let n = octets::long(answer[26]) * 256 + octets::long(answer[27]);
+    let n = usize::from(answer[26]) * 256 + usize::from(answer[27]);
     if n < 8 {
-        return 0;
+        return None;
     }
     if answer.len() - message::HEADER_LENGTH < (n + 3) / 4 * 4 {
-        return 0;
+        return None;
     }
-    n
+    Some(n)
 }
 
 // An answer by its AVPs: for this Session-Id.
@@ -326,10 +289,9 @@ fn answers_for(answer: &[u8], session: &[u8]) -> bool
     requires { (28 ≤ length answer.now) × (length answer.now ≤ message_most) }
     ensures { result ≡ answers_for session.now (walk (drop 20 answer.now)) }
 {
-    let n = first_length(answer);
-    if n == 0 {
+    let Some(n) = first_length(answer) else {
         return false;
-    }
+    };
     let end = message::HEADER_LENGTH + n;
     if !octets::same_bytes(&answer[28..end], session) {
         return false;

@@ -106,19 +106,8 @@ module _ (m : List ℕ) where
       pub session-found : SessionOf m (net24 m 25)
       session-found =
           record {
-            none = λ z. absurd (omega (arith, s, z));
-            least = λ z. s;
+            least = s;
             most = t;
             inside = (inside all_pass).0;
-            some = λ z. repeated;
+            some = repeated;
           }
-
-  pub session-none : 20 ≤ length m → session_avp m ≡ [] → SessionOf m 0
-  session-none h e =
-      record {
-        none = λ z. e;
-        least = λ z. absurd (z refl);
-        most = omega arith;
-        inside = omega arith;
-        some = λ z. absurd (z refl);
-      }

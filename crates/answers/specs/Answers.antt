@@ -28,13 +28,12 @@ pub record Written (before after : List ℕ) (at next : ℕ) (bytes : List ℕ) 
   pub place : next ≡ at + length bytes
   pub bytes-put : after ≡ put before at bytes
 
--- The length n of the first AVP where the answer repeats it, 0 where it does not.
+-- The length n of the first AVP, where the answer repeats it.
 pub record SessionOf (m : List ℕ) (n : ℕ) : Type 0 where
-  pub none : n ≡ 0 → session_avp m ≡ []
-  pub least : (n ≡ 0 → ⊥) → 9 ≤ n
+  pub least : 9 ≤ n
   pub most : n ≤ 136
   pub inside : 20 + n ≤ length m
-  pub some : (n ≡ 0 → ⊥) → session_avp m ≡ avp_bytes 263 (part m 28 (n - 8))
+  pub some : session_avp m ≡ avp_bytes 263 (part m 28 (n - 8))
 
 -- What an answer is made from: a message that is no call without an answer, names of at most 128 bytes, a room that is
 -- large enough, the User-Name where the answer repeats it, whether there is a Proxy-Info to copy, and a code that two bytes hold.

@@ -1,7 +1,7 @@
 // Writing the answer to a request straight into the caller's room.
 #![tactic(auto)]
 
-ghost use Rattle.std.specs.Prelude.{◌≡◌, true, ◌+◌, ◌-◌, ◌*◌, ◌≤◌, ◌<◌, length, drop};
+ghost use Rattle.std.specs.Prelude.{◌≡◌, true, [], ◌+◌, ◌-◌, ◌*◌, ◌≤◌, ◌<◌, MatchOption, length, drop};
 ghost use Rattle.octets.specs.Texts.{part, put};
 ghost use Rattle.octets.specs.Numbers.{in32};
 ghost use Rattle.message.specs.Codes.{plain};
@@ -34,17 +34,9 @@ fn put_head(room: &mut [u8], at: usize, code: u32, n: usize)
     requires { at + 8 ≤ length room.old }
     ensures { room.new ≡ put room.old at (head_bytes code n) }
 {
-    let head = [
-        (code / 16777216 % 256) as u8,
-        (code / 65536 % 256) as u8,
-        (code / 256 % 256) as u8,
-        (code % 256) as u8,
-        64,
-        (n / 65536 % 256) as u8,
-        (n / 256 % 256) as u8,
-        (n % 256) as u8,
-    ];
-    octets::put_bytes(room, at, &head);
+    let [a, b, c, d] = code.to_be_bytes();
+    let [.., x, y, z] = n.to_be_bytes();
+    octets::put_bytes(room, at, &[a, b, c, d, 64, x, y, z]);
 }
 
 // An AVP of ours with a text, and the place behind it. The last word of its room is zeroed first, for the padding.
@@ -66,53 +58,41 @@ pub fn put_number(room: &mut [u8], at: usize, code: u32, n: u32) -> usize
     requires { (at + 12 ≤ length room.old) × (n < 65536) }
     ensures { Written room.old room.new at result (avp_bytes code (in32 n)) }
 {
-    let bytes = [
-        (code / 16777216 % 256) as u8,
-        (code / 65536 % 256) as u8,
-        (code / 256 % 256) as u8,
-        (code % 256) as u8,
-        64,
-        0,
-        0,
-        12,
-        0,
-        0,
-        (n / 256 % 256) as u8,
-        (n % 256) as u8,
-    ];
-    octets::put_bytes(room, at, &bytes);
+    let [a, b, c, d] = code.to_be_bytes();
+    let [.., x, y] = n.to_be_bytes();
+    octets::put_bytes(room, at, &[a, b, c, d, 64, 0, 0, 12, 0, 0, x, y]);
     at + 12
 }
 
-// The length of the first AVP where the answer repeats it: a Session-Id that passes the four tests, with 1 to 128 bytes; else 0.
-fn session_length(m: &[u8]) -> usize
+// The length of the first AVP where the answer repeats it: a Session-Id that passes the four tests, with 1 to 128 bytes.
+fn session_length(m: &[u8]) -> Option<usize>
     requires { 20 ≤ length m.now }
-    ensures { SessionOf m.now result }
+    ensures { MatchOption result (session_avp m.now ≡ []) (SessionOf m.now) }
 {
     if m.len() < 28 {
-        return 0;
+        return None;
     }
     let flags = m[24];
     if flags % 32 != 0 {
-        return 0;
+        return None;
     }
     if 128 <= flags {
-        return 0;
+        return None;
     }
     if octets::read32(m, message::HEADER_LENGTH) != 263 {
-        return 0;
+        return None;
     }
     let n = octets::read24(m, 25);
     if n < 9 {
-        return 0;
+        return None;
     }
     if 136 < n {
-        return 0;
+        return None;
     }
     if m.len() - message::HEADER_LENGTH < (n + 3) / 4 * 4 {
-        return 0;
+        return None;
     }
-    n
+    Some(n)
 }
 
 // Session-Id, from the first AVP alone, behind the header.
@@ -120,10 +100,9 @@ pub fn put_session(m: &[u8], room: &mut [u8]) -> usize
     requires { (20 ≤ length m.now) × (512 ≤ length room.old) }
     ensures { Written room.old room.new 20 result (session_avp m.now) }
 {
-    let n = session_length(m);
-    if n == 0 {
+    let Some(n) = session_length(m) else {
         return message::HEADER_LENGTH;
-    }
+    };
     let e = message::HEADER_LENGTH + n;
     put_avp(room, message::HEADER_LENGTH, 263, &m[28..e])
 }
@@ -146,10 +125,7 @@ fn put_auth(m: &[u8], code: u32, room: &mut [u8], at: usize) -> usize
 fn is_3xxx(code: u32) -> bool
     ensures { result ≡ is3xxx (plain code) }
 {
-    if code < 3000 {
-        return false;
-    }
-    code <= 3999
+    matches!(code, 3000..=3999)
 }
 
 // Result-Code, or Experimental-Result with its vendor and its number.
@@ -193,10 +169,7 @@ fn is_proxy(m: &[u8], at: usize) -> bool
     requires { at + 8 ≤ length m.now }
     ensures { result ≡ same_name proxy_info (avp_of (drop at m.now)).name }
 {
-    if 128 <= m[at + 4] {
-        return false;
-    }
-    octets::read32(m, at) == 284
+    m[at + 4] < 128 && octets::read32(m, at) == 284
 }
 
 // The message from one place to another written into the room, and the place behind it there.
@@ -223,6 +196,7 @@ pub fn put_proxies(m: &[u8], proxies: bool, room: &mut [u8], at: usize) -> usize
     let mut to = at;
     let mut start: usize = message::HEADER_LENGTH;
     let mut from: usize = message::HEADER_LENGTH;
+    // An index loop: the length that each AVP says is the step to the next.
     while from < m.len() {
         let next = from + (octets::read24(m, from + 5) + 3) / 4 * 4;
         if !is_proxy(m, from) {
@@ -240,10 +214,7 @@ fn answer_flags(m: &[u8], code: u32) -> u8
     ensures { result ≡ answer_flags m.now (plain code) }
 {
     let p = m[4] / 64 % 2 * 64;
-    if is_3xxx(code) {
-        return p + 32;
-    }
-    p
+    if is_3xxx(code) { p + 32 } else { p }
 }
 
 // The header of an answer of n bytes, which two bytes hold.
@@ -251,14 +222,8 @@ pub fn put_header(m: &[u8], code: u32, n: usize, room: &mut [u8])
     requires { (20 ≤ length m.now) × (20 ≤ length room.old) × (n < 65536) }
     ensures { room.new ≡ put room.old 0 (answer_head m.now (plain code) n) }
 {
-    let head = [
-        1,
-        0,
-        (n / 256 % 256) as u8,
-        (n % 256) as u8,
-        answer_flags(m, code),
-    ];
-    octets::put_bytes(room, 0, &head);
+    let [.., x, y] = n.to_be_bytes();
+    octets::put_bytes(room, 0, &[1, 0, x, y, answer_flags(m, code)]);
     texts::put_text(room, 5, &m[5..message::HEADER_LENGTH]);
 }
 

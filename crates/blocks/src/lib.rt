@@ -14,10 +14,7 @@ ghost use Rattle.blocks.specs.RowTests.{access_sound, second_sound};
 pub fn is_within(low: u8, high: u8, n: u8) -> bool
     ensures { result ≡ within low high n }
 {
-    if n < low {
-        return false;
-    }
-    n <= high
+    low <= n && n <= high
 }
 
 // A room holds n bytes of text, and zeros behind them.
@@ -36,10 +33,10 @@ pub fn block_sums_agree(b: &[u8]) -> bool
     let s = table::sums_of(b);
     let second = s.second;
     let first = s.first;
-    if octets::half(b[table::SECOND_SUM]) != second {
+    if u16::from(b[table::SECOND_SUM]) != second {
         return false;
     }
-    octets::half(b[table::FIRST_SUM]) == first
+    u16::from(b[table::FIRST_SUM]) == first
 }
 
 // BLOCK 0
@@ -47,12 +44,10 @@ pub fn block_sums_agree(b: &[u8]) -> bool
 pub fn digits(s: &[u8]) -> bool
     ensures { result ≡ every is_digit s.now }
 {
-    let mut i: usize = 0;
-    while i < s.len() {
-        if !is_within(48, 57, s[i]) {
+    for x in s {
+        if !x.is_ascii_digit() {
             return false;
         }
-        i += 1;
     }
     true
 }
@@ -65,7 +60,7 @@ fn name_form(b: &[u8]) -> bool
     if !is_within(1, 15, b[1]) {
         return false;
     }
-    let n = octets::long(b[1]);
+    let n = usize::from(b[1]);
     let end = table::NAME + n;
     if !digits(&b[table::NAME..end]) {
         return false;
@@ -77,14 +72,12 @@ fn name_form(b: &[u8]) -> bool
 pub fn line_length(l: &[u8]) -> usize
     ensures { (result ≡ length (up_to0 l.now)) × (result ≤ length l.now) }
 {
-    let mut i: usize = 0;
-    while i < l.len() {
-        if l[i] == 0 {
+    for (i, x) in l.iter().enumerate() {
+        if *x == 0 {
             return i;
         }
-        i += 1;
     }
-    i
+    l.len()
 }
 
 // Zeros behind the places on the order line.
@@ -128,7 +121,7 @@ fn entry_form(e: &[u8]) -> bool
     if !is_within(1, 100, e[0]) {
         return false;
     }
-    if !zero_behind(&e[table::LABEL..table::FLAGS], octets::long(e[0])) {
+    if !zero_behind(&e[table::LABEL..table::FLAGS], usize::from(e[0])) {
         return false;
     }
     if 3 < e[table::FLAGS] {
@@ -144,17 +137,12 @@ pub fn entries_form(room: &[u8], n: usize) -> bool
     requires { (length room.now ≡ 416) × (n ≤ 4) }
     ensures { result ≡ entries_form n room.now }
 {
-    let mut i: usize = 0;
-    let mut at: usize = 0;
-    while i < n {
-        let end = at + table::ENTRY_LENGTH;
-        if !entry_form(&room[at..end]) {
+    for i in 0..n {
+        if !entry_form(row::entry(room, i)) {
             return false;
         }
-        i += 1;
-        at = end;
     }
-    octets::all_zero(&room[at..])
+    octets::all_zero(&room[table::ENTRY_LENGTH * n..])
 }
 
 // The sum of the limits of the first n entries.
@@ -163,10 +151,8 @@ pub fn limits_sum(room: &[u8], n: usize) -> u32
     ensures { (result ≡ sum_of (limits (read_entries n room.now))) × (result ≤ 1020) }
 {
     let mut sum: u32 = 0;
-    let mut i: usize = 0;
-    while i < n {
-        sum += octets::wide(row::limit(room, i));
-        i += 1;
+    for i in 0..n {
+        sum += u32::from(row::limit(room, i));
     }
     sum
 }
@@ -175,13 +161,7 @@ pub fn limits_sum(room: &[u8], n: usize) -> u32
 fn lower_case(x: u8) -> u8
     ensures { result ≡ lower_case x }
 {
-    if x < b'A' {
-        return x;
-    }
-    if b'Z' < x {
-        return x;
-    }
-    x + 32
+    x.to_ascii_lowercase()
 }
 
 // Whether two labels of the same length are the same, byte by byte.
@@ -189,12 +169,10 @@ fn same_letters(a: &[u8], b: &[u8]) -> bool
     requires { length a.now ≡ length b.now }
     ensures { result ≡ same_label a.now b.now }
 {
-    let mut i: usize = 0;
-    while i < a.len() {
-        if lower_case(a[i]) != lower_case(b[i]) {
+    for (i, x) in a.iter().enumerate() {
+        if lower_case(*x) != lower_case(b[i]) {
             return false;
         }
-        i += 1;
     }
     true
 }
@@ -219,13 +197,10 @@ fn label_once(room: &[u8], n: usize, i: usize) -> bool
     ensures { result ≡ every (λ y. not (same_label (get_or (labels (read_entries n room.now)) i []) y)) (drop (i + 1) (labels (read_entries n room.now))) }
 {
     let this = row::label(room, i);
-    let mut j: usize = i + 1;
-    while j < n {
-        let other = row::label(room, j);
-        if same_label(this, other) {
+    for j in i + 1..n {
+        if same_label(this, row::label(room, j)) {
             return false;
         }
-        j += 1;
     }
     true
 }
@@ -234,12 +209,10 @@ pub fn labels_differ(room: &[u8], n: usize) -> bool
     requires { (length room.now ≡ 416) × (n ≤ 4) × (entries_form n room.now ≡ true) }
     ensures { result ≡ distinct same_label (labels (read_entries n room.now)) }
 {
-    let mut i: usize = 0;
-    while i < n {
+    for i in 0..n {
         if !label_once(room, n, i) {
             return false;
         }
-        i += 1;
     }
     true
 }
@@ -253,10 +226,28 @@ const TEXT_MOST: u8 = 128;
 pub fn policy_marked(mark: u8, size: u8) -> bool
     ensures { result ≡ eqb mark (pick (leb 1 size) 1 0) }
 {
-    if size < 1 {
-        return mark == 0;
+    mark == u8::from(1 <= size)
+}
+
+// Zeros behind the three texts of a block, which have these lengths, and behind the three: the last two are one stretch.
+fn text_rooms(b: &[u8], first: u8, second: u8, third: u8) -> bool
+    requires { (length b.now ≡ block_length) × (first ≤ 128) × (second ≤ 128) × (third ≤ 128) }
+    ensures { result ≡ zero_behind first (part b.now 8 128) && (zero_behind second (part b.now 136 128) && (zero_behind third (part b.now 264 128) && all_zero (part b.now 392 118))) }
+{
+    if !zero_behind(
+        &b[table::FIRST_TEXT..table::SECOND_TEXT],
+        usize::from(first),
+    ) {
+        return false;
     }
-    mark == 1
+    if !zero_behind(
+        &b[table::SECOND_TEXT..table::THIRD_TEXT],
+        usize::from(second),
+    ) {
+        return false;
+    }
+    let rest = table::THIRD_TEXT + usize::from(third);
+    octets::all_zero(&b[rest..table::SECOND_SUM])
 }
 
 fn access_lengths(b: &[u8]) -> bool
@@ -275,27 +266,6 @@ fn access_lengths(b: &[u8]) -> bool
     b[5] <= TEXT_MOST
 }
 
-// Zeros behind Session-Id, host and policy, and behind the three: the last two are one stretch.
-fn access_rooms(b: &[u8]) -> bool
-    requires { (length b.now ≡ block_length) × (get_or b.now 2 0 ≤ 128) × (get_or b.now 3 0 ≤ 128) × (get_or b.now 5 0 ≤ 128) }
-    ensures { result ≡ zero_behind (get_or b.now 2 0) (part b.now 8 128) && (zero_behind (get_or b.now 3 0) (part b.now 136 128) && (zero_behind (get_or b.now 5 0) (part b.now 264 128) && all_zero (part b.now 392 118))) }
-{
-    if !zero_behind(
-        &b[table::FIRST_TEXT..table::SECOND_TEXT],
-        octets::long(b[2]),
-    ) {
-        return false;
-    }
-    if !zero_behind(
-        &b[table::SECOND_TEXT..table::THIRD_TEXT],
-        octets::long(b[3]),
-    ) {
-        return false;
-    }
-    let from = table::THIRD_TEXT + octets::long(b[5]);
-    octets::all_zero(&b[from..table::SECOND_SUM])
-}
-
 pub fn access_form(b: &[u8]) -> bool
     requires { length b.now ≡ block_length }
     ensures { result ≡ access_form b.now }
@@ -309,7 +279,7 @@ pub fn access_form(b: &[u8]) -> bool
     if !octets::all_zero(&b[6..table::FIRST_TEXT]) {
         return false;
     }
-    access_rooms(b)
+    text_rooms(b, b[2], b[3], b[5])
 }
 
 pub fn access_sound(b: &[u8], n: u8) -> bool
@@ -334,10 +304,7 @@ pub fn access_sound(b: &[u8], n: u8) -> bool
 pub fn only_behind(n: u8, before: u8) -> bool
     ensures { result ≡ only_behind n before }
 {
-    if n < 1 {
-        return true;
-    }
-    1 <= before
+    n == 0 || 1 <= before
 }
 
 fn second_lengths(c: &[u8]) -> bool
@@ -356,27 +323,6 @@ fn second_lengths(c: &[u8]) -> bool
     c[4] <= TEXT_MOST
 }
 
-// Zeros behind realm, second and third policy, and behind the three: the last two are one stretch.
-fn second_rooms(c: &[u8]) -> bool
-    requires { (length c.now ≡ block_length) × (get_or c.now 1 0 ≤ 128) × (get_or c.now 3 0 ≤ 128) × (get_or c.now 4 0 ≤ 128) }
-    ensures { result ≡ zero_behind (get_or c.now 1 0) (part c.now 8 128) && (zero_behind (get_or c.now 3 0) (part c.now 136 128) && (zero_behind (get_or c.now 4 0) (part c.now 264 128) && all_zero (part c.now 392 118))) }
-{
-    if !zero_behind(
-        &c[table::FIRST_TEXT..table::SECOND_TEXT],
-        octets::long(c[1]),
-    ) {
-        return false;
-    }
-    if !zero_behind(
-        &c[table::SECOND_TEXT..table::THIRD_TEXT],
-        octets::long(c[3]),
-    ) {
-        return false;
-    }
-    let from = table::THIRD_TEXT + octets::long(c[4]);
-    octets::all_zero(&c[from..table::SECOND_SUM])
-}
-
 pub fn second_form(c: &[u8]) -> bool
     requires { length c.now ≡ block_length }
     ensures { result ≡ second_form c.now }
@@ -390,7 +336,7 @@ pub fn second_form(c: &[u8]) -> bool
     if !octets::all_zero(&c[5..table::FIRST_TEXT]) {
         return false;
     }
-    second_rooms(c)
+    text_rooms(c, c[1], c[3], c[4])
 }
 
 // Where the first policy has `first` bytes.

@@ -52,12 +52,10 @@ fn places_form(r: &[u8]) -> bool
     requires { is_row r.now ≡ true }
     ensures { result ≡ every (place_form r.now) places }
 {
-    let mut k: usize = 1;
-    while k < 9 {
+    for k in 1..9 {
         if !place_form(r, k) {
             return false;
         }
-        k += 1;
     }
     true
 }
@@ -85,12 +83,10 @@ fn sums_agree(r: &[u8]) -> bool
     if !blocks::block_sums_agree(row::head(r)) {
         return false;
     }
-    let mut place: usize = 1;
-    while place < 9 {
+    for place in 1..9 {
         if !place_sums(r, place) {
             return false;
         }
-        place += 1;
     }
     true
 }
@@ -102,7 +98,7 @@ fn broken_form(r: &[u8]) -> Clause
     if !blocks::head_form(row::head(r)) {
         return Clause::HeadForm;
     }
-    if !blocks::entries_form(row::entries_room(r), octets::long(row::entry_count(r))) {
+    if !blocks::entries_form(row::entries_room(r), usize::from(row::entry_count(r))) {
         return Clause::EntryForm;
     }
     if !places_form(r) {
@@ -123,13 +119,11 @@ fn entries_exist(r: &[u8]) -> bool
 {
     let n = soundness::accesses_in_use(r);
     let most = row::entry_count(r);
-    let mut i: usize = 0;
-    while i < n {
+    for i in 0..n {
         let on = row::entry_of(r, row::line_place(r, i));
         if !blocks::is_within(1, most, on) {
             return false;
         }
-        i += 1;
     }
     true
 }
@@ -140,13 +134,11 @@ fn policies_marked(r: &[u8]) -> bool
     ensures { result ≡ every (policy_marked r.now) (order_line r.now) }
 {
     let n = soundness::accesses_in_use(r);
-    let mut i: usize = 0;
-    while i < n {
+    for i in 0..n {
         let block = row::first(r, row::line_place(r, i));
         if !blocks::policy_marked(block[4], block[5]) {
             return false;
         }
-        i += 1;
     }
     true
 }
@@ -172,12 +164,10 @@ fn policies_ordered(r: &[u8]) -> bool
     ensures { result ≡ every (policies_in_order r.now) (order_line r.now) }
 {
     let n = soundness::accesses_in_use(r);
-    let mut i: usize = 0;
-    while i < n {
+    for i in 0..n {
         if !policies_in_order(r, row::line_place(r, i)) {
             return false;
         }
-        i += 1;
     }
     true
 }
@@ -189,7 +179,7 @@ fn broken_contents(r: &[u8]) -> Clause
     if !soundness::line_exact(r) {
         return Clause::Line;
     }
-    let n = octets::long(row::entry_count(r));
+    let n = usize::from(row::entry_count(r));
     let entries = row::entries_room(r);
     if !blocks::labels_differ(entries, n) {
         return Clause::Labels;

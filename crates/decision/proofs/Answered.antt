@@ -7,6 +7,7 @@ use native.Mathlib.Omega.{arith}
 use borrow.Author.Tests.{le-leb, leb-true}
 use lib.Dec.{eqb, leb}
 use lib.ListN.{length}
+use Rattle.std.specs.Prelude.{Some, None}
 use Rattle.octets.specs.Choice.{pick, within}
 use Rattle.octets.proofs.Lists.{and_left, and_right, by-test, both, within-high, within_low}
 use Rattle.octets.proofs.Texts.{length_part}
@@ -63,7 +64,8 @@ plan-code b RoamingNotAllowed s = refl
 plan-code b UnableToComply s = refl
 plan-code b UnusedByUser s = refl
 plan-code b Stands s = refl
-plan-code b (Open n k) s = by-test (eqb k 0) (λ e. rw e) (λ e. rw e)
+plan-code b (Open n None) s = refl
+plan-code b (Open n (Some k)) s = refl
 plan-code b (Route k) s = refl
 plan-code b (Free k) s = refl
 

@@ -2,13 +2,13 @@
 use mathlib.Core.Path.{◌≡◌, refl}
 use Prim.Native.Nat.{ℕ}
 use lib.Dec.{eqb}
+use Rattle.std.specs.Prelude.{Option, Some, None}
 use Rattle.octets.specs.Choice.{pick}
 use Rattle.message.specs.Codes.{kind_of}
 use Rattle.message.specs.Kinds.{code_from}
 use Rattle.message.specs.declared.Kind.{Kind}
 use Rattle.message.specs.declared.Kind.TheVariants.{NoAnswer, Plain, Experimental}
 use Rattle.effects.specs.declared.Cut.{Cut}
-use Rattle.effects.specs.declared.Cut.TheVariants.{NoCut, Lengths}
 use Rattle.decision.specs.declared.Outcome.{Outcome}
 use Rattle.decision.specs.Outcomes.{cut_made, cut_session, cut_host, cut_realm, result_said}
 use Rattle.rules.specs.Calls.{Result}
@@ -24,13 +24,13 @@ kind-back Plain n = refl
 kind-back Experimental n = refl
 
 -- the cut that four numbers say
-cut_back : (made session host realm : ℕ) → Cut
-cut_back made session host realm = pick (eqb made 0) NoCut (Lengths session host realm)
+cut_back : (made session host realm : ℕ) → Option Cut
+cut_back made session host realm = pick (eqb made 0) None (Some (record { session = session; host = host; realm = realm }))
 
-cut-back : (c : Cut) → cut_back (cut_made c) (cut_session c) (cut_host c) (cut_realm c) ≡ c
+cut-back : (c : Option Cut) → cut_back (cut_made c) (cut_session c) (cut_host c) (cut_realm c) ≡ c
 unfolding cut_back cut_made cut_session cut_host cut_realm pick
-cut-back NoCut = refl
-cut-back (Lengths s h r) = refl
+cut-back None = refl
+cut-back (Some c) = refl
 
 -- the outcome that a result says
 pub outcome_back : Result → Outcome

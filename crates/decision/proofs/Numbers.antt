@@ -16,7 +16,7 @@ use Rattle.message.specs.Kinds.{code_from}
 use Rattle.message.specs.ReadingAMessage.{read}
 use Rattle.message.specs.declared.Kind.TheVariants.{NoAnswer}
 use Rattle.message.proofs.Callers.{message-length}
-use Rattle.effects.specs.declared.Cut.TheVariants.{NoCut}
+use Rattle.std.specs.Prelude.{None}
 use Rattle.message.specs.CallsThatGetNoAnswer.{message_most, message_number}
 use Rattle.table.specs.TheTable.{Table, first_number, table_number}
 use Rattle.table.proofs.Rows.{first-operator, first-table}
@@ -128,6 +128,6 @@ module _ (t : Table) (c : Call) where
   unanswered n e nz = rw (ne_eqb (call_number t c) 0 (λ z. nz (e ∙ z)), e)
 
 pub silent-is : (t : Table) (o : ℕ) (m host realm room notice : List ℕ) (wag : Bool) (n : ℕ)
-    → leaves (record { code = n; kind = NoAnswer; length = 0; place = 0; cut = NoCut }) t room notice ≡ silent t (call_of o m host realm room notice wag) n
+    → leaves (record { code = n; kind = NoAnswer; length = 0; place = 0; cut = None }) t room notice ≡ silent t (call_of o m host realm room notice wag) n
 unfolding leaves result_said silent call_of code_from kind_of cut_made cut_session cut_host cut_realm
 silent-is t o m host realm room notice wag n = refl

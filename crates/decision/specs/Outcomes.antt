@@ -1,5 +1,5 @@
 -- What the code's structs and enums say in the paper's numbers.
-use Rattle.std.specs.Prelude.{◌≡◌, Bool, List, [], ◌∷◌, ℕ, ◌≤◌, ◌<◌, length}
+use Rattle.std.specs.Prelude.{◌≡◌, Bool, List, [], ◌∷◌, ℕ, Option, Some, None, ◌≤◌, ◌<◌, length}
 use Rattle.message.specs.Codes.{Code, kind_of}
 use Rattle.message.specs.Kinds.{code_from}
 use Rattle.message.specs.ReadingAMessage.{user_name}
@@ -9,7 +9,6 @@ use Rattle.message.specs.declared.Span.{Span}
 use Rattle.message.specs.declared.Asked.{Asked}
 use Rattle.message.specs.declared.Asked.TheVariants.{Tunnel, Policy, Termination}
 use Rattle.effects.specs.declared.Cut.{Cut}
-use Rattle.effects.specs.declared.Cut.TheVariants.{NoCut, Lengths}
 use Rattle.decision.specs.declared.Outcome.{Outcome}
 use Rattle.decision.specs.declared.Decided.{Decided}
 use Rattle.decision.specs.declared.Texts.{Texts}
@@ -19,21 +18,21 @@ use Rattle.plans.specs.Plans.{Brought}
 use Rattle.rules.specs.Calls.{Call, Result, Left}
 
 -- A cut: 1 with the lengths of its texts, or 0 and no lengths.
-unfoldable pub cut_made : Cut → ℕ
-cut_made NoCut = 0
-cut_made (Lengths s h r) = 1
+unfoldable pub cut_made : Option Cut → ℕ
+cut_made None = 0
+cut_made (Some c) = 1
 
-unfoldable pub cut_session : Cut → ℕ
-cut_session NoCut = 0
-cut_session (Lengths s h r) = s
+unfoldable pub cut_session : Option Cut → ℕ
+cut_session None = 0
+cut_session (Some c) = c.session
 
-unfoldable pub cut_host : Cut → ℕ
-cut_host NoCut = 0
-cut_host (Lengths s h r) = h
+unfoldable pub cut_host : Option Cut → ℕ
+cut_host None = 0
+cut_host (Some c) = c.host
 
-unfoldable pub cut_realm : Cut → ℕ
-cut_realm NoCut = 0
-cut_realm (Lengths s h r) = r
+unfoldable pub cut_realm : Option Cut → ℕ
+cut_realm None = 0
+cut_realm (Some c) = c.realm
 
 -- The outcome of a call in the numbers that the paper has it return. `kind_of (code_from k c)` is 0, 1 or 2 for no answer,
 -- Result-Code and Experimental-Result.

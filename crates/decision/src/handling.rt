@@ -17,10 +17,9 @@ ghost use Rattle.effects.specs.Carrying.{done_for};
 ghost use Rattle.decision.specs.Outcomes.{Named, answered_by, brought, call_of, leaves, policies_at, spans_of, texts_of};
 
 use super::{Decided, Outcome, Texts};
-use effects::{Cut, Done};
-use message::{Asked, Kind, Span, Told};
+use effects::Done;
+use message::{Asked, Failure, Kind, Span, UserRequest};
 use plans::Plan;
-use table::RowFound;
 
 // An own name of 1 to 128 bytes.
 pub fn name_fits(s: &[u8]) -> bool
@@ -85,7 +84,7 @@ fn kind_of(plan: Plan) -> Kind
         Plan::UnableToComply => Kind::Plain,
         Plan::UnusedByUser => Kind::Experimental,
         Plan::Stands => Kind::Plain,
-        Plan::Open(n, k) => Kind::Plain,
+        Plan::Open { .. } => Kind::Plain,
         Plan::Route(k) => Kind::Plain,
         Plan::Free(k) => Kind::Plain,
     }
@@ -101,7 +100,7 @@ fn code_of(plan: Plan) -> u32
         Plan::UnableToComply => 5012,
         Plan::UnusedByUser => 5042,
         Plan::Stands => 2001,
-        Plan::Open(n, k) => 2001,
+        Plan::Open { .. } => 2001,
         Plan::Route(k) => 2001,
         Plan::Free(k) => 2001,
     }
@@ -198,11 +197,11 @@ fn refused(kind: Kind, code: u32) -> Decided
         ≡ refusal table (call_of o m host realm room notice wag) (code_from kind code)) }
 {
     Decided {
-        code: code,
-        kind: kind,
+        code,
+        kind,
         user: Span { at: 0, len: 0 },
         place: 0,
-        cut: Cut::NoCut,
+        cut: None,
     }
 }
 
@@ -256,14 +255,12 @@ fn settle(
     let done = carry_out(table, form, i, m, plan, texts_of(asked), notice);
     let kind = kind_of(plan);
     let code = code_of(plan);
-    let place = done.place;
-    let cut = done.cut;
     Decided {
-        code: code,
-        kind: kind,
-        user: user,
-        place: place,
-        cut: cut,
+        code,
+        kind,
+        user,
+        place: done.place,
+        cut: done.cut,
     }
 }
 
@@ -285,8 +282,7 @@ fn on_request(
         ≡ on_row (lent form table.old) (call_of op m.now host realm room notice.old wag)
         (record { user = bytes_of m.now user; ask = asks m.now asked }) (lookup (lent form table.old) (record { operator = op; name = bytes_of m.now user }))) }
 {
-    let found = table::lookup(table, form, op, text(m, user));
-    let RowFound::At(i) = found else {
+    let Some(i) = table::lookup(table, form, op, text(m, user)) else {
         return refused(Kind::Experimental, 5001);
     };
     if !soundness::row_sound(row::at(table, form, i)) {
@@ -302,7 +298,7 @@ fn on_reading(
     op: u32,
     m: &[u8],
     wag: bool,
-    told: Told,
+    told: Result<UserRequest, Failure>,
     notice: &mut [u8],
 ) -> Decided
     requires { (notice_length form ≤ length notice.old) × (table_number (lent form table.old) ≡ 0)
@@ -311,12 +307,8 @@ fn on_reading(
         ≡ on_reading (lent form table.old) (call_of op m.now host realm room notice.old wag) (read (most_policies form) m.now)) }
 {
     match told {
-        Told::Refused(code) => {
-            return refused(Kind::Plain, code);
-        }
-        Told::Request(user, asked) => {
-            return on_request(table, form, op, m, wag, user, asked, notice);
-        }
+        Err(f) => refused(Kind::Plain, f.code()),
+        Ok(q) => on_request(table, form, op, m, wag, q.user, q.asked, notice),
     }
 }
 
@@ -353,7 +345,7 @@ pub fn handle(
             kind: Kind::NoAnswer,
             length: 0,
             place: 0,
-            cut: Cut::NoCut,
+            cut: None,
         };
     }
     let f = form as usize;
@@ -365,13 +357,11 @@ pub fn handle(
     let code = decided.code;
     let user = decided.user;
     let written = answers::answer(message, host, realm, kind, code, user, proxies, answer);
-    let place = decided.place;
-    let cut = decided.cut;
     Outcome {
-        code: code,
-        kind: kind,
+        code,
+        kind,
         length: written,
-        place: place,
-        cut: cut,
+        place: decided.place,
+        cut: decided.cut,
     }
 }

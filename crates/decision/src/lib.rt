@@ -19,22 +19,22 @@ pub struct Texts {
 }
 
 // What is decided on a message that gets an answer: the code and its kind, the user that a success names, the place of a new access, else 0,
-// and the cut.
+// and the cut, where one was made.
 #[derive(Clone, Copy)]
 pub struct Decided {
     pub code: u32,
     pub kind: Kind,
     pub user: Span,
     pub place: usize,
-    pub cut: Cut,
+    pub cut: Option<Cut>,
 }
 
-// What a call returns: the code and its kind, the length of the answer, the place of a new access, else 0, and the cut.
+// What a call returns: the code and its kind, the length of the answer, the place of a new access, else 0, and the cut, where one was made.
 #[derive(Clone, Copy)]
 pub struct Outcome {
     pub code: u32,
     pub kind: Kind,
     pub length: usize,
     pub place: usize,
-    pub cut: Cut,
+    pub cut: Option<Cut>,
 }

@@ -1,17 +1,16 @@
 -- What carrying out a plan gives back, by the verdict that the plan stands for.
-use Rattle.std.specs.Prelude.{List, [], ◌∷◌, ℕ, length}
+use Rattle.std.specs.Prelude.{List, [], ◌∷◌, ℕ, Option, Some, None, length}
 use Rattle.table.specs.TheTable.{Access}
 use Rattle.changes.specs.Changes.{kept_in}
 use Rattle.plans.specs.Plans.{Brought}
 use Rattle.rules.specs.Deciding.{Verdict}
 use Rattle.effects.specs.declared.Cut.{Cut}
-use Rattle.effects.specs.declared.Cut.TheVariants.{NoCut, Lengths}
 use Rattle.effects.specs.declared.Done.{Done}
 
--- What each case of the enum of a cut stands for: none, or the lengths of the cut access's Session-Id and of its gateway's host and realm.
-unfoldable pub cut_for : List Access → Cut
-cut_for [] = NoCut
-cut_for (a ∷ others) = Lengths (length a.session) (length a.host) (length a.realm)
+-- What is told of a cut: none, or the lengths of the cut access's Session-Id and of its gateway's host and realm.
+unfoldable pub cut_for : List Access → Option Cut
+cut_for [] = None
+cut_for (a ∷ others) = Some (record { session = length a.session; host = length a.host; realm = length a.realm })
 
 -- What carrying out a plan gives back: the place of a new access, else 0, and the cut.
 unfoldable pub done_for : Verdict → Done

@@ -1,7 +1,7 @@
 // Carrying out a plan on row i of the table: the cut notice, the row, and what the call gives back.
 #![tactic(auto)]
 
-ghost use Rattle.std.specs.Prelude.{◌≡◌, true, ℕ, ◌+◌, ◌*◌, ◌≤◌, length};
+ghost use Rattle.std.specs.Prelude.{◌≡◌, true, ℕ, Some, None, ◌+◌, ◌*◌, ◌≤◌, length};
 ghost use Rattle.octets.specs.Lists.{is_on};
 ghost use Rattle.octets.specs.Texts.{filled, put};
 ghost use Rattle.message.specs.TheRooms.{long_notice, notice_length};
@@ -16,18 +16,19 @@ ghost use Rattle.effects.specs.Carrying.{brought_in, cut_for, done_for};
 
 use plans::Plan;
 
-// Whether a cut was made, with the lengths of the cut access's Session-Id and of its gateway's host and realm.
+// The lengths of the cut access's Session-Id and of its gateway's host and realm.
 #[derive(Clone, Copy)]
-pub enum Cut {
-    NoCut,
-    Lengths(usize, usize, usize),
+pub struct Cut {
+    pub session: usize,
+    pub host: usize,
+    pub realm: usize,
 }
 
-// What carrying out a plan gives back: the place of a new access, else 0, and the cut.
+// What carrying out a plan gives back: the place of a new access, else 0, and the cut, where one was made.
 #[derive(Clone, Copy)]
 pub struct Done {
     pub place: usize,
-    pub cut: Cut,
+    pub cut: Option<Cut>,
 }
 
 // The realm in the notice of the access at place k, for form 2 alone: in a sound row it stands in its room as it does in the notice.
@@ -48,17 +49,22 @@ fn write_notice(notice: &mut [u8], table: &[u8], form: usize, i: usize, k: usize
     requires { (notice_length form ≤ length notice.old) × (form ≤ 2) × (row_length form * i + row_length form ≤ length table.now) × (sound (row_at (lent form table.now) i) ≡ true)
         × (is_on (order_line (row_at (lent form table.now) i)) k ≡ true) }
     ensures { (notice.new ≡ notice_room form (at_place k (read_row (row_at (lent form table.now) i)).accesses) notice.old)
-        × (result ≡ cut_for (at_place k (read_row (row_at (lent form table.now) i)).accesses)) }
+        × (Some result ≡ cut_for (at_place k (read_row (row_at (lent form table.now) i)).accesses)) }
 {
     let row = row::at(table, form, i);
     octets::put_bytes(notice, 0, row::notice_rooms(row, k));
     let session = row::session(row, k);
     let host = row::host(row, k);
+    let cut = Cut {
+        session: session.len(),
+        host: host.len(),
+        realm: 0,
+    };
     if form != 2 {
-        return Cut::Lengths(session.len(), host.len(), 0);
+        return cut;
     }
     let realm = write_realm(notice, row, k);
-    Cut::Lengths(session.len(), host.len(), realm)
+    Cut { realm, ..cut }
 }
 
 // An opening on entry n: first the cut, where a place is named, then the new access.
@@ -83,18 +89,18 @@ fn open_with_cut(
     let cut = write_notice(notice, table, form, i, k);
     let place = changes::cut_and_open(table, form, i, k, n as u8, session, host, realm);
     Done {
-        place: place,
-        cut: cut,
+        place,
+        cut: Some(cut),
     }
 }
 
 // Nothing was opened, nothing cut.
 fn nothing() -> Done
-    ensures { result ≡ record { place = 0; cut = Cut.NoCut } }
+    ensures { result ≡ record { place = 0; cut = None } }
 {
     Done {
         place: 0,
-        cut: Cut::NoCut,
+        cut: None,
     }
 }
 
@@ -121,41 +127,27 @@ pub fn carry(
         × (result ≡ done_for (planned (brought_in form session.now host.now realm.now first.now second.now third.now) plan (read_row (row_at (lent form table.old) i)))) }
 {
     match plan {
-        Plan::Open(n, k) => {
-            if k == 0 {
-                let place = changes::open(table, form, i, n as u8, session, host, realm);
-                return Done {
-                    place: place,
-                    cut: Cut::NoCut,
-                };
-            }
-            return open_with_cut(table, form, i, n, k, session, host, realm, notice);
+        Plan::Open { entry, cut: None } => {
+            let place = changes::open(table, form, i, entry as u8, session, host, realm);
+            Done { place, cut: None }
         }
+        Plan::Open {
+            entry,
+            cut: Some(k),
+        } => open_with_cut(table, form, i, entry, k, session, host, realm, notice),
         Plan::Route(k) => {
             changes::route(table, form, i, k, first, second, third);
-            return nothing();
+            nothing()
         }
         Plan::Free(k) => {
             changes::free(table, form, i, k);
-            return nothing();
+            nothing()
         }
-        Plan::NotSubscribed => {
-            return nothing();
-        }
-        Plan::Barred => {
-            return nothing();
-        }
-        Plan::RoamingNotAllowed => {
-            return nothing();
-        }
-        Plan::UnableToComply => {
-            return nothing();
-        }
-        Plan::UnusedByUser => {
-            return nothing();
-        }
-        Plan::Stands => {
-            return nothing();
-        }
+        Plan::NotSubscribed
+        | Plan::Barred
+        | Plan::RoamingNotAllowed
+        | Plan::UnableToComply
+        | Plan::UnusedByUser
+        | Plan::Stands => nothing(),
     }
 }

@@ -4,8 +4,6 @@ use mathlib.Core.Bool.{Bool, true, false, not}
 use mathlib.Core.List.{List, [], ◌∷◌, map}
 use Prim.Native.Nat.{ℕ, suc, ◌+◌, ◌-◌, ◌/◌, ◌%◌, ◌≤◌}
 use native.Mathlib.Omega.{arith}
-use types.Run.{OneOf}
-use denote.Enum.Declared.{tag_of}
 use borrow.Author.Tests.{eq-eqb, ne_eqb}
 use lib.Dec.{eqb}
 use lib.ListN.{length, get_or}
@@ -14,14 +12,16 @@ use Rattle.octets.specs.Lists.{every}
 use Rattle.octets.specs.Texts.{part, same}
 use Rattle.octets.proofs.Lists.{by-test, and_left, within-high}
 use Rattle.octets.proofs.Choice.{first_passes, others-pass}
-use Rattle.message.specs.ReadingAMessage.{Avp, Name, application, avps, command, destination_host, field_code, first_value, flags, for_both, having, number_field, origin_host, origin_realm, present, proxy_info, session_id, starts_with, tested_as, text_field, value_of, walk_code, re_auth_request_type}
+use Rattle.message.specs.ReadingAMessage.{Avp, Field, Name, application, avps, command, destination_host, field_code, first_value, flags, for_both, having, number_field, origin_host, origin_realm, present, proxy_info, session_id, starts_with, tested_as, text_field, value_of, walk_code, re_auth_request_type}
 use Rattle.message.specs.Positions.{names, name_at, how_often, slot_says, Gathered}
+use Rattle.std.specs.Prelude.{Option, Some, None, Ok, Err}
+use Rattle.message.specs.declared.Failure.{Failure}
+use Rattle.message.specs.declared.Sender.{Sender}
 use Rattle.message.specs.declared.Span.{Span}
-use Rattle.message.specs.declared.Both.{Both}
-use Rattle.message.specs.declared.Both.TheVariants.{Held, Failed}
-use Rattle.message.specs.contracts.Both.{the_type}
-use Rattle.message.specs.Spans.{Holds, both_code, failed_with}
-use Rattle.message.proofs.Listing.{first-append, first-go, first_one, first-stop, above_zero}
+use Rattle.message.specs.Failures.{failure_code, failed_with}
+use Rattle.message.specs.Spans.{code_of, Holds, Reads, both_code}
+use Rattle.message.proofs.Failures.{failure-least}
+use Rattle.message.proofs.Listing.{first-append, first-go, first_one, first-stop}
 use Rattle.message.proofs.Tested.{fits_in, each_fits, passes-each}
 use Rattle.gateway.specs.TheGateway.{fields, header_code, list_code, reading_code}
 use Rattle.gateway.specs.Code.{FieldsOf, HeardOf, fields_code, has_proxies, rest_code}
@@ -55,6 +55,22 @@ module _ (m : List ℕ) where
 
 -- THE LIST
 
+-- a field that must be there: where its reader gives a value it leaves the code to those behind it, else it gives the code
+module _ {m : List ℕ} {f : Field} (cs : List ℕ) where
+  pub field-goes : {o : Option Span} {s : Span} → Reads m f (Ok o) → o ≡ Some s → first_of (field_code (avps m) f ∷ cs) ≡ first_of cs
+  unfolding code_of
+  field-goes r e = first-go (field_code (avps m) f) cs (r.code ∙ ap (λ (x : Option Span). code_of f.required (Ok x)) e)
+
+  pub field-fails : {e : Failure} → Reads m f (Err e) → first_of (field_code (avps m) f ∷ cs) ≡ failure_code e
+  unfolding code_of
+  field-fails {e} r = first-stop (field_code (avps m) f) (failure_code e) cs r.code (failure-least e)
+
+  pub field-missing : {o : Option Span} → f.required ≡ true → Reads m f (Ok o) → o ≡ None → first_of (field_code (avps m) f ∷ cs) ≡ 5005
+  unfolding code_of require
+  field-missing q r e =
+      let none : code_of {T = Span} f.required (Ok None) ≡ 5005 = ap (λ (b : Bool). require (not b) 5005) q in
+      first-stop (field_code (avps m) f) 5005 cs (r.code ∙ ap (λ (x : Option Span). code_of f.required (Ok x)) e ∙ none) (omega arith)
+
 pub rest-is : (xs : List Avp) → rest_code xs ≡ first_of (field_code xs (text_field destination_host true) ∷ field_code xs (number_field re_auth_request_type 0 0) ∷ [])
 unfolding rest_code
 rest-is xs = refl
@@ -65,42 +81,38 @@ list-split xs =
     first-append (require (starts_with session_id xs) 5005 ∷ map (field_code xs) for_both)
     (map (field_code xs) (text_field destination_host true ∷ number_field re_auth_request_type 0 0 ∷ []))
 
-pub list-failed : (xs : List Avp) (n : ℕ) → both_code xs ≡ n → 1 ≤ n → list_code xs ≡ n
+-- the code of a failure is not that of a test that passes
+some_code : (f : Failure) → eqb (failure_code f) 0 ≡ false
+some_code f = ne_eqb (failure_code f) 0 (λ z. omega (arith, failure-least f))
+
+pub list-failed : (xs : List Avp) (f : Failure) → both_code xs ≡ failure_code f → list_code xs ≡ failure_code f
 unfolding pick
-list-failed xs n b p = list-split xs ∙ rw b (rw (ne_eqb n 0 (λ z. omega arith)))
+list-failed xs f b = list-split xs ∙ rw b (rw (some_code f))
 
 pub list-rest : (xs : List Avp) → both_code xs ≡ 0 → list_code xs ≡ rest_code xs
 unfolding pick
 list-rest xs b = list-split xs ∙ rw (eq-eqb (both_code xs) 0 b)
 
-pub fields-failed : (m : List ℕ) (code n : ℕ) → code ≡ n → 1 ≤ n → FieldsOf m code (Failed n)
+pub fields-failed : (m : List ℕ) (code : ℕ) (f : Failure) → code ≡ failure_code f → FieldsOf m code (Err f)
 unfolding failed_with
-fields-failed m code n e h =
-    record {
-      code_is = e;
-      session = λ s p r w. let z : ◌≡◌ {A = ℕ} 0 1 = cc in absurd (omega arith);
-      host = λ s p r w. let z : ◌≡◌ {A = ℕ} 0 1 = cc in absurd (omega arith);
-      realm = λ s p r w. let z : ◌≡◌ {A = ℕ} 0 1 = cc in absurd (omega arith);
-      real = λ p w. let q : n ≡ p = cc in rw (← q) h;
-    }
+fields-failed m code f e = record { code_is = e; session = λ s w. absurd cc; host = λ s w. absurd cc; realm = λ s w. absurd cc }
 
-pub fields-held : (m : List ℕ) (code : ℕ) (s h r : Span) → code ≡ 0 → Holds m session_id s → Holds m origin_host h → Holds m origin_realm r → FieldsOf m code (Held s h r)
+pub fields-held : (m : List ℕ) (code : ℕ) (s : Sender) → code ≡ 0 → Holds m session_id s.session → Holds m origin_host s.host → Holds m origin_realm s.realm → FieldsOf m code (Ok s)
 unfolding failed_with
-fields-held m code s h r e p q o =
+fields-held m code s e p q o =
     record {
       code_is = e;
-      session = λ a b d w. let z : s ≡ a = cc in rw (← z) p;
-      host = λ a b d w. let z : h ≡ b = cc in rw (← z) q;
-      realm = λ a b d w. let z : r ≡ d = cc in rw (← z) o;
-      real = λ n w. let z : ◌≡◌ {A = ℕ} 0 1 = cc in absurd (omega arith);
+      session = λ a w. let z : s ≡ a = cc in rw (← z) p;
+      host = λ a w. let z : s ≡ a = cc in rw (← z) q;
+      realm = λ a w. let z : s ≡ a = cc in rw (← z) o;
     }
 
 -- THE SESSION-ID
 
 module _ (own : List ℕ) (xs : List Avp) where
-  pub session-behind : (n : ℕ) → list_code xs ≡ n → 1 ≤ n → fields_code own xs ≡ n
+  pub session-behind : (f : Failure) → list_code xs ≡ failure_code f → fields_code own xs ≡ failure_code f
   unfolding fields_code
-  session-behind n e h = first-stop (list_code xs) n _ e h
+  session-behind f e = first-stop (list_code xs) (failure_code f) _ e (failure-least f)
 
   module _ (e : list_code xs ≡ 0) where
     session-tested : fields_code own xs ≡ require (same (value_of session_id xs) own) 5002
@@ -124,12 +136,6 @@ lent-text m n s h =
 pub own_same : (m own : List ℕ) (s : Span) (b : Bool) → Holds m session_id s → b ≡ same (part m s.at (s.at + s.len - s.at)) own → b ≡ same (value_of session_id (avps m)) own
 own_same m own s b h e = e ∙ ap (λ (v : List ℕ). same v own) (lent-text m session_id s h)
 
--- what is not held has failed with a code
-pub failed-real : (m : List ℕ) (code : ℕ) (b : Both) → FieldsOf m code b → OneOf (1 ∷ []) (tag_of the_type b) → 1 ≤ failed_with b
-unfolding failed_with
-failed-real m code (Held s h r) f o = let e : ◌≡◌ {A = ℕ} 0 1 = o in absurd (omega arith)
-failed-real m code (Failed n) f o = f.real n refl
-
 -- A WHOLE MESSAGE
 
 often-there : (m : List ℕ) (v : ℕ) (xs : List Avp) → slot_says m v ≡ how_often xs → not (eqb v 0) ≡ not (eqb (length xs) 0)
@@ -148,23 +154,21 @@ unfolding present name_at names
 proxies-are m index g = often-there m (get_or index 9 0) (having proxy_info (avps m)) (g.says 9 (omega arith))
 
 module _ (own m : List ℕ) where
-  pub heard-header : (n : ℕ) → header_code m ≡ n → (n ≡ 0 → ⊥) → HeardOf own m (record { fields = Failed n; proxies = false })
+  pub heard-header : (f : Failure) → header_code m ≡ failure_code f → HeardOf own m (record { fields = Err f; proxies = false })
   unfolding has_proxies reading_code
-  heard-header n e h =
-      let p : 1 ≤ n = above_zero n h in
+  heard-header f e =
       record {
-        reading = fields-failed m (reading_code own m) n (first-stop (header_code m) n _ e p) p;
-        copying = rw e (rw (ne_eqb n 0 h));
+        reading = fields-failed m (reading_code own m) f (first-stop (header_code m) (failure_code f) _ e (failure-least f));
+        copying = rw e (rw (some_code f));
       }
 
   module _ (d : header_code m ≡ 0) where
-    pub heard-walk : (n : ℕ) → walk_code m ≡ n → (n ≡ 0 → ⊥) → HeardOf own m (record { fields = Failed n; proxies = false })
+    pub heard-walk : (f : Failure) → walk_code m ≡ failure_code f → HeardOf own m (record { fields = Err f; proxies = false })
     unfolding has_proxies reading_code
-    heard-walk n e h =
-        let p : 1 ≤ n = above_zero n h in
+    heard-walk f e =
         record {
-          reading = fields-failed m (reading_code own m) n (first-go (header_code m) _ d ∙ first-stop (walk_code m) n _ e p) p;
-          copying = rw e (rw (eq-eqb (header_code m) 0 d, ne_eqb n 0 h));
+          reading = fields-failed m (reading_code own m) f (first-go (header_code m) _ d ∙ first-stop (walk_code m) (failure_code f) _ e (failure-least f));
+          copying = rw e (rw (eq-eqb (header_code m) 0 d, some_code f));
         }
 
     module _ (w : walk_code m ≡ 0) where

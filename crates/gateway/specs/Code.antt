@@ -1,5 +1,5 @@
 -- What the code's numbers, parts and structs say in the gateway's terms.
-use Rattle.std.specs.Prelude.{Bool, true, ◌&&◌, List, [], ◌∷◌, ◌++◌, ◌≡◌, ℕ, ◌≤◌, eqb, leb, length}
+use Rattle.std.specs.Prelude.{Result, Ok, Err, Bool, true, ◌&&◌, List, [], ◌∷◌, ◌++◌, ◌≡◌, ℕ, ◌≤◌, eqb, leb, length}
 use Rattle.octets.specs.Choice.{require, first_of, within}
 use Rattle.octets.specs.Texts.{put, same}
 use Rattle.octets.specs.Numbers.{in24, in32}
@@ -9,10 +9,10 @@ use Rattle.message.specs.Codes.{plain, kind_of}
 use Rattle.message.specs.Kinds.{code_from}
 use Rattle.message.specs.ReadingAMessage.{Avp, avps, destination_host, field_code, number_field, origin_host, origin_realm, present, proxy_info, session_id, text_field, value_of, walk_code, re_auth_request_type}
 use Rattle.message.specs.WritingTheAnswer.{avp_bytes}
-use Rattle.message.specs.declared.Span.{Span}
-use Rattle.message.specs.declared.Both.{Both}
-use Rattle.message.specs.declared.Both.TheVariants.{Held, Failed}
-use Rattle.message.specs.Spans.{Holds, failed_with}
+use Rattle.message.specs.declared.Failure.{Failure}
+use Rattle.message.specs.declared.Sender.{Sender}
+use Rattle.message.specs.Failures.{failed_with}
+use Rattle.message.specs.Spans.{Holds}
 use Rattle.gateway.specs.TheGateway.{Access, Call, Left, Texts, answer, header_code, list_code, reading_code, request, vendor_avp, visited_avp}
 use Rattle.gateway.specs.declared.Heard.{Heard}
 use Rattle.gateway.specs.declared.Reauthorized.{Reauthorized}
@@ -57,12 +57,11 @@ unfoldable pub fields_code : (session : List ℕ) → List Avp → ℕ
 fields_code session xs = first_of (list_code xs ∷ require (same (value_of session_id xs) session) 5002 ∷ [])
 
 -- The fields of a message: the code of the first test that fails, or where none does, Session-Id, Origin-Host and Origin-Realm.
-pub record FieldsOf (m : List ℕ) (code : ℕ) (b : Both) : Type 0 where
+pub record FieldsOf (m : List ℕ) (code : ℕ) (b : Result Sender Failure) : Type 0 where
   pub code_is : code ≡ failed_with b
-  pub session : (s h r : Span) → b ≡ Held s h r → Holds m session_id s
-  pub host : (s h r : Span) → b ≡ Held s h r → Holds m origin_host h
-  pub realm : (s h r : Span) → b ≡ Held s h r → Holds m origin_realm r
-  pub real : (n : ℕ) → b ≡ Failed n → 1 ≤ n
+  pub session : (s : Sender) → b ≡ Ok s → Holds m session_id s.session
+  pub host : (s : Sender) → b ≡ Ok s → Holds m origin_host s.host
+  pub realm : (s : Sender) → b ≡ Ok s → Holds m origin_realm s.realm
 
 -- A Proxy-Info is to be copied: the header tests and the whole walk passed, and there is one.
 unfoldable pub has_proxies : List ℕ → Bool

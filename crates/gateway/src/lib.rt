@@ -2,20 +2,20 @@
 // access is written beside the answer.
 #![tactic(auto)]
 
-ghost use Rattle.std.specs.Prelude.{◌≡◌, ◌&&◌, ◌+◌, ◌≤◌, ◌<◌, leb, length};
+ghost use Rattle.std.specs.Prelude.{◌≡◌, false, Err, ◌&&◌, ◌+◌, ◌≤◌, ◌<◌, leb, length};
 ghost use Rattle.octets.specs.Choice.{within};
 ghost use Rattle.octets.specs.Texts.{put};
 ghost use Rattle.message.specs.TheRooms.{answer_least};
 ghost use Rattle.message.specs.Codes.{plain};
 ghost use Rattle.message.specs.ReadingAMessage.{avps, present, proxy_info, walk_code};
 ghost use Rattle.message.specs.Positions.{Gathered};
-ghost use Rattle.message.specs.Spans.{failed_with};
+ghost use Rattle.message.specs.Failures.{failed_with};
 ghost use Rattle.message.specs.WritingTheAnswer.{result_avp};
 ghost use Rattle.answers.specs.Answers.{Written};
 ghost use Rattle.gateway.specs.TheGateway.{call_number, header_code, list_code, reauthorize, visited_avp, vendor_avp};
 ghost use Rattle.gateway.specs.Code.{Answerable, FieldsOf, HeardOf, Replied, Sendable, Sent, access_avps, call_of, fields_code, from_of, access_of, leaves, name_avps, number_by, request_head, rest_code, vendor_head};
 
-use message::{Both, Got, Kind};
+use message::{Failure, Kind, Sender};
 
 // A code and its kind, or the number of a call that gets no answer; the length of the answer, and of the AA-Request, 0 where there is none.
 #[derive(Clone, Copy)]
@@ -31,26 +31,17 @@ pub struct Reauthorized {
 fn is_within(n: usize, low: usize, high: usize) -> bool
     ensures { result ≡ within low high n }
 {
-    if n < low {
-        return false;
-    }
-    n <= high
+    low <= n && n <= high
 }
 
 // Whether the texts of the access have lengths that they may have; a visited network of no bytes is none.
 fn access_fits(session: usize, user: usize, label: usize, visited: usize) -> bool
     ensures { result ≡ within 1 128 session && (within 1 128 user && (within 1 100 label && leb visited 128)) }
 {
-    if !is_within(session, 1, message::TEXT_MOST) {
-        return false;
-    }
-    if !is_within(user, 1, message::TEXT_MOST) {
-        return false;
-    }
-    if !is_within(label, 1, message::LABEL_MOST) {
-        return false;
-    }
-    visited <= message::TEXT_MOST
+    is_within(session, 1, message::TEXT_MOST)
+        && is_within(user, 1, message::TEXT_MOST)
+        && is_within(label, 1, message::LABEL_MOST)
+        && visited <= message::TEXT_MOST
 }
 
 // The number of the first test that fails, by the lengths of the own names and of both rooms, and by whether the access fits.
@@ -77,78 +68,65 @@ fn number(host: usize, realm: usize, answer: usize, request: usize, fits: bool, 
 
 // READING THE RE-AUTH-REQUEST
 
-// The code of the first header test that fails, 0 where none does.
-fn header_code(m: &[u8]) -> u32
+// The header tests, up to the first that fails.
+fn test_header(m: &[u8]) -> Result<(), Failure>
     requires { 20 ≤ length m.now }
-    ensures { result ≡ header_code m.now }
+    ensures { failed_with result ≡ header_code m.now }
 {
     let flags = m[4];
     if flags % 16 != 0 {
-        return 5013;
+        return Err(Failure::InvalidBitInHeader);
     }
     if flags / 32 % 2 != 0 {
-        return 3008;
+        return Err(Failure::InvalidHeaderBits);
     }
     if octets::read24(m, 5) != 258 {
-        return 3001;
+        return Err(Failure::CommandUnsupported);
     }
     if octets::read32(m, 8) != 1 {
-        return 3007;
+        return Err(Failure::ApplicationUnsupported);
     }
-    0
+    Ok(())
 }
 
-// The code of the two fields behind the five of the server's requests.
-fn rest_code(m: &[u8], index: &[usize]) -> u32
+// The two fields behind the five of the server's requests.
+fn test_rest(m: &[u8], index: &[usize]) -> Result<(), Failure>
     requires { (20 ≤ length m.now) × (walk_code m.now ≡ 0) × Gathered m.now index.now }
-    ensures { result ≡ rest_code (avps m.now) }
+    ensures { failed_with result ≡ rest_code (avps m.now) }
 {
-    let g = message::text_field(m, index, message::DESTINATION_HOST, 1, message::TEXT_MOST);
-    let Got::Found(_) = g else {
-        return message::refusal(g);
+    let host = message::text_field(m, index, message::DESTINATION_HOST, 1, message::TEXT_MOST)?;
+    let Some(_) = host else {
+        return Err(Failure::MissingAvp);
     };
-    let t = message::number_field(m, index, message::RE_AUTH_REQUEST_TYPE, 0, 0);
-    let Got::Found(_) = t else {
-        return message::refusal(t);
+    let kind = message::number_field(m, index, message::RE_AUTH_REQUEST_TYPE, 0, 0)?;
+    let Some(_) = kind else {
+        return Err(Failure::MissingAvp);
     };
-    0
+    Ok(())
 }
 
 // The list of a Re-Auth-Request.
-fn list(m: &[u8], index: &[usize]) -> Both
+fn list(m: &[u8], index: &[usize]) -> Result<Sender, Failure>
     requires { (20 ≤ length m.now) × (walk_code m.now ≡ 0) × Gathered m.now index.now }
     ensures { FieldsOf m.now (list_code (avps m.now)) result }
 {
-    let b = request::first_five(m, index);
-    match b {
-        Both::Failed(n) => Both::Failed(n),
-        Both::Held(session, host, realm) => {
-            let n = rest_code(m, index);
-            if n != 0 {
-                return Both::Failed(n);
-            }
-            Both::Held(session, host, realm)
-        }
-    }
+    let from = request::first_five(m, index)?;
+    test_rest(m, index)?;
+    Ok(from)
 }
 
 // The list, then that the Session-Id is that of the access.
-fn fields(m: &[u8], index: &[usize], own: &[u8]) -> Both
+fn fields(m: &[u8], index: &[usize], own: &[u8]) -> Result<Sender, Failure>
     requires { (20 ≤ length m.now) × (walk_code m.now ≡ 0) × Gathered m.now index.now }
     ensures { FieldsOf m.now (fields_code own.now (avps m.now)) result }
 {
-    let b = list(m, index);
-    match b {
-        Both::Failed(n) => Both::Failed(n),
-        Both::Held(session, host, realm) => {
-            let a = session.at;
-            let e = a + session.len;
-            if !octets::same_bytes(&m[a..e], own) {
-                return Both::Failed(5002);
-            }
-            Both::Held(session, host, realm)
-        }
+    let from = list(m, index)?;
+    let a = from.session.at;
+    let e = a + from.session.len;
+    if !octets::same_bytes(&m[a..e], own) {
+        return Err(Failure::UnknownSessionId);
     }
+    Ok(from)
 }
 
 // Whether there is a Proxy-Info.
@@ -162,8 +140,18 @@ fn proxies_seen(m: &[u8], index: &[usize]) -> bool
 // A whole message: its fields, and whether the answer has a Proxy-Info to copy.
 #[derive(Clone, Copy)]
 pub struct Heard {
-    pub fields: Both,
+    pub fields: Result<Sender, Failure>,
     pub proxies: bool,
+}
+
+// A message that is refused before its list is read.
+fn refused(f: Failure) -> Heard
+    ensures { result ≡ record { fields = Err f; proxies = false } }
+{
+    Heard {
+        fields: Err(f),
+        proxies: false,
+    }
 }
 
 // Header tests, the walk, the list and the Session-Id.
@@ -171,34 +159,16 @@ fn read(m: &[u8], own: &[u8]) -> Heard
     requires { 20 ≤ length m.now }
     ensures { HeardOf own.now m.now result }
 {
-    let h = header_code(m);
-    if h != 0 {
-        return Heard {
-            fields: Both::Failed(h),
-            proxies: false,
-        };
+    if let Err(f) = test_header(m) {
+        return refused(f);
     }
     let mut index = [0usize; message::INDEX_LENGTH];
-    let w = message::gather(m, &mut index);
-    if w != 0 {
-        return Heard {
-            fields: Both::Failed(w),
-            proxies: false,
-        };
+    if let Err(f) = message::gather(m, &mut index) {
+        return refused(f);
     }
     let proxies = proxies_seen(m, &index);
     let fields = fields(m, &index, own);
     Heard { fields, proxies }
-}
-
-// The code that a message is refused with, 0 where it is not.
-fn failed_with(b: Both) -> u32
-    ensures { result ≡ failed_with b }
-{
-    match b {
-        Both::Held(_, _, _) => 0,
-        Both::Failed(n) => n,
-    }
 }
 
 // WRITING THE RE-AUTH-ANSWER
@@ -208,13 +178,7 @@ fn put_code(room: &mut [u8], at: usize, code: u32) -> usize
     requires { at + 16 ≤ length room.old }
     ensures { Written room.old room.new at result (result_avp (plain code)) }
 {
-    let value = [
-        (code / 16777216 % 256) as u8,
-        (code / 65536 % 256) as u8,
-        (code / 256 % 256) as u8,
-        (code % 256) as u8,
-    ];
-    answers::put_avp(room, at, 268, &value)
+    answers::put_avp(room, at, 268, &code.to_be_bytes())
 }
 
 // The answer at the start of its room: its length. What stands behind it stays.
@@ -245,21 +209,9 @@ fn put_vendor_head(room: &mut [u8], at: usize, code: u32, n: usize)
     requires { at + 12 ≤ length room.old }
     ensures { room.new ≡ put room.old at (vendor_head code n) }
 {
-    let head = [
-        (code / 16777216 % 256) as u8,
-        (code / 65536 % 256) as u8,
-        (code / 256 % 256) as u8,
-        (code % 256) as u8,
-        192,
-        (n / 65536 % 256) as u8,
-        (n / 256 % 256) as u8,
-        (n % 256) as u8,
-        0,
-        0,
-        40,
-        175,
-    ];
-    octets::put_bytes(room, at, &head);
+    let [a, b, c, d] = code.to_be_bytes();
+    let [.., x, y, z] = n.to_be_bytes();
+    octets::put_bytes(room, at, &[a, b, c, d, 192, x, y, z, 0, 0, 40, 175]);
 }
 
 // An AVP of 3GPP, and the place behind it. The last word of its room is zeroed first, for the padding.
@@ -325,29 +277,14 @@ fn put_request_head(room: &mut [u8], n: usize, hop: u32, end: u32)
     requires { (20 ≤ length room.old) × (n < 65536) }
     ensures { room.new ≡ put room.old 0 (request_head n hop end) }
 {
-    let head = [
-        1,
+    let [.., x, y] = n.to_be_bytes();
+    let [a, b, c, d] = hop.to_be_bytes();
+    let [e, f, g, h] = end.to_be_bytes();
+    octets::put_bytes(
+        room,
         0,
-        (n / 256 % 256) as u8,
-        (n % 256) as u8,
-        192,
-        0,
-        1,
-        9,
-        0,
-        0,
-        0,
-        1,
-        (hop / 16777216 % 256) as u8,
-        (hop / 65536 % 256) as u8,
-        (hop / 256 % 256) as u8,
-        (hop % 256) as u8,
-        (end / 16777216 % 256) as u8,
-        (end / 65536 % 256) as u8,
-        (end / 256 % 256) as u8,
-        (end % 256) as u8,
-    ];
-    octets::put_bytes(room, 0, &head);
+        &[1, 0, x, y, 192, 0, 1, 9, 0, 0, 0, 1, a, b, c, d, e, f, g, h],
+    );
 }
 
 // The AA-Request at the start of its room: its length. What stands behind it stays.
@@ -395,20 +332,23 @@ fn reply(
     let heard = read(message, session);
     let proxies = heard.proxies;
     let fields = heard.fields;
-    let Both::Held(_, from_host, from_realm) = fields else {
-        let code = failed_with(fields);
-        let length = put_answer(message, host, realm, code, proxies, answer);
-        return Reauthorized {
-            code,
-            kind: Kind::Plain,
-            length,
-            request_length: 0,
-        };
+    let from = match fields {
+        Ok(from) => from,
+        Err(f) => {
+            let code = f.code();
+            let length = put_answer(message, host, realm, code, proxies, answer);
+            return Reauthorized {
+                code,
+                kind: Kind::Plain,
+                length,
+                request_length: 0,
+            };
+        }
     };
-    let a = from_host.at;
-    let a_end = a + from_host.len;
-    let b = from_realm.at;
-    let b_end = b + from_realm.len;
+    let a = from.host.at;
+    let a_end = a + from.host.len;
+    let b = from.realm.at;
+    let b_end = b + from.realm.len;
     let length = put_answer(message, host, realm, 2001, proxies, answer);
     let request_length = put_request(
         host,

@@ -17,10 +17,9 @@ use Rattle.decision.specs.declared.Outcome.{Outcome}
 use Rattle.order.specs.Demand3.{told}
 use Rattle.order.proofs.Rooms.{rooms-after}
 use Rattle.order.proofs.Handled.{Fine, fine, longer}
-use Rattle.likeness.specs.declared.Found.{Found}
-use Rattle.likeness.specs.Code.{said}
+use Rattle.judge.specs.declared.Found.{Found}
 use Rattle.judge.specs.TheJudge.{Case, case_number, expected, due, row_due, first_mismatch, judged, judge}
-use Rattle.judge.specs.Code.{between, held, leaves}
+use Rattle.judge.specs.Code.{between, held, leaves, finding_of}
 
 -- nothing of a room without a cut, a whole notice with one
 cut-part : (k n : ℕ) (s : List ℕ) → k ≤ 1 → take (k * n - 0) s ≡ pick (eqb k 1) (take n s) []
@@ -92,7 +91,7 @@ module _ (j : Case) (o : Outcome) (row answer notice : List ℕ) (e : call_leave
   unfolding between first_mismatch row_due
   mismatch-is n t = rw (t, answer-told, notice-told, row_is)
 
-  pub held-is : (f : Found) → said f ≡ first_mismatch j → leaves f row answer notice ≡ held j
+  pub held-is : (f : Found) → finding_of f ≡ first_mismatch j → leaves f row answer notice ≡ held j
   unfolding leaves held
   held-is f h = rw (h, row_is, answer-is, notice-is)
 
@@ -105,5 +104,5 @@ module _ (j : Case) where
 
   pub judge-refused : (n : ℕ) → n ≡ case_number j → (n ≡ 0 → ⊥)
       → leaves (record { number = n; mismatch = 0; at = 0 }) j.before j.call.answer j.call.notice ≡ judge j
-  unfolding leaves said judge judged pick
+  unfolding leaves finding_of judge judged pick
   judge-refused n h e = rw (h, ne_eqb (case_number j) 0 (λ z. e (h ∙ z)))

@@ -7,10 +7,42 @@ ghost use Rattle.message.specs.TheRooms.{notice_length};
 ghost use Rattle.decision.specs.Outcomes.{call_of, cut_made};
 ghost use Rattle.likeness.specs.Code.{said};
 ghost use Rattle.judge.specs.TheJudge.{case_number, is_one_row, judge};
-ghost use Rattle.judge.specs.Code.{between, case_of, held, leaves};
+ghost use Rattle.judge.specs.Code.{between, case_of, held, leaves, finding_of};
 
 use effects::Cut;
-use likeness::Found;
+use likeness::{Difference, Mismatch};
+
+// A number, 0 where there is nothing to tell; with 32 the number of the mismatch, and the byte at which it is.
+#[derive(Clone, Copy)]
+pub struct Found {
+    pub number: u32,
+    pub mismatch: u32,
+    pub at: usize,
+}
+
+// What is told of a comparison.
+#[tactic(auto, unfolding(likeness::specs::Code::said, crate::specs::Code::finding_of, likeness::specs::Code::mismatch_number))]
+fn found_by(compared: Result<(), Difference>) -> Found
+    ensures { finding_of result ≡ said compared }
+{
+    match compared {
+        Ok(()) => Found {
+            number: 0,
+            mismatch: 0,
+            at: 0,
+        },
+        Err(Difference::TooDeep) => Found {
+            number: 31,
+            mismatch: 0,
+            at: 0,
+        },
+        Err(Difference::At(mismatch, at)) => Found {
+            number: 32,
+            mismatch: mismatch as u32,
+            at,
+        },
+    }
+}
 
 // Whether so many bytes are exactly one row of the form.
 fn is_one_row(s: &[u8], form: u32) -> bool
@@ -63,12 +95,12 @@ fn case_number(
 }
 
 // How many bytes of the notice room a cut leaves a notice in; none without a cut.
-fn notice_told(cut: Cut, form: u32) -> usize
+fn notice_told(cut: Option<Cut>, form: u32) -> usize
     ensures { result ≡ cut_made cut * notice_length form }
 {
     match cut {
-        Cut::NoCut => 0,
-        Cut::Lengths(session, host, realm) => decision::notice_length(form),
+        None => 0,
+        Some(_) => decision::notice_length(form),
     }
 }
 
@@ -80,18 +112,12 @@ fn first_mismatch(
     their_notice: &[u8],
     row: &[u8],
     after: &[u8],
-) -> Found
+) -> Result<(), Difference>
     ensures { said result ≡ between ours.now theirs.now our_notice.now their_notice.now row.now after.now }
 {
-    let a = likeness::answer_found(ours, theirs);
-    if a.number != 0 {
-        return a;
-    }
-    let n = likeness::compared(5, their_notice, our_notice);
-    if n.number != 0 {
-        return n;
-    }
-    likeness::compared(6, after, row)
+    likeness::answer_found(ours, theirs)?;
+    likeness::compared(Mismatch::Notice, their_notice, our_notice)?;
+    likeness::compared(Mismatch::Row, after, row)
 }
 
 // A case that fails no test of its own: the call is made on the row and in the rooms that are lent, and what it leaves is what is due.
@@ -117,14 +143,14 @@ fn hold(
     let length = o.length;
     let cut = o.cut;
     let told = notice_told(cut, form);
-    first_mismatch(
+    found_by(first_mismatch(
         &answer[0..length],
         theirs,
         &notice[0..told],
         their_notice,
         row,
         after,
-    )
+    ))
 }
 
 // Whether what the old server did with a request is what ours does: number 0, or the number of the refusal and with 32 the first mismatch. The row becomes the

@@ -12,9 +12,8 @@ use Rattle.octets.specs.Texts.{same}
 use Rattle.octets.proofs.Lists.{by-test, both, same_refl}
 use Rattle.likeness.specs.TheSameAnswer.{Finding, differs, or_else, unless, agreeing, compared, fault, header_due, header_finding, misplaced, place_finding, complete, missing_finding, avps_of, answer_finding, same_answer}
 use Rattle.judge.specs.TheJudge.{Case, case_number, due, row_due, first_mismatch, judged, agrees, Judgement}
-use Rattle.likeness.specs.declared.Found.{Found}
-use Rattle.likeness.specs.Code.{said}
-use Rattle.judge.specs.Code.{leaves}
+use Rattle.judge.specs.declared.Found.{Found}
+use Rattle.judge.specs.Code.{leaves, finding_of}
 use Rattle.judgelaws.specs.TheJudgesRules.{ToldExactly, AcceptedExactly, DueIsAccepted, OneJudgement}
 
 -- FINDINGS
@@ -88,8 +87,8 @@ due-is-accepted j e s answer notice row =
 found_of : Finding → Found
 found_of f = record { number = f.number; mismatch = f.mismatch; at = f.at }
 
-read_back : (f : Found) → found_of (said f) ≡ f
-unfolding said found_of
+read_back : (f : Found) → found_of (finding_of f) ≡ f
+unfolding finding_of found_of
 read_back f = refl
 
 pub one-judgement : OneJudgement

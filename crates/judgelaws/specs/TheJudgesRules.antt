@@ -6,7 +6,7 @@ use Rattle.message.specs.ReadingAMessage.{Name, base, same_name, Avp, having, pr
 use Rattle.rules.specs.Calls.{Call}
 use Rattle.order.specs.Demand3.{brought}
 use Rattle.likeness.specs.TheSameAnswer.{nothing, failed_avp, fault, true_length, header_due, flag_byte, same_avp, misplaced_from, starts_like, complete, avps_of, answer_finding, same_answer}
-use Rattle.likeness.specs.declared.Found.{Found}
+use Rattle.judge.specs.declared.Found.{Found}
 use Rattle.judge.specs.TheJudge.{Case, case_number, due, row_due, judged, agrees, judge}
 use Rattle.judge.specs.Code.{leaves}
 

@@ -9,3 +9,4 @@ pub mod Whole
 pub mod Itself
 pub mod Bytes
 pub mod Marks
+pub mod Differences

@@ -1,13 +1,27 @@
 -- What the code's numbers and parts say in the terms of the same answer.
-use Rattle.std.specs.Prelude.{Bool, true, ◌&&◌, not, List, [], ◌⊎◌, ◌≡◌, ℕ, zero, suc, ◌+◌, ◌-◌, ◌%◌, ◌≤◌, eqb, length, get_or, drop}
+use Rattle.std.specs.Prelude.{Result, Ok, Err, Bool, true, ◌&&◌, not, List, [], ◌⊎◌, ◌≡◌, ℕ, zero, suc, ◌+◌, ◌-◌, ◌%◌, ◌≤◌, eqb, length, get_or, drop}
 use Rattle.octets.specs.Choice.{pick}
 use Rattle.octets.specs.Numbers.{net24, up4}
 use Rattle.message.specs.ReadingAMessage.{Name, base, vendor, same_name, Avp, head_length, avp_length, avp_code, avp_of, walk, having}
-use Rattle.likeness.specs.TheSameAnswer.{Finding}
-use Rattle.likeness.specs.declared.Found.{Found}
+use Rattle.likeness.specs.TheSameAnswer.{Finding, nothing, too_deep, differs}
+use Rattle.likeness.specs.declared.Mismatch.{Mismatch}
+use Rattle.likeness.specs.declared.Mismatch.TheVariants.{Header, BrokenAvp, OtherAvp, MissingAvp, Notice, Row}
+use Rattle.likeness.specs.declared.Difference.{Difference}
+use Rattle.likeness.specs.declared.Difference.TheVariants.{TooDeep, At}
 
-unfoldable pub said : Found → Finding
-said f = record { number = f.number; mismatch = f.mismatch; at = f.at }
+-- The number of each kind of mismatch, and what is found by what a comparison answers.
+unfoldable pub mismatch_number : Mismatch → ℕ
+mismatch_number Header = 1
+mismatch_number BrokenAvp = 2
+mismatch_number OtherAvp = 3
+mismatch_number MissingAvp = 4
+mismatch_number Notice = 5
+mismatch_number Row = 6
+
+unfoldable pub said : Result Unit Difference → Finding
+said (Ok u) = nothing
+said (Err TooDeep) = too_deep
+said (Err (At kind at)) = differs (mismatch_number kind) at
 
 -- The AVP at a place, the AVPs from there on, and how many of them have a name.
 abbrev pub avp_at : List ℕ → ℕ → Avp

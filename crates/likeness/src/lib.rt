@@ -6,14 +6,24 @@ ghost use Rattle.octets.specs.Choice.{pick};
 ghost use Rattle.octets.specs.Texts.{same, zeros};
 ghost use Rattle.message.specs.ReadingAMessage.{base, same_name, having};
 ghost use Rattle.likeness.specs.TheSameAnswer.{nothing, failed_avp, is_group, fault_in, agreeing, compared, header_due, header_finding, same_avp, first_is, fits, starts_like, misplaced, complete, answer_finding};
-ghost use Rattle.likeness.specs.Code.{said, avp_at, avps_from, named_from, next_at, Stands, mark_count, mark_of, Kept, Marked, Behind, Noted};
+ghost use Rattle.likeness.specs.Code.{mismatch_number, said, avp_at, avps_from, named_from, next_at, Stands, mark_count, mark_of, Kept, Marked, Behind, Noted};
 
-// A number, 0 where there is nothing to tell; with 32 the kind of the mismatch, and the byte at which it is.
+// What two servers left that is not the same.
+#[derive(Clone, Copy, PartialEq, Eq)]
+pub enum Mismatch {
+    Header = 1,
+    BrokenAvp = 2,
+    OtherAvp = 3,
+    MissingAvp = 4,
+    Notice = 5,
+    Row = 6,
+}
+
+// Why theirs is not the same: groups stand too deep in it, or the first mismatch and the byte at which it is.
 #[derive(Clone, Copy)]
-pub struct Found {
-    pub number: u32,
-    pub mismatch: u32,
-    pub at: usize,
+pub enum Difference {
+    TooDeep,
+    At(Mismatch, usize),
 }
 
 // ONE AVP
@@ -255,21 +265,13 @@ fn same_throughout(a: &[u8], b: &[u8]) -> bool
 }
 
 // Nothing where two texts are the same, else the mismatch at the first byte that differs.
-pub fn compared(mismatch: u32, a: &[u8], b: &[u8]) -> Found
-    ensures { said result ≡ compared mismatch a.now b.now }
+pub fn compared(mismatch: Mismatch, a: &[u8], b: &[u8]) -> Result<(), Difference>
+    ensures { said result ≡ compared (mismatch_number mismatch) a.now b.now }
 {
     if same_throughout(a, b) {
-        return Found {
-            number: 0,
-            mismatch: 0,
-            at: 0,
-        };
+        return Ok(());
     }
-    Found {
-        number: 32,
-        mismatch,
-        at: agreeing(a, b),
-    }
+    Err(Difference::At(mismatch, agreeing(a, b)))
 }
 
 // THE HEADER
@@ -330,43 +332,23 @@ fn header_right(ours: &[u8], theirs: &[u8]) -> bool
 }
 
 // Nothing where the header is the one due, else where it first differs.
-fn header_found(ours: &[u8], theirs: &[u8]) -> Found
+fn header_found(ours: &[u8], theirs: &[u8]) -> Result<(), Difference>
     ensures { said result ≡ header_finding ours.now theirs.now }
 {
     if ours.len() < message::HEADER_LENGTH {
         if theirs.len() == 0 {
-            return Found {
-                number: 0,
-                mismatch: 0,
-                at: 0,
-            };
+            return Ok(());
         }
-        return Found {
-            number: 32,
-            mismatch: 1,
-            at: 0,
-        };
+        return Err(Difference::At(Mismatch::Header, 0));
     }
     if header_right(ours, theirs) {
-        return Found {
-            number: 0,
-            mismatch: 0,
-            at: 0,
-        };
+        return Ok(());
     }
     let at = header_agrees(ours, theirs);
     if at < message::HEADER_LENGTH {
-        return Found {
-            number: 32,
-            mismatch: 1,
-            at,
-        };
+        return Err(Difference::At(Mismatch::Header, at));
     }
-    Found {
-        number: 0,
-        mismatch: 0,
-        at: 0,
-    }
+    Ok(())
 }
 
 // THE MARKS
@@ -593,87 +575,61 @@ fn complete(ours: &[u8], theirs: &[u8], marks: &[usize]) -> bool
 
 // The first AVP from a place on that fails one of the four tests, or the first group that is too deep. A group's value is walked as it comes, by
 // this function itself, with the depth that is left: it ends where the group does, and the places in it are those of the answer.
-fn faults(m: &[u8], from: usize, depth: u32) -> Found
+fn faults(m: &[u8], from: usize, depth: u32) -> Result<(), Difference>
     ensures { said result ≡ fault_in depth from (drop from m.now) }
 {
     let mut at: usize = from;
     while at < m.len() {
         let next = next_at(m, at);
         if next == 0 {
-            return Found {
-                number: 32,
-                mismatch: 2,
-                at,
-            };
+            return Err(Difference::At(Mismatch::BrokenAvp, at));
         }
         if is_group(m, at) {
             if depth == 0 {
-                return Found {
-                    number: 31,
-                    mismatch: 0,
-                    at: 0,
-                };
+                return Err(Difference::TooDeep);
             }
             let end = at + octets::read24(m, at + 5);
-            let f = faults(&m[0..end], at + 8, depth - 1);
-            if f.number != 0 {
-                return f;
-            }
+            faults(&m[0..end], at + 8, depth - 1)?;
         }
         at = next;
     }
-    Found {
-        number: 0,
-        mismatch: 0,
-        at: 0,
-    }
+    Ok(())
 }
 
 // THE ANSWER AS A WHOLE
 
+// Whether groups stand too deep.
+#[tactic(auto, unfolding(crate::specs::Code::said))]
+fn is_too_deep(walked: Result<(), Difference>) -> bool
+    ensures { result ≡ eqb (said walked).number 31 }
+{
+    match walked {
+        Err(Difference::TooDeep) => true,
+        _ => false,
+    }
+}
+
 // Nothing where theirs is the same answer as ours, else what is told of it: a group that is too deep before everything else, then the first mismatch. Where both have the same
 // bytes, each AVP is met by itself.
-pub fn answer_found(ours: &[u8], theirs: &[u8]) -> Found
+pub fn answer_found(ours: &[u8], theirs: &[u8]) -> Result<(), Difference>
     ensures { said result ≡ answer_finding ours.now theirs.now }
 {
-    let f = faults(theirs, message::HEADER_LENGTH, 4);
-    if f.number == 31 {
-        return f;
+    let walked = faults(theirs, message::HEADER_LENGTH, 4);
+    if is_too_deep(walked) {
+        return walked;
     }
-    let h = header_found(ours, theirs);
-    if h.number != 0 {
-        return h;
-    }
-    if f.number != 0 {
-        return f;
-    }
+    header_found(ours, theirs).and(walked)?;
     if octets::same_bytes(ours, theirs) {
-        return Found {
-            number: 0,
-            mismatch: 0,
-            at: 0,
-        };
+        return Ok(());
     }
     let mut marks = [0usize; MARKS];
     mark_first(ours, &mut marks);
     let at = misplaced(ours, theirs, &mut marks);
     if at != 0 {
-        return Found {
-            number: 32,
-            mismatch: 3,
-            at,
-        };
+        return Err(Difference::At(Mismatch::OtherAvp, at));
     }
     if complete(ours, theirs, &marks) {
-        return Found {
-            number: 0,
-            mismatch: 0,
-            at: 0,
-        };
+        return Ok(());
     }
-    Found {
-        number: 32,
-        mismatch: 4,
-        at: 0,
-    }
+    Err(Difference::At(Mismatch::MissingAvp, 0))
 }

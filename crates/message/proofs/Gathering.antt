@@ -16,31 +16,20 @@ use Rattle.octets.proofs.Lists.{by-test, and_left, and_right, both}
 use Rattle.octets.proofs.Texts.{length-zeros}
 use Rattle.message.specs.ReadingAMessage.{Name, base, vendor, same_name, named_in01, codes_of_aa_request, codes_of_termination, known_avps, is_one_of, known, Avp, Walk, behind, request_walk, avp_length, avp_code, avp_of, supported, request_code, avps, walk_code, having}
 use Rattle.message.specs.declared.Spot.{Spot}
-use Rattle.message.specs.declared.Head.TheVariants.{One, Bad}
-use Rattle.message.specs.Positions.{names, slots, not_known, slot_in, slot_of, name_at, spot_at, head_at, Often, absent, once, twice, how_often, slot_says, Stands, Gathered}
+use Rattle.std.specs.Prelude.{Result, Ok, Err}
+use Rattle.message.specs.declared.Failure.{Failure}
+use Rattle.message.specs.Failures.{failure_code, failed_with}
+use Rattle.message.proofs.Failures.{failure-least}
+use Rattle.message.specs.Positions.{names, slots, not_known, slot_in, slot_of, name_at, spot_at, HeadAt, Often, absent, once, twice, how_often, slot_says, Stands, Gathered}
 use Rattle.message.proofs.Heads.{net24-drop}
 use Rattle.message.proofs.Walks.{Passed, passes, head-least, up4-least, walk_end, walk-bad, walk-one, request-four, request-bad, request-passes, request-refuses}
 
 -- HEADS
 
 -- what a head says, as facts about the bytes
-pub head-is-one : (m : List ℕ) (at : ℕ) (a : Spot) → head_at m at ≡ One a → (avp_code (drop at m) ≡ 0) × (a ≡ spot_at m at)
-unfolding head_at pick
-head-is-one m at a e =
-    by-test (eqb (avp_code (drop at m)) 0)
-    (λ t. (eqb-true (avp_code (drop at m)) 0 t, let f = rw t at e in cc))
-    (λ t. let f = rw t at e in let z : ◌≡◌ {A = ℕ} 0 1 = cc in absurd (omega arith))
-
-pub head-is-bad : (m : List ℕ) (at c : ℕ) → head_at m at ≡ Bad c → (avp_code (drop at m) ≡ c) × (0 < c)
-unfolding head_at pick
-head-is-bad m at c e =
-    by-test (eqb (avp_code (drop at m)) 0)
-    (λ t. let f = rw t at e in let z : ◌≡◌ {A = ℕ} 0 1 = cc in absurd (omega arith))
-    (λ t. let f = rw t at e in let g : avp_code (drop at m) ≡ c = cc in (g, pos c (λ z. eqb-false (avp_code (drop at m)) 0 t (g ∙ z))))
-  where
-    pos : (n : ℕ) → (n ≡ 0 → ⊥) → 0 < n
-    pos zero h = absurd (h refl)
-    pos (suc n) h = omega arith
+pub head-is-one : (m : List ℕ) (at : ℕ) (a : Spot) → HeadAt m at (Ok a) → (avp_code (drop at m) ≡ 0) × (a ≡ spot_at m at)
+unfolding failed_with
+head-is-one m at a e = (e.code, e.one a refl)
 
 -- the next place is further on, and inside
 pub next-on : (m : List ℕ) (at : ℕ) → at ≤ length m → avp_code (drop at m) ≡ 0 → (at + 8 ≤ at + up4 (avp_length (drop at m))) × (at + up4 (avp_length (drop at m)) ≤ length m)
@@ -49,7 +38,7 @@ next-on m at h e =
     let w : up4 (avp_length (drop at m)) ≤ length m - at = rw length-drop at p.whole in
     (omega (arith, p.head, head-least (drop at m), up4-least (avp_length (drop at m))), omega arith)
 
-pub next_place : (m : List ℕ) (at : ℕ) (a : Spot) → at ≤ length m → head_at m at ≡ One a → (at + 8 ≤ a.next) × (a.next ≤ length m)
+pub next_place : (m : List ℕ) (at : ℕ) (a : Spot) → at ≤ length m → HeadAt m at (Ok a) → (at + 8 ≤ a.next) × (a.next ≤ length m)
 unfolding spot_at
 next_place m at a h e =
     let o = head-is-one m at a e in
@@ -245,21 +234,22 @@ failed m index at c w h f k =
     walk-bad request_code request-four (drop at m) (rw length-drop (omega arith)) (omega (arith, f)) in
     (sym f ∙ sym (ap (λ (x : Walk). x.code) e) ∙ w.code, ended m index at w (ap (λ (x : Walk). x.avps) e))
 
-pub at-bad : (m index : List ℕ) (at c : ℕ) → Walked m index at → at < length m → head_at m at ≡ Bad c → (c ≡ walk_code m) × Gathered m index
-at-bad m index at c w h b =
-    let f = head-is-bad m at c b in
-    failed m index at c w h (request-bad (drop at m) (omega (arith, f.0, f.1)) ∙ f.0) f.1
+pub at-bad : (m index : List ℕ) (at : ℕ) (f : Failure) → Walked m index at → at < length m → HeadAt m at (Err f) → (failure_code f ≡ walk_code m) × Gathered m index
+unfolding failed_with
+at-bad m index at f w h b =
+    let k = failure-least f in
+    failed m index at (failure_code f) w h (request-bad (drop at m) (omega (arith, b.code, k)) ∙ b.code) k
 
-pub at-unsupported : (m index : List ℕ) (at : ℕ) (a : Spot) → Walked m index at → at < length m → head_at m at ≡ One a
+pub at-unsupported : (m index : List ℕ) (at : ℕ) (a : Spot) → Walked m index at → at < length m → HeadAt m at (Ok a)
     → supported (avp_of (drop at m)) ≡ false → (5001 ≡ walk_code m) × Gathered m index
 at-unsupported m index at a w h o u =
     failed m index at 5001 w h (request-refuses (drop at m) (head-is-one m at a o).0 u) (omega arith)
 
-pub slot_is : (m : List ℕ) (at : ℕ) (a : Spot) → head_at m at ≡ One a → a.slot ≡ slot_of (avp_of (drop at m)).name
+pub slot_is : (m : List ℕ) (at : ℕ) (a : Spot) → HeadAt m at (Ok a) → a.slot ≡ slot_of (avp_of (drop at m)).name
 unfolding spot_at
 slot_is m at a o = ap (λ (x : Spot). x.slot) (head-is-one m at a o).1
 
-pub length-is : (m : List ℕ) (at : ℕ) (a : Spot) → head_at m at ≡ One a → a.length ≡ net24 m (at + 5)
+pub length-is : (m : List ℕ) (at : ℕ) (a : Spot) → HeadAt m at (Ok a) → a.length ≡ net24 m (at + 5)
 unfolding spot_at
 length-is m at a o = ap (λ (x : Spot). x.length) (head-is-one m at a o).1 ∙ net24-drop at 5 m
 
@@ -271,12 +261,12 @@ slot-says n =
     (λ e. rw (e, slot-known n (eqb-false (slot_of n) not_known e)))
 
 -- what is told of an AVP says whether it is supported
-pub supported-by : (m : List ℕ) (at : ℕ) (a : Spot) → head_at m at ≡ One a → supported (avp_of (drop at m)) ≡ (not (eqb a.slot not_known) || not a.mandatory)
+pub supported-by : (m : List ℕ) (at : ℕ) (a : Spot) → HeadAt m at (Ok a) → supported (avp_of (drop at m)) ≡ (not (eqb a.slot not_known) || not a.mandatory)
 unfolding supported spot_at
 supported-by m at a o = rw ((head-is-one m at a o).1, slot-says (avp_of (drop at m)).name)
 
 -- one AVP is behind: what is ahead of it
-module _ (m index : List ℕ) (at : ℕ) (a : Spot) (w : Walked m index at) (o : head_at m at ≡ One a)
+module _ (m index : List ℕ) (at : ℕ) (a : Spot) (w : Walked m index at) (o : HeadAt m at (Ok a))
     (u : supported (avp_of (drop at m)) ≡ true) where
   ahead-is : ahead m at ≡ behind (avp_of (drop at m)) (ahead m a.next)
   unfolding spot_at

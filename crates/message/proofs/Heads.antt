@@ -1,5 +1,5 @@
 -- The tests of the message, of its header and of one AVP, a law for each way out of them.
-use mathlib.Core.Path.{◌≡◌, refl, ◌∙◌}
+use mathlib.Core.Path.{◌≡◌, refl, sym, ◌∙◌}
 use mathlib.Core.List.{List}
 use Prim.Native.Nat.{ℕ, zero, suc, ◌+◌, ◌*◌, ◌/◌, ◌%◌, ◌≤◌, ◌<◌}
 use native.Mathlib.Nat.{add_assoc}
@@ -13,8 +13,12 @@ use Rattle.octets.specs.Numbers.{net24, net32, up4}
 use Rattle.octets.proofs.Lists.{by-test}
 use Rattle.message.specs.CallsThatGetNoAnswer.{message_most, message_number}
 use Rattle.message.specs.ReadingAMessage.{base, vendor, flags, command, application, header_code, head_length, avp_length, avp_code, avp_of}
-use Rattle.message.specs.declared.Head.TheVariants.{One, Bad}
-use Rattle.message.specs.Positions.{slot_of, spot_at, head_at, FlagsAndLength}
+use Rattle.std.specs.Prelude.{Result, Ok, Err}
+use Rattle.message.specs.declared.Spot.{Spot}
+use Rattle.message.specs.declared.Failure.{Failure}
+use Rattle.message.specs.declared.Failure.TheVariants.{InvalidAvpBits, InvalidAvpLength}
+use Rattle.message.specs.Failures.{failure_code, failed_with}
+use Rattle.message.specs.Positions.{slot_of, spot_at, HeadAt, FlagsAndLength}
 
 -- THE MESSAGE
 
@@ -165,13 +169,13 @@ module _ (s : List ℕ) where
         code-none p =
             simp (le-leb 8 (length s) h, eq-eqb (get_or s 4 0 % 32) 0 f, le-leb (head_length s) (avp_length s) l, le-leb (up4 (avp_length s)) (length s) p)
 
-pub head-bad : (m : List ℕ) (at c : ℕ) → avp_code (drop at m) ≡ c → 0 < c → head_at m at ≡ Bad c
-unfolding head_at pick
-head-bad m at c e h = rw e (rw (ne_eqb c 0 (λ z. omega arith)))
+pub head-bad : (m : List ℕ) (at : ℕ) (f : Failure) → avp_code (drop at m) ≡ failure_code f → HeadAt m at (Err f)
+unfolding failed_with
+head-bad m at f e = record { code = e; one = λ a w. let z : ◌≡◌ {A = ℕ} 0 1 = cc in absurd (omega arith) }
 
-pub head-one : (m : List ℕ) (at : ℕ) → avp_code (drop at m) ≡ 0 → head_at m at ≡ One (spot_at m at)
-unfolding head_at pick
-head-one m at e = rw (eq-eqb (avp_code (drop at m)) 0 e)
+pub head-one : (m : List ℕ) (at : ℕ) (a : Spot) → avp_code (drop at m) ≡ 0 → a ≡ spot_at m at → HeadAt m at (Ok a)
+unfolding failed_with
+head-one m at a e w = record { code = e; one = λ b v. let z : a ≡ b = cc in sym z ∙ w }
 
 -- the same, in places of the message
 module _ (m : List ℕ) (at : ℕ) where
@@ -180,15 +184,17 @@ module _ (m : List ℕ) (at : ℕ) where
   unfolding spot_at avp_of
   spot_is = rw get_or-drop
 
-  pub at-few : length m < at + 8 → head_at m at ≡ Bad 5014
-  at-few h = head-bad m at 5014 (code-few (drop at m) (rw length-drop (omega arith))) (omega arith)
+  pub at-few : length m < at + 8 → HeadAt m at (Err InvalidAvpLength)
+  unfolding failure_code
+  at-few h = head-bad m at InvalidAvpLength (code-few (drop at m) (rw length-drop (omega arith)))
 
   module _ (h : at + 8 ≤ length m) where
     left : 8 ≤ length (drop at m)
     left = rw length-drop (omega arith)
 
-    pub at_bits : (get_or m (at + 4) 0 % 32 ≡ 0 → ⊥) → head_at m at ≡ Bad 3009
-    at_bits f = head-bad m at 3009 (code-bits (drop at m) left (rw get_or-drop f)) (omega arith)
+    pub at_bits : (get_or m (at + 4) 0 % 32 ≡ 0 → ⊥) → HeadAt m at (Err InvalidAvpBits)
+    unfolding failure_code
+    at_bits f = head-bad m at InvalidAvpBits (code-bits (drop at m) left (rw get_or-drop f))
 
     module _ (f : get_or m (at + 4) 0 % 32 ≡ 0) where
       bits : get_or (drop at m) 4 0 % 32 ≡ 0
@@ -198,46 +204,50 @@ module _ (m : List ℕ) (at : ℕ) where
         v12 : head_length (drop at m) ≡ 12
         v12 = head-v (drop at m) (rw get_or-drop v)
 
-        pub at-length-v : net24 m (at + 5) < 12 → head_at m at ≡ Bad 5014
-        at-length-v l = head-bad m at 5014 (code-length (drop at m) left bits (omega (arith, v12, net24-drop at 5 m))) (omega arith)
+        pub at-length-v : net24 m (at + 5) < 12 → HeadAt m at (Err InvalidAvpLength)
+        unfolding failure_code
+        at-length-v l = head-bad m at InvalidAvpLength (code-length (drop at m) left bits (omega (arith, v12, net24-drop at 5 m)))
 
-        pub at-past-v : 12 ≤ net24 m (at + 5) → length m < at + up4 (net24 m (at + 5)) → head_at m at ≡ Bad 5014
+        pub at-past-v : 12 ≤ net24 m (at + 5) → length m < at + up4 (net24 m (at + 5)) → HeadAt m at (Err InvalidAvpLength)
+        unfolding failure_code
         at-past-v l p =
-            head-bad m at 5014
+            head-bad m at InvalidAvpLength
             (code-past (drop at m) left bits (omega (arith, v12, net24-drop at 5 m)) (rw (net24-drop at 5 m, length-drop) (omega arith)))
-            (omega arith)
 
         pub at-v : 12 ≤ net24 m (at + 5) → at + up4 (net24 m (at + 5)) ≤ length m
-            → head_at m at ≡ One (record { slot = slot_of (vendor (net32 m (at + 8)) (net32 m at)); length = net24 m (at + 5); mandatory = eqb (get_or m (at + 4) 0 / 64 % 2) 1; next = at + up4 (net24 m (at + 5)) })
+            → HeadAt m at (Ok (record { slot = slot_of (vendor (net32 m (at + 8)) (net32 m at)); length = net24 m (at + 5); mandatory = eqb (get_or m (at + 4) 0 / 64 % 2) 1; next = at + up4 (net24 m (at + 5)) }))
         at-v l p =
             let z : at + 0 ≡ at = omega arith in
-            head-one m at (code-none (drop at m) left bits (omega (arith, v12, net24-drop at 5 m)) (rw (net24-drop at 5 m, length-drop) (omega arith)))
-            ∙ rw (spot_is, name-v (drop at m) (rw get_or-drop v), net24-drop at 5 m, net32-drop at 8 m, net32-drop at 0 m, z)
+            head-one m at (record { slot = slot_of (vendor (net32 m (at + 8)) (net32 m at)); length = net24 m (at + 5); mandatory = eqb (get_or m (at + 4) 0 / 64 % 2) 1; next = at + up4 (net24 m (at + 5)) })
+            (code-none (drop at m) left bits (omega (arith, v12, net24-drop at 5 m)) (rw (net24-drop at 5 m, length-drop) (omega arith)))
+            (rw (spot_is, name-v (drop at m) (rw get_or-drop v), net24-drop at 5 m, net32-drop at 8 m, net32-drop at 0 m, z))
 
       module _ (v : get_or m (at + 4) 0 < 128) where
         v8 : head_length (drop at m) ≡ 8
         v8 = head-base (drop at m) (rw get_or-drop v)
 
-        pub at_length : net24 m (at + 5) < 8 → head_at m at ≡ Bad 5014
-        at_length l = head-bad m at 5014 (code-length (drop at m) left bits (omega (arith, v8, net24-drop at 5 m))) (omega arith)
+        pub at_length : net24 m (at + 5) < 8 → HeadAt m at (Err InvalidAvpLength)
+        unfolding failure_code
+        at_length l = head-bad m at InvalidAvpLength (code-length (drop at m) left bits (omega (arith, v8, net24-drop at 5 m)))
 
-        pub at-past : 8 ≤ net24 m (at + 5) → length m < at + up4 (net24 m (at + 5)) → head_at m at ≡ Bad 5014
+        pub at-past : 8 ≤ net24 m (at + 5) → length m < at + up4 (net24 m (at + 5)) → HeadAt m at (Err InvalidAvpLength)
+        unfolding failure_code
         at-past l p =
-            head-bad m at 5014
+            head-bad m at InvalidAvpLength
             (code-past (drop at m) left bits (omega (arith, v8, net24-drop at 5 m)) (rw (net24-drop at 5 m, length-drop) (omega arith)))
-            (omega arith)
 
         pub at_base : 8 ≤ net24 m (at + 5) → at + up4 (net24 m (at + 5)) ≤ length m
-            → head_at m at ≡ One (record { slot = slot_of (base (net32 m at)); length = net24 m (at + 5); mandatory = eqb (get_or m (at + 4) 0 / 64 % 2) 1; next = at + up4 (net24 m (at + 5)) })
+            → HeadAt m at (Ok (record { slot = slot_of (base (net32 m at)); length = net24 m (at + 5); mandatory = eqb (get_or m (at + 4) 0 / 64 % 2) 1; next = at + up4 (net24 m (at + 5)) }))
         at_base l p =
             let z : at + 0 ≡ at = omega arith in
-            head-one m at (code-none (drop at m) left bits (omega (arith, v8, net24-drop at 5 m)) (rw (net24-drop at 5 m, length-drop) (omega arith)))
-            ∙ rw (spot_is, name-base (drop at m) (rw get_or-drop v), net24-drop at 5 m, net32-drop at 0 m, z)
+            head-one m at (record { slot = slot_of (base (net32 m at)); length = net24 m (at + 5); mandatory = eqb (get_or m (at + 4) 0 / 64 % 2) 1; next = at + up4 (net24 m (at + 5)) })
+            (code-none (drop at m) left bits (omega (arith, v8, net24-drop at 5 m)) (rw (net24-drop at 5 m, length-drop) (omega arith)))
+            (rw (spot_is, name-base (drop at m) (rw get_or-drop v), net24-drop at 5 m, net32-drop at 0 m, z))
 
 -- BY FLAGS AND LENGTH IN ONE WORD
 
 module _ (m : List ℕ) (at w : ℕ) (h : at + 8 ≤ length m) (o : FlagsAndLength m at w) where
-  pub word-bits : 16777216 ≤ w % 536870912 → head_at m at ≡ Bad 3009
+  pub word-bits : 16777216 ≤ w % 536870912 → HeadAt m at (Err InvalidAvpBits)
   word-bits r = at_bits m at h (λ z. omega (arith, o.both, o.byte, o.three))
 
   module _ (r : w % 536870912 < 16777216) where
@@ -251,11 +261,11 @@ module _ (m : List ℕ) (at w : ℕ) (h : at + 8 ≤ length m) (o : FlagsAndLeng
     either : {A : Type 0} → (128 ≤ get_or m (at + 4) 0 → A) → (get_or m (at + 4) 0 < 128 → A) → A
     either f g = by-test (leb 128 (get_or m (at + 4) 0)) (λ t. f (leb-true 128 (get_or m (at + 4) 0) t)) (λ t. g (leb-false 128 (get_or m (at + 4) 0) t))
 
-    pub word-short : w % 536870912 < 8 → head_at m at ≡ Bad 5014
+    pub word-short : w % 536870912 < 8 → HeadAt m at (Err InvalidAvpLength)
     word-short n = either (λ v. at-length-v m at h clear v (omega (arith, word-length))) (λ v. at_length m at h clear v (omega (arith, word-length)))
 
     module _ (n : 8 ≤ w % 536870912) where
-      pub word-past : length m < at + up4 (w % 536870912) → head_at m at ≡ Bad 5014
+      pub word-past : length m < at + up4 (w % 536870912) → HeadAt m at (Err InvalidAvpLength)
       word-past p =
           let q : length m < at + up4 (net24 m (at + 5)) = rw word-length at p in
           either
@@ -281,15 +291,15 @@ module _ (m : List ℕ) (at w : ℕ) (h : at + 8 ≤ length m) (o : FlagsAndLeng
           let k : w % 2147483648 < 1073741832 = omega (arith, g, low, o.three) in
           rw t (lt-leb 1073741832 (w % 2147483648) k))
 
-      pub word-v-short : 2147483656 ≤ w → w % 536870912 < 12 → head_at m at ≡ Bad 5014
+      pub word-v-short : 2147483656 ≤ w → w % 536870912 < 12 → HeadAt m at (Err InvalidAvpLength)
       word-v-short v l = at-length-v m at h clear (omega (arith, o.both, o.three)) (omega (arith, word-length))
 
       pub word-v : 2147483656 ≤ w → 12 ≤ w % 536870912 → at + up4 (w % 536870912) ≤ length m
-          → head_at m at ≡ One (record { slot = slot_of (vendor (net32 m (at + 8)) (net32 m at)); length = w % 536870912; mandatory = leb 1073741832 (w % 2147483648); next = at + up4 (w % 536870912) })
+          → HeadAt m at (Ok (record { slot = slot_of (vendor (net32 m (at + 8)) (net32 m at)); length = w % 536870912; mandatory = leb 1073741832 (w % 2147483648); next = at + up4 (w % 536870912) }))
       word-v v l p =
-          at-v m at h clear (omega (arith, o.both, o.three)) (omega (arith, word-length)) (rw word-length at p) ∙ rw (word-m, word-length)
+          rw (word-m, word-length) (at-v m at h clear (omega (arith, o.both, o.three)) (omega (arith, word-length)) (rw word-length at p))
 
       pub word-base : w < 2147483656 → at + up4 (w % 536870912) ≤ length m
-          → head_at m at ≡ One (record { slot = slot_of (base (net32 m at)); length = w % 536870912; mandatory = leb 1073741832 (w % 2147483648); next = at + up4 (w % 536870912) })
+          → HeadAt m at (Ok (record { slot = slot_of (base (net32 m at)); length = w % 536870912; mandatory = leb 1073741832 (w % 2147483648); next = at + up4 (w % 536870912) }))
       word-base v p =
-          at_base m at h clear (omega (arith, o.both, o.three, word-length)) (omega (arith, word-length)) (rw word-length at p) ∙ rw (word-m, word-length)
+          rw (word-m, word-length) (at_base m at h clear (omega (arith, o.both, o.three, word-length)) (omega (arith, word-length)) (rw word-length at p))

@@ -1,5 +1,6 @@
 pub mod Walks
 pub mod Heads
+pub mod Failures
 pub mod Gathering
 pub mod Known
 pub mod Tested

@@ -2,14 +2,12 @@
 use mathlib.Core.Path.{◌≡◌, refl, sym, ap, ◌∙◌}
 use mathlib.Core.Bool.{Bool, true, false, ◌||◌, not}
 use mathlib.Core.List.{List, [], ◌∷◌, ◌++◌, map}
-use mathlib.Core.Logic.{⊎_elim}
 use Prim.Native.Nat.{ℕ, zero, suc, ◌+◌, ◌/◌, ◌%◌, ◌≤◌, ◌<◌}
 use native.Mathlib.Omega.{arith}
-use types.Run.{OneOf}
-use denote.Enum.Declared.{tag_of}
 use borrow.Author.Tests.{eqb-true, eqb-false, eq-eqb, ne_eqb, le-leb}
 use lib.Dec.{eqb}
 use lib.ListN.{length, get_or, drop, length-drop}
+use Rattle.std.specs.Prelude.{Option, Some, None, is_some, Result, Ok, Err, IsErrAnd}
 use Rattle.octets.specs.Choice.{pick, require, first_of, within}
 use Rattle.octets.specs.Lists.{every}
 use Rattle.octets.specs.Numbers.{net32}
@@ -17,18 +15,16 @@ use Rattle.octets.proofs.Lists.{by-test}
 use Rattle.octets.proofs.Choice.{first_passes, others-pass, passed}
 use Rattle.message.specs.ReadingAMessage.{flags, command, header_code, Name, same_name, Avp, Walk, behind, Field, number_in, label_field, number_field, texts_field, avp_code, avp_of, request_code, avps, walk_code, having, first_value, value_of, present, tested_as, field_code, starts_with, for_both, for265, for275, fields, list_code, reading_code, session_id, origin_host, origin_realm, proxy_info, user_name, visited_network, wlan_apn_id, routing_policy, type_of, Request, ask_of, request_of, request, read}
 use Rattle.message.specs.declared.Span.{Span}
-use Rattle.message.specs.declared.Got.{Got}
-use Rattle.message.specs.declared.Got.TheVariants.{Found, Absent, Code}
+use Rattle.message.specs.declared.Failure.{Failure}
+use Rattle.message.specs.declared.Failure.TheVariants.{MissingAvp}
 use Rattle.message.specs.declared.Routes.{Routes}
-use Rattle.message.specs.declared.Routes.TheVariants.{Brought, Missing, Wrong}
-use Rattle.message.specs.declared.Both.TheVariants.{Held, Failed}
+use Rattle.message.specs.declared.Sender.{Sender}
 use Rattle.message.specs.declared.Asked.TheVariants.{Tunnel, Policy, Termination}
-use Rattle.message.specs.declared.Told.{Told}
-use Rattle.message.specs.declared.Told.TheVariants.{Refused, Request as Requested}
-use Rattle.message.specs.contracts.Got.{the_type}
-use Rattle.message.specs.contracts.Routes.{the_type as routes-type}
+use Rattle.message.specs.declared.UserRequest.{UserRequest}
+use Rattle.message.specs.Failures.{failure_code, failed_with}
 use Rattle.message.specs.Positions.{names, name_at, how_often, slot_says, Gathered}
-use Rattle.message.specs.Spans.{code_of, is_found, Holds, Reads, HoldsAt, routes_code, RoutesRead, both_code, failed_with, BothRead, rest_code, tunnel_code, tunnel_of, policy_code, policy_of, bytes_of, asks, says, spans_in, spans, is_inside, verdict, Listed, has_proxies, HeardOf}
+use Rattle.message.specs.Spans.{code_of, Holds, Reads, HoldsAt, RoutesRead, both_code, BothRead, rest_code, tunnel_code, tunnel_of, policy_code, policy_of, bytes_of, asks, says, spans_in, spans, is_inside, verdict, Listed, has_proxies, HeardOf}
+use Rattle.message.proofs.Failures.{failure-least}
 use Rattle.message.proofs.Heads.{code-few}
 use Rattle.message.proofs.Tested.{tested-none, passes-each, first-allowed}
 use Rattle.message.proofs.Walks.{walk_end, walk-bad, walk-one, request-four, request-bad}
@@ -42,6 +38,10 @@ first-go c cs e = rw (eq-eqb c 0 e)
 pub first-stop : (c n : ℕ) (cs : List ℕ) → c ≡ n → 1 ≤ n → first_of (c ∷ cs) ≡ n
 unfolding first_of pick
 first-stop c n cs e h = rw e (rw (ne_eqb n 0 (λ z. omega arith)))
+
+-- the code of a failure is not that of a test that passes
+some_code : (f : Failure) → eqb (failure_code f) 0 ≡ false
+some_code f = ne_eqb (failure_code f) 0 (λ z. omega (arith, failure-least f))
 
 pub first-append : (xs ys : List ℕ) → first_of (xs ++ ys) ≡ pick (eqb (first_of xs) 0) (first_of ys) (first_of xs)
 unfolding first_of pick
@@ -58,43 +58,61 @@ above_zero (suc n) h = omega arith
 
 -- ONE FIELD OF A LIST
 
--- a field that must be there: an answer other than Found gives a code. A field that need not: an answer other than Code gives none
-real-code : (m : List ℕ) (f : Field) (g : Got) → Reads m f g → OneOf (1 ∷ 2 ∷ []) (tag_of the_type g) → 1 ≤ code_of true g
+no_code : {T : Type 0} (o : Option T) → code_of false (Ok o) ≡ 0
 unfolding code_of require
-real-code m f (Found s) r o = ⊎_elim (λ (e : ◌≡◌ {A = ℕ} 0 1). absurd (omega arith)) (λ (e : ◌≡◌ {A = ℕ} 0 2). absurd (omega arith)) o
-real-code m f Absent r o = omega arith
-real-code m f (Code n) r o = r.real n refl
+no_code (Some x) = refl
+no_code None = refl
 
-no_code : (g : Got) → OneOf (0 ∷ 1 ∷ []) (tag_of the_type g) → code_of false g ≡ 0
-unfolding code_of require
-no_code (Found s) o = refl
-no_code Absent o = refl
-no_code (Code n) o = ⊎_elim (λ (e : ◌≡◌ {A = ℕ} 2 0). absurd (omega arith)) (λ (e : ◌≡◌ {A = ℕ} 2 1). absurd (omega arith)) o
-
-module _ (m : List ℕ) (f : Field) (cs : List ℕ) where
-  pub go_on : (g : Got) (s : Span) → Reads m f g → g ≡ Found s → first_of (field_code (avps m) f ∷ cs) ≡ first_of cs
+-- by what its reader answers, the field leaves the code to those behind it or gives it
+module _ {T : Type 0} (b : Bool) (c : ℕ) (cs : List ℕ) (o : Option T) where
+  by-value : (x : T) → c ≡ code_of b (Ok o) → o ≡ Some x → first_of (c ∷ cs) ≡ first_of cs
   unfolding code_of
-  go_on g s r e = first-go (field_code (avps m) f) cs (r.code ∙ ap (code_of f.required) e)
+  by-value x r e = first-go c cs (r ∙ ap (λ p. code_of b (Ok p)) e)
 
-  pub stop : (g : Got) (n : ℕ) → Reads m f g → f.required ≡ true → OneOf (1 ∷ 2 ∷ []) (tag_of the_type g) → n ≡ code_of true g
-      → (first_of (field_code (avps m) f ∷ cs) ≡ n) × (1 ≤ n)
-  stop g n r q o e =
-      let h : 1 ≤ n = rw e (real-code m f g r o) in
-      (first-stop (field_code (avps m) f) n cs (r.code ∙ rw q (sym e)) h, h)
+  by-none : c ≡ code_of b (Ok o) → b ≡ true → o ≡ None → first_of (c ∷ cs) ≡ failure_code MissingAvp
+  unfolding code_of require failure_code
+  by-none r q e = first-stop c 5005 cs (r ∙ ap (λ a. code_of a (Ok o)) q ∙ ap (λ p. code_of true (Ok p)) e) (omega arith)
 
-  pub may-stop : (g : Got) (n : ℕ) → Reads m f g → g ≡ Code n → (first_of (field_code (avps m) f ∷ cs) ≡ n) × (1 ≤ n)
-  unfolding code_of
-  may-stop g n r e = let h : 1 ≤ n = r.real n e in (first-stop (field_code (avps m) f) n cs (r.code ∙ ap (code_of f.required) e) h, h)
+  by-either : c ≡ code_of b (Ok o) → b ≡ false → first_of (c ∷ cs) ≡ first_of cs
+  by-either r q = first-go c cs (r ∙ ap (λ a. code_of a (Ok o)) q ∙ no_code o)
 
-  pub may-go : (g : Got) → Reads m f g → f.required ≡ false → OneOf (0 ∷ 1 ∷ []) (tag_of the_type g) → first_of (field_code (avps m) f ∷ cs) ≡ first_of cs
-  may-go g r q o = first-go (field_code (avps m) f) cs (r.code ∙ rw q (no_code g o))
+by-failure : (T : Type 0) (b : Bool) (c : ℕ) (cs : List ℕ) (e : Failure) → c ≡ code_of {T = T} b (Err e) → first_of (c ∷ cs) ≡ failure_code e
+unfolding code_of
+by-failure T b c cs e r = first-stop c (failure_code e) cs r (failure-least e)
 
--- where the answer is no code, it is Found exactly if an AVP with that name is there
-pub found-there : (m : List ℕ) (f : Field) (g : Got) → Reads m f g → OneOf (0 ∷ 1 ∷ []) (tag_of the_type g) → is_found g ≡ present f.name (avps m)
-unfolding is_found
-found-there m f (Found s) r o = sym (r.there s refl)
-found-there m f Absent r o = sym (r.absent refl)
-found-there m f (Code n) r o = ⊎_elim (λ (e : ◌≡◌ {A = ℕ} 2 0). absurd (omega arith)) (λ (e : ◌≡◌ {A = ℕ} 2 1). absurd (omega arith)) o
+module _ {m : List ℕ} {f : Field} (cs : List ℕ) where
+  pub go_on : {o : Option Span} {s : Span} → Reads m f (Ok o) → o ≡ Some s → first_of (field_code (avps m) f ∷ cs) ≡ first_of cs
+  go_on {o} {s} r = by-value f.required (field_code (avps m) f) cs o s r.code
+
+  pub missing : {o : Option Span} → Reads m f (Ok o) → f.required ≡ true → o ≡ None → first_of (field_code (avps m) f ∷ cs) ≡ failure_code MissingAvp
+  missing {o} r = by-none f.required (field_code (avps m) f) cs o r.code
+
+  pub may-go : {o : Option Span} → Reads m f (Ok o) → f.required ≡ false → first_of (field_code (avps m) f ∷ cs) ≡ first_of cs
+  may-go {o} r = by-either f.required (field_code (avps m) f) cs o r.code
+
+  pub stop : {e : Failure} → Reads m f (Err e) → first_of (field_code (avps m) f ∷ cs) ≡ failure_code e
+  stop {e} r = by-failure Span f.required (field_code (avps m) f) cs e r.code
+
+-- the policies
+module _ {most : ℕ} {m : List ℕ} (cs : List ℕ) where
+  pub routes-go : {o : Option Routes} {s : Routes} → RoutesRead most m (Ok o) → o ≡ Some s
+      → first_of (field_code (avps m) (texts_field most routing_policy true) ∷ cs) ≡ first_of cs
+  routes-go {o} {s} r = by-value true (field_code (avps m) (texts_field most routing_policy true)) cs o s (r.code true)
+
+  pub routes-missing : {o : Option Routes} → RoutesRead most m (Ok o) → o ≡ None
+      → first_of (field_code (avps m) (texts_field most routing_policy true) ∷ cs) ≡ failure_code MissingAvp
+  routes-missing {o} r = by-none true (field_code (avps m) (texts_field most routing_policy true)) cs o (r.code true) refl
+
+  pub routes-may-go : {o : Option Routes} → RoutesRead most m (Ok o) → first_of (field_code (avps m) (texts_field most routing_policy false) ∷ cs) ≡ first_of cs
+  routes-may-go {o} r = by-either false (field_code (avps m) (texts_field most routing_policy false)) cs o (r.code false) refl
+
+  pub routes-stop : (b : Bool) {e : Failure} → RoutesRead most m (Err e) → first_of (field_code (avps m) (texts_field most routing_policy b) ∷ cs) ≡ failure_code e
+  routes-stop b {e} r = by-failure Routes b (field_code (avps m) (texts_field most routing_policy b)) cs e (r.code b)
+
+-- an AVP is there exactly if its reader gives a value
+pub found-there : {m : List ℕ} {f : Field} (o : Option Span) → Reads m f (Ok o) → is_some o ≡ present f.name (avps m)
+found-there (Some s) r = sym (r.there s refl)
+found-there None r = sym (r.absent refl)
 
 -- a number that passes is in its range
 pub tested-in : (n : Name) (low high : ℕ) (xs : List Avp) → tested_as (number_field n low high) xs ≡ 0 → within low high (net32 (first_value xs) 0) ≡ true
@@ -103,18 +121,20 @@ tested-in n low high [] e = let z = sym (tested-none (number_field n low high)) 
 tested-in n low high (a ∷ xs) e =
     passed (within low high (net32 a.value 0)) 5004 (omega arith) (first-allowed (number_field n low high) a xs (passes-each (number_field n low high) (a ∷ xs) e))
 
-pub number-in : (m : List ℕ) (n : Name) (low high : ℕ) (g : Got) (s : Span) → Reads m (number_field n low high) g → g ≡ Found s
+pub number-in : {m : List ℕ} (n : Name) (low high : ℕ) {o : Option Span} {s : Span} → Reads m (number_field n low high) (Ok o) → o ≡ Some s
     → within low high (net32 (value_of n (avps m)) 0) ≡ true
 unfolding field_code code_of value_of number_field
-number-in m n low high g s r e = tested-in n low high (having n (avps m)) (r.code ∙ ap (code_of true) e)
+number-in {m} n low high r e = tested-in n low high (having n (avps m)) (r.code ∙ ap (λ o. code_of true (Ok o)) e)
 
 -- WHAT IS TOLD
 
-pub listed-refused : (m : List ℕ) (code : ℕ) (q : Request) (n : ℕ) → code ≡ n → 1 ≤ n → Listed m code q (Refused n)
+-- what is returned is a failure with that code: written out, or by a `?`
+pub listed-refused : {m : List ℕ} {code : ℕ} {q : Request} {t : Result UserRequest Failure} (f : Failure) → IsErrAnd t (λ d. d ≡ f) → code ≡ failure_code f → Listed m code q t
 unfolding says spans every verdict pick
-listed-refused m code q n e h = record { reading = rw e (rw (ne_eqb n 0 (λ z. omega arith))); inside = refl }
+listed-refused {t = Ok r} f h e = absurd h
+listed-refused {t = Err d} f h e = record { reading = rw (e, h) (rw (some_code f)); inside = refl }
 
-pub listed-request : (m : List ℕ) (code : ℕ) (q : Request) (t : Told) → code ≡ 0 → says m t ≡ request q → every (is_inside m) (spans t) ≡ true → Listed m code q t
+pub listed-request : (m : List ℕ) (code : ℕ) (q : Request) (t : Result UserRequest Failure) → code ≡ 0 → says m t ≡ request q → every (is_inside m) (spans t) ≡ true → Listed m code q t
 unfolding verdict pick
 listed-request m code q t e s i = record { reading = s ∙ rw (eq-eqb code 0 e); inside = i }
 
@@ -122,27 +142,20 @@ pub inside_is : (m : List ℕ) (n : Name) (s : Span) → Holds m n s → is_insi
 unfolding is_inside
 inside_is m n s h = le-leb (s.at + s.len) (length m) h.inside
 
-pub both-failed : (m : List ℕ) (n : ℕ) → both_code (avps m) ≡ n → 1 ≤ n → BothRead m (Failed n)
+pub both-failed : {m : List ℕ} {r : Result Sender Failure} (f : Failure) → IsErrAnd r (λ d. d ≡ f) → both_code (avps m) ≡ failure_code f → BothRead m r
 unfolding failed_with
-both-failed m n e h =
-    record {
-      code = e;
-      session = λ s p r w. let z : ◌≡◌ {A = ℕ} 0 1 = cc in absurd (omega arith);
-      host = λ s p r w. let z : ◌≡◌ {A = ℕ} 0 1 = cc in absurd (omega arith);
-      realm = λ s p r w. let z : ◌≡◌ {A = ℕ} 0 1 = cc in absurd (omega arith);
-      real = λ p w. let q : n ≡ p = cc in rw (← q) h;
-    }
+both-failed {r = Ok s} f h e = absurd h
+both-failed {r = Err d} f h e = record { code = rw h e; session = λ s w. grind arith; host = λ s w. grind arith; realm = λ s w. grind arith }
 
-pub both-held : (m : List ℕ) (s h r : Span) → both_code (avps m) ≡ 0 → Holds m session_id s → Holds m origin_host h → Holds m origin_realm r
-    → BothRead m (Held s h r)
+pub both-held : {m : List ℕ} (s : Sender) → both_code (avps m) ≡ 0 → Holds m session_id s.session → Holds m origin_host s.host → Holds m origin_realm s.realm
+    → BothRead m (Ok s)
 unfolding failed_with
-both-held m s h r e p q o =
+both-held s e p q o =
     record {
       code = e;
-      session = λ a b d w. let z : s ≡ a = cc in rw (← z) p;
-      host = λ a b d w. let z : h ≡ b = cc in rw (← z) q;
-      realm = λ a b d w. let z : r ≡ d = cc in rw (← z) o;
-      real = λ n w. let z : ◌≡◌ {A = ℕ} 0 1 = cc in absurd (omega arith);
+      session = λ a w. let z : s ≡ a = cc in rw (← z) p;
+      host = λ a w. let z : s ≡ a = cc in rw (← z) q;
+      realm = λ a w. let z : s ≡ a = cc in rw (← z) o;
     }
 
 -- THE WHOLE LIST
@@ -158,10 +171,10 @@ module _ (most : ℕ) where
   reading-is m h w =
       first-go (header_code m) _ h ∙ first-go (walk_code m) _ w ∙ first_one (list_code most (command m) (avps m))
 
-  pub lists-failed : (m : List ℕ) (n : ℕ) → header_code m ≡ 0 → walk_code m ≡ 0 → both_code (avps m) ≡ n → 1 ≤ n → reading_code most m ≡ n
+  pub lists-failed : (m : List ℕ) (f : Failure) → header_code m ≡ 0 → walk_code m ≡ 0 → both_code (avps m) ≡ failure_code f → reading_code most m ≡ failure_code f
   unfolding pick
-  lists-failed m n h w b p =
-      reading-is m h w ∙ list-split (command m) (avps m) ∙ rw b (rw (ne_eqb n 0 (λ z. omega arith)))
+  lists-failed m f h w b =
+      reading-is m h w ∙ list-split (command m) (avps m) ∙ rw b (rw (some_code f))
 
   pub lists-rest : (m : List ℕ) → header_code m ≡ 0 → walk_code m ≡ 0 → both_code (avps m) ≡ 0 → reading_code most m ≡ rest_code most (command m) (avps m)
   unfolding pick
@@ -223,24 +236,22 @@ proxies-are m index g h w =
 -- A WHOLE MESSAGE
 
 module _ (most : ℕ) where
-  pub heard-header : (m : List ℕ) (n : ℕ) → header_code m ≡ n → (n ≡ 0 → ⊥) → HeardOf most m (record { told = Refused n; proxies = false })
+  pub heard-header : (m : List ℕ) (f : Failure) → header_code m ≡ failure_code f → HeardOf most m (record { told = Err f; proxies = false })
   unfolding says spans every read has_proxies reading_code pick
-  heard-header m n e h =
-      let p : 1 ≤ n = above_zero n h in
-      let c = first-stop (header_code m) n (walk_code m ∷ list_code most (command m) (avps m) ∷ []) e p in
-      record { reading = rw c (rw (ne_eqb n 0 h)); inside = refl; proxies = rw e (rw (ne_eqb n 0 h)) }
+  heard-header m f e =
+      let c = first-stop (header_code m) (failure_code f) (walk_code m ∷ list_code most (command m) (avps m) ∷ []) e (failure-least f) in
+      record { reading = rw c (rw (some_code f)); inside = refl; proxies = rw e (rw (some_code f)) }
 
-  pub heard-walk : (m : List ℕ) (n : ℕ) → header_code m ≡ 0 → walk_code m ≡ n → (n ≡ 0 → ⊥) → HeardOf most m (record { told = Refused n; proxies = false })
+  pub heard-walk : (m : List ℕ) (f : Failure) → header_code m ≡ 0 → walk_code m ≡ failure_code f → HeardOf most m (record { told = Err f; proxies = false })
   unfolding says spans every read has_proxies reading_code pick
-  heard-walk m n d e h =
-      let p : 1 ≤ n = above_zero n h in
-      let c = first-go (header_code m) (walk_code m ∷ list_code most (command m) (avps m) ∷ []) d ∙ first-stop (walk_code m) n (list_code most (command m) (avps m) ∷ []) e p in
-      record { reading = rw c (rw (ne_eqb n 0 h)); inside = refl; proxies = rw e (rw (eq-eqb (header_code m) 0 d, ne_eqb n 0 h)) }
+  heard-walk m f d e =
+      let c = first-go (header_code m) (walk_code m ∷ list_code most (command m) (avps m) ∷ []) d ∙ first-stop (walk_code m) (failure_code f) (list_code most (command m) (avps m) ∷ []) e (failure-least f) in
+      record { reading = rw c (rw (some_code f)); inside = refl; proxies = rw e (rw (eq-eqb (header_code m) 0 d, some_code f)) }
 
-  pub heard-lists : (m : List ℕ) (t : Told) (p : Bool) → p ≡ has_proxies m → Listed m (reading_code most m) (request_of (command m) (avps m)) t
-      → HeardOf most m (record { told = t; proxies = p })
+  pub lists-read : (m : List ℕ) (t : Result UserRequest Failure) → Listed m (reading_code most m) (request_of (command m) (avps m)) t
+      → (says m t ≡ read most m) × (every (is_inside m) (spans t) ≡ true)
   unfolding read verdict
-  heard-lists m t p e l = record { reading = l.reading; inside = l.inside; proxies = e }
+  lists-read m t l = (l.reading, l.inside)
 
 -- REQUESTS
 
@@ -248,68 +259,41 @@ pub inside-at : (m : List ℕ) (i : ℕ) (n : Name) (s : Span) → HoldsAt m i n
 unfolding is_inside
 inside-at m i n s h = le-leb (s.at + s.len) (length m) h.inside
 
-module _ (most : ℕ) where
-  pub told-termination : (m : List ℕ) (u s l : Span) → Holds m user_name u → Holds m session_id s → Holds m wlan_apn_id l → rest_code most 275 (avps m) ≡ 0
-      → Listed m (rest_code most 275 (avps m)) (request_of 275 (avps m)) (Requested u (Termination s l))
+module _ (most : ℕ) {m : List ℕ} where
+  pub told-termination : {u s l : Span} → Holds m user_name u → Holds m session_id s → Holds m wlan_apn_id l → rest_code most 275 (avps m) ≡ 0
+      → Listed m (rest_code most 275 (avps m)) (request_of 275 (avps m)) (Ok (record { user = u; asked = Termination s l }))
   unfolding says asks bytes_of spans spans_in every request_of ask_of pick
-  told-termination m u s l hu hs hl e =
-      listed-request m (rest_code most 275 (avps m)) (request_of 275 (avps m)) (Requested u (Termination s l)) e
+  told-termination {u} {s} {l} hu hs hl e =
+      listed-request m (rest_code most 275 (avps m)) (request_of 275 (avps m)) (Ok (record { user = u; asked = Termination s l })) e
       (rw (hu.value, hs.value, hl.value))
       (rw (inside_is m user_name u hu, inside_is m session_id s hs, inside_is m wlan_apn_id l hl))
 
-  pub told-tunnel : (m : List ℕ) (u s h r l : Span) (v : Bool) → Holds m user_name u → Holds m session_id s → Holds m origin_host h → Holds m origin_realm r → Holds m wlan_apn_id l
-      → tunnel_code most (avps m) ≡ 0 → Listed m (tunnel_code most (avps m)) (tunnel_of v (avps m)) (Requested u (Tunnel s h r l v))
+  pub told-tunnel : {u s h r l : Span} {v : Bool} → Holds m user_name u → Holds m session_id s → Holds m origin_host h → Holds m origin_realm r → Holds m wlan_apn_id l
+      → tunnel_code most (avps m) ≡ 0 → Listed m (tunnel_code most (avps m)) (tunnel_of v (avps m)) (Ok (record { user = u; asked = Tunnel s h r l v }))
   unfolding says asks bytes_of spans spans_in every tunnel_of
-  told-tunnel m u s h r l v hu hs hh hr hl e =
-      listed-request m (tunnel_code most (avps m)) (tunnel_of v (avps m)) (Requested u (Tunnel s h r l v)) e
+  told-tunnel {u} {s} {h} {r} {l} {v} hu hs hh hr hl e =
+      listed-request m (tunnel_code most (avps m)) (tunnel_of v (avps m)) (Ok (record { user = u; asked = Tunnel s h r l v })) e
       (rw (hu.value, hs.value, hh.value, hr.value, hl.value))
       (rw (inside_is m user_name u hu, inside_is m session_id s hs, inside_is m origin_host h hh, inside_is m origin_realm r hr, inside_is m wlan_apn_id l hl))
 
-  pub told-policy : (m : List ℕ) (u s a b c : Span) → Holds m user_name u → Holds m session_id s
+  pub told-policy : {u s a b c : Span} → Holds m user_name u → Holds m session_id s
       → HoldsAt m 0 routing_policy a → HoldsAt m 1 routing_policy b → HoldsAt m 2 routing_policy c
-      → policy_code most (avps m) ≡ 0 → Listed m (policy_code most (avps m)) (policy_of (avps m)) (Requested u (Policy s a b c))
+      → policy_code most (avps m) ≡ 0 → Listed m (policy_code most (avps m)) (policy_of (avps m)) (Ok (record { user = u; asked = Policy s a b c }))
   unfolding says asks bytes_of spans spans_in every policy_of
-  told-policy m u s a b c hu hs ha hb hc e =
-      listed-request m (policy_code most (avps m)) (policy_of (avps m)) (Requested u (Policy s a b c)) e
+  told-policy {u} {s} {a} {b} {c} hu hs ha hb hc e =
+      listed-request m (policy_code most (avps m)) (policy_of (avps m)) (Ok (record { user = u; asked = Policy s a b c })) e
       (rw (hu.value, hs.value, ha.value, hb.value, hc.value))
       (rw (inside_is m user_name u hu, inside_is m session_id s hs, inside-at m 0 routing_policy a ha, inside-at m 1 routing_policy b hb, inside-at m 2 routing_policy c hc))
 
-  -- the last two fields of a 265, by its type
-  unfoldable pub last_two : List Avp → List ℕ
-  last_two xs = field_code xs (label_field wlan_apn_id (eqb (type_of xs) 0)) ∷ field_code xs (texts_field most routing_policy (eqb (type_of xs) 1)) ∷ []
-
-  pub of-type-0 : (m : List ℕ) (t : Told) (v : Bool) → rest_code most 265 (avps m) ≡ first_of (last_two (avps m)) → type_of (avps m) ≡ 0 → v ≡ present visited_network (avps m)
+  -- the last two fields of a 265 are those of its type
+  pub of-type-0 : {t : Result UserRequest Failure} (v : Bool)
+      → rest_code most 265 (avps m) ≡ first_of (map (field_code (avps m)) (drop 5 (for265 most (avps m)))) → type_of (avps m) ≡ 0 → v ≡ present visited_network (avps m)
       → Listed m (tunnel_code most (avps m)) (tunnel_of v (avps m)) t → Listed m (rest_code most 265 (avps m)) (request_of 265 (avps m)) t
-  unfolding last_two tunnel_code tunnel_of request_of ask_of pick
-  of-type-0 m t v e z p l = rw (e, z) (rw p at l)
+  unfolding for265 tunnel_code tunnel_of request_of ask_of pick
+  of-type-0 v e z p l = rw (e, z) (rw p at l)
 
-  pub of-type-1 : (m : List ℕ) (t : Told) → rest_code most 265 (avps m) ≡ first_of (last_two (avps m)) → type_of (avps m) ≡ 1
+  pub of-type-1 : {t : Result UserRequest Failure}
+      → rest_code most 265 (avps m) ≡ first_of (map (field_code (avps m)) (drop 5 (for265 most (avps m)))) → type_of (avps m) ≡ 1
       → Listed m (policy_code most (avps m)) (policy_of (avps m)) t → Listed m (rest_code most 265 (avps m)) (request_of 265 (avps m)) t
-  unfolding last_two policy_code policy_of request_of ask_of pick
-  of-type-1 m t e z l = rw (e, z) l
-
--- THE POLICIES AS A FIELD
-
--- policies that must be there: an answer other than Brought gives a code; those that need not: an answer other than Wrong gives none
-routes-real : (most : ℕ) (m : List ℕ) (g : Routes) → RoutesRead most m g → OneOf (1 ∷ 2 ∷ []) (tag_of routes-type g) → 1 ≤ routes_code true g
-unfolding routes_code require
-routes-real most m (Brought a b c) r o = ⊎_elim (λ (e : ◌≡◌ {A = ℕ} 0 1). absurd (omega arith)) (λ (e : ◌≡◌ {A = ℕ} 0 2). absurd (omega arith)) o
-routes-real most m Missing r o = omega arith
-routes-real most m (Wrong n) r o = r.real n refl
-
-pub routes-none : (g : Routes) → OneOf (0 ∷ 1 ∷ []) (tag_of routes-type g) → routes_code false g ≡ 0
-unfolding routes_code require
-routes-none (Brought a b c) o = refl
-routes-none Missing o = refl
-routes-none (Wrong n) o = ⊎_elim (λ (e : ◌≡◌ {A = ℕ} 2 0). absurd (omega arith)) (λ (e : ◌≡◌ {A = ℕ} 2 1). absurd (omega arith)) o
-
-module _ (most : ℕ) (m : List ℕ) (cs : List ℕ) (g : Routes) (r : RoutesRead most m g) where
-  pub routes-go : (a b c : Span) → g ≡ Brought a b c → first_of (field_code (avps m) (texts_field most routing_policy true) ∷ cs) ≡ first_of cs
-  unfolding routes_code
-  routes-go a b c e = first-go (field_code (avps m) (texts_field most routing_policy true)) cs (r.code true ∙ ap (routes_code true) e)
-
-  pub routes-stop : (n : ℕ) → OneOf (1 ∷ 2 ∷ []) (tag_of routes-type g) → n ≡ routes_code true g
-      → (first_of (field_code (avps m) (texts_field most routing_policy true) ∷ cs) ≡ n) × (1 ≤ n)
-  routes-stop n o e =
-      let h : 1 ≤ n = rw e (routes-real most m g r o) in
-      (first-stop (field_code (avps m) (texts_field most routing_policy true)) n cs (r.code true ∙ sym e) h, h)
+  unfolding for265 policy_code policy_of request_of ask_of pick
+  of-type-1 e z l = rw (e, z) l

@@ -2,11 +2,8 @@
 use mathlib.Core.Path.{◌≡◌, refl, sym, ap, ◌∙◌}
 use mathlib.Core.Bool.{Bool, true, false}
 use mathlib.Core.List.{List, [], ◌∷◌}
-use mathlib.Core.Logic.{⊎_elim}
 use Prim.Native.Nat.{ℕ, ◌+◌, ◌-◌, ◌≤◌, ◌<◌}
 use native.Mathlib.Omega.{arith}
-use types.Run.{OneOf}
-use denote.Enum.Declared.{tag_of}
 use borrow.Author.Tests.{eqb-true, ne_eqb, le-leb, lt-leb}
 use lib.Dec.{eqb, leb}
 use lib.ListN.{length, get_or, drop, length-drop}
@@ -19,9 +16,11 @@ use Rattle.octets.proofs.Lists.{by-test, and_left, kept, in_within}
 use Rattle.octets.proofs.Texts.{length_part}
 use Rattle.message.specs.ReadingAMessage.{Name, base, vendor, same_name, Avp, Field, anything, number_in, number_field, head_length, avp_length, avp_of, avps, having, first_value, value_of, present, tested_as, field_code}
 use Rattle.message.specs.declared.Span.{Span}
-use Rattle.message.specs.declared.Got.{Got}
-use Rattle.message.specs.declared.Got.TheVariants.{Found, Absent, Code}
-use Rattle.message.specs.contracts.Got.{the_type}
+use Rattle.std.specs.Prelude.{Option, Some, None, Result, Ok, Err}
+use Rattle.message.specs.declared.Failure.{Failure}
+use Rattle.message.specs.declared.Failure.TheVariants.{InvalidAvpValue, AvpOccursTooManyTimes, InvalidAvpLength}
+use Rattle.message.specs.Failures.{failure_code}
+use Rattle.message.proofs.Failures.{failure-least}
 use Rattle.message.specs.Positions.{names, slots, name_at, head_of, absent, once, twice, how_often, slot_says, Stands, Gathered}
 use Rattle.message.specs.Spans.{bytes_field, code_of, Reads}
 use Rattle.message.proofs.Walks.{Passed, passes, up4-least}
@@ -83,7 +82,7 @@ module _ (m index : List ℕ) (k : ℕ) (h : k < slots) (g : Gathered m index) w
   there = having (name_at k) (avps m)
 
   module _ (b : Bool) (low high : ℕ) where
-    pub reads-absent : get_or index k 0 ≡ 0 → Reads m (bytes_field (name_at k) b low high) Absent
+    pub reads-absent : get_or index k 0 ≡ 0 → Reads m (bytes_field (name_at k) b low high) (Ok None)
     unfolding bytes_field field_code tested_as code_of present there
     reads-absent z =
         let e : having (name_at k) (avps m) ≡ [] = none-there (having (name_at k) (avps m)) (sym (says-absent m) ∙ ap (slot_says m) (sym z) ∙ g.says k h) in
@@ -93,26 +92,24 @@ module _ (m index : List ℕ) (k : ℕ) (h : k < slots) (g : Gathered m index) w
           sized = λ s w. let z : ◌≡◌ {A = ℕ} 0 1 = cc in absurd (omega arith);
           there = λ s w. let z : ◌≡◌ {A = ℕ} 0 1 = cc in absurd (omega arith);
           absent = λ w. rw e;
-          real = λ n w. let z : ◌≡◌ {A = ℕ} 0 1 = cc in absurd (omega arith);
         }
 
     -- where the reader gives a code, that of the failing test, nothing is claimed of a value
-    coded : (n : ℕ) → 1 ≤ n → field_code (avps m) (bytes_field (name_at k) b low high) ≡ n → Reads m (bytes_field (name_at k) b low high) (Code n)
+    coded : (f : Failure) → field_code (avps m) (bytes_field (name_at k) b low high) ≡ failure_code f → Reads m (bytes_field (name_at k) b low high) (Err f)
     unfolding code_of
-    coded n r e =
+    coded f e =
         record {
           code = e;
           found = λ s w. let z : ◌≡◌ {A = ℕ} 0 1 = cc in absurd (omega arith);
           sized = λ s w. let z : ◌≡◌ {A = ℕ} 0 1 = cc in absurd (omega arith);
           there = λ s w. let z : ◌≡◌ {A = ℕ} 0 1 = cc in absurd (omega arith);
           absent = λ w. let z : ◌≡◌ {A = ℕ} 0 1 = cc in absurd (omega arith);
-          real = λ p w. let q : n ≡ p = cc in rw (← q) r;
         }
 
-    pub reads-twice : get_or index k 0 ≡ 1 → Reads m (bytes_field (name_at k) b low high) (Code 5009)
-    unfolding field_code bytes_field
+    pub reads-twice : get_or index k 0 ≡ 1 → Reads m (bytes_field (name_at k) b low high) (Err AvpOccursTooManyTimes)
+    unfolding field_code bytes_field failure_code
     reads-twice z =
-        coded 5009 (omega arith)
+        coded AvpOccursTooManyTimes
         (tested-twice (bytes_field (name_at k) b low high) (having (name_at k) (avps m)) refl (sym (says-twice m) ∙ ap (slot_says m) (sym z) ∙ g.says k h))
 
   module _ (at : ℕ) (i : get_or index k 0 ≡ at) (t : 2 ≤ at) where
@@ -161,18 +158,18 @@ module _ (m index : List ℕ) (k : ℕ) (h : k < slots) (g : Gathered m index) w
         ∙ rw value-length (by-test (within low high (net24 m (at + 5) - head_of k)) (λ e. rw e) (λ e. rw e))
 
     module _ (b : Bool) (low high : ℕ) where
-      pub reads_short : net24 m (at + 5) - head_of k < low → Reads m (bytes_field (name_at k) b low high) (Code 5014)
-      unfolding within require
-      reads_short s = coded b low high 5014 (omega arith) (tested b low high ∙ rw (lt-leb low (net24 m (at + 5) - head_of k) s))
+      pub reads_short : net24 m (at + 5) - head_of k < low → Reads m (bytes_field (name_at k) b low high) (Err InvalidAvpLength)
+      unfolding within require failure_code
+      reads_short s = coded b low high InvalidAvpLength (tested b low high ∙ rw (lt-leb low (net24 m (at + 5) - head_of k) s))
 
-      pub reads-long : low ≤ net24 m (at + 5) - head_of k → high < net24 m (at + 5) - head_of k → Reads m (bytes_field (name_at k) b low high) (Code 5014)
-      unfolding within require
+      pub reads-long : low ≤ net24 m (at + 5) - head_of k → high < net24 m (at + 5) - head_of k → Reads m (bytes_field (name_at k) b low high) (Err InvalidAvpLength)
+      unfolding within require failure_code
       reads-long s l =
-          coded b low high 5014 (omega arith)
+          coded b low high InvalidAvpLength
           (tested b low high ∙ rw (le-leb low (net24 m (at + 5) - head_of k) s, lt-leb (net24 m (at + 5) - head_of k) high l))
 
       pub reads-found : low ≤ net24 m (at + 5) - head_of k → net24 m (at + 5) - head_of k ≤ high
-          → Reads m (bytes_field (name_at k) b low high) (Found (record { at = at + head_of k; len = net24 m (at + 5) - head_of k }))
+          → Reads m (bytes_field (name_at k) b low high) (Ok (Some (record { at = at + head_of k; len = net24 m (at + 5) - head_of k })))
       unfolding bytes_field code_of value_of first_value present require
       reads-found s l =
           record {
@@ -185,7 +182,6 @@ module _ (m index : List ℕ) (k : ℕ) (h : k < slots) (g : Gathered m index) w
                 rw q (s, l);
             there = λ p w. rw one;
             absent = λ w. let z : ◌≡◌ {A = ℕ} 0 1 = cc in absurd (omega arith);
-            real = λ n w. let z : ◌≡◌ {A = ℕ} 0 1 = cc in absurd (omega arith);
           }
 
 -- A NUMBER
@@ -203,41 +199,39 @@ tested-number n low high (a ∷ []) =
 tested-number n low high (a ∷ (b ∷ xs)) =
     rw (tested-several (number_field n low high) a b xs refl, tested-several (bytes_field n true 4 4) a b xs refl)
 
-module _ (m : List ℕ) (n : Name) (low high : ℕ) (g : Got) (r : Reads m (bytes_field n true 4 4) g) where
+module _ (m : List ℕ) (n : Name) (low high : ℕ) (g : Result (Option Span) Failure) (r : Reads m (bytes_field n true 4 4) g) where
   -- four bytes that are there: the code goes by the number in them
-  number-code : (s : Span) → g ≡ Found s → field_code (avps m) (number_field n low high) ≡ require (within low high (net32 (part m s.at s.len) 0)) 5004
+  number-code : (s : Span) → g ≡ Ok (Some s) → field_code (avps m) (number_field n low high) ≡ require (within low high (net32 (part m s.at s.len) 0)) 5004
   unfolding field_code bytes_field code_of pick number_in number_field value_of
   number-code s e =
       let c : tested_as (bytes_field n true 4 4) (having n (avps m)) ≡ 0 = r.code ∙ ap (code_of true) e in
       tested-number n low high (having n (avps m)) ∙ rw (c, (r.found s e).value)
 
-  pub number-not : OneOf (1 ∷ 2 ∷ []) (tag_of the_type g) → Reads m (number_field n low high) g
+  pub number-absent : g ≡ Ok None → Reads m (number_field n low high) (Ok None)
   unfolding field_code bytes_field code_of pick number_field require
-  number-not = number-not-of g r
-    where
-      number-not-of : (g : Got) → Reads m (bytes_field n true 4 4) g → OneOf (1 ∷ 2 ∷ []) (tag_of the_type g) → Reads m (number_field n low high) g
-      number-not-of (Found s) r o = ⊎_elim (λ (e : ◌≡◌ {A = ℕ} 0 1). absurd (omega arith)) (λ (e : ◌≡◌ {A = ℕ} 0 2). absurd (omega arith)) o
-      number-not-of Absent r o =
-          record {
-            code = tested-number n low high (having n (avps m)) ∙ rw r.code;
-            found = λ s w. let z : ◌≡◌ {A = ℕ} 0 1 = cc in absurd (omega arith);
-            sized = λ s w. let z : ◌≡◌ {A = ℕ} 0 1 = cc in absurd (omega arith);
-            there = λ s w. let z : ◌≡◌ {A = ℕ} 0 1 = cc in absurd (omega arith);
-            absent = r.absent;
-            real = λ n w. let z : ◌≡◌ {A = ℕ} 0 1 = cc in absurd (omega arith);
-          }
-      number-not-of (Code c) r o =
-          record {
-            code = let p : 1 ≤ c = r.real c refl in tested-number n low high (having n (avps m)) ∙ rw (r.code, ne_eqb c 0 (λ z. omega arith));
-            found = λ s w. let z : ◌≡◌ {A = ℕ} 0 1 = cc in absurd (omega arith);
-            sized = λ s w. let z : ◌≡◌ {A = ℕ} 0 1 = cc in absurd (omega arith);
-            there = λ s w. let z : ◌≡◌ {A = ℕ} 0 1 = cc in absurd (omega arith);
-            absent = λ w. let z : ◌≡◌ {A = ℕ} 0 1 = cc in absurd (omega arith);
-            real = r.real;
-          }
+  number-absent e =
+      record {
+        code = tested-number n low high (having n (avps m)) ∙ rw (rw e at r.code);
+        found = λ s w. let z : ◌≡◌ {A = ℕ} 0 1 = cc in absurd (omega arith);
+        sized = λ s w. let z : ◌≡◌ {A = ℕ} 0 1 = cc in absurd (omega arith);
+        there = λ s w. let z : ◌≡◌ {A = ℕ} 0 1 = cc in absurd (omega arith);
+        absent = λ w. r.absent e;
+      }
 
-  pub number-wrong : (s : Span) → g ≡ Found s → within low high (net32 (part m s.at s.len) 0) ≡ false → Reads m (number_field n low high) (Code 5004)
-  unfolding code_of require
+  pub number-failed : (f : Failure) → g ≡ Err f → Reads m (number_field n low high) (Err f)
+  unfolding field_code bytes_field code_of pick number_field require
+  number-failed f e =
+      let h : 1 ≤ failure_code f = failure-least f in
+      record {
+        code = tested-number n low high (having n (avps m)) ∙ rw (rw e at r.code, ne_eqb (failure_code f) 0 (λ z. omega arith));
+        found = λ s w. let z : ◌≡◌ {A = ℕ} 0 1 = cc in absurd (omega arith);
+        sized = λ s w. let z : ◌≡◌ {A = ℕ} 0 1 = cc in absurd (omega arith);
+        there = λ s w. let z : ◌≡◌ {A = ℕ} 0 1 = cc in absurd (omega arith);
+        absent = λ w. let z : ◌≡◌ {A = ℕ} 0 1 = cc in absurd (omega arith);
+      }
+
+  pub number-wrong : (s : Span) → g ≡ Ok (Some s) → within low high (net32 (part m s.at s.len) 0) ≡ false → Reads m (number_field n low high) (Err InvalidAvpValue)
+  unfolding code_of require failure_code
   number-wrong s e w =
       record {
         code = number-code s e ∙ rw w;
@@ -245,17 +239,15 @@ module _ (m : List ℕ) (n : Name) (low high : ℕ) (g : Got) (r : Reads m (byte
         sized = λ s w. let z : ◌≡◌ {A = ℕ} 0 1 = cc in absurd (omega arith);
         there = λ s w. let z : ◌≡◌ {A = ℕ} 0 1 = cc in absurd (omega arith);
         absent = λ w. let z : ◌≡◌ {A = ℕ} 0 1 = cc in absurd (omega arith);
-        real = λ n w. let q : n ≡ 5004 = cc in omega arith;
       }
 
-  pub number-right : (s : Span) → g ≡ Found s → within low high (net32 (part m s.at s.len) 0) ≡ true → Reads m (number_field n low high) g
+  pub number-right : (s : Span) → g ≡ Ok (Some s) → within low high (net32 (part m s.at s.len) 0) ≡ true → Reads m (number_field n low high) (Ok (Some s))
   unfolding code_of require number_field bytes_field
   number-right s e w =
       record {
-        code = number-code s e ∙ rw (w, e);
-        found = r.found;
-        sized = r.sized;
-        there = r.there;
-        absent = r.absent;
-        real = r.real;
+        code = number-code s e ∙ rw w;
+        found = λ p v. r.found p (e ∙ v);
+        sized = λ p v. r.sized p (e ∙ v);
+        there = λ p v. r.there p (e ∙ v);
+        absent = λ v. r.absent (e ∙ v);
       }

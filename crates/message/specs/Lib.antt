@@ -4,6 +4,7 @@ pub mod CallsThatGetNoAnswer
 pub mod ReadingAMessage
 pub mod WritingTheAnswer
 pub mod WorkedCases
+pub mod Failures
 pub mod Positions
 pub mod Spans
 pub mod Kinds

@@ -1,11 +1,11 @@
 -- What the positions and numbers that the code passes around mean in the paper's terms.
-use Rattle.std.specs.Prelude.{List, [], ◌∷◌, ◌≡◌, ℕ, suc, ◌+◌, ◌*◌, ◌≤◌, ◌<◌, eqb, ltb, length, get_or, drop}
+use Rattle.std.specs.Prelude.{Result, Ok, Err, List, [], ◌∷◌, ◌≡◌, ℕ, suc, ◌+◌, ◌*◌, ◌≤◌, ◌<◌, eqb, ltb, length, get_or, drop}
 use Rattle.octets.specs.Choice.{pick}
 use Rattle.octets.specs.Numbers.{net24, up4}
 use Rattle.message.specs.ReadingAMessage.{Name, Avp, same_name, known, avps, having, avp_length, avp_code, avp_of, session_id, auth_application_id, origin_host, origin_realm, destination_realm, auth_request_type, destination_host, user_name, termination_cause, proxy_info, re_auth_request_type, visited_network, session_request_type, wlan_apn_id, routing_policy}
 use Rattle.message.specs.declared.Spot.{Spot}
-use Rattle.message.specs.declared.Head.{Head}
-use Rattle.message.specs.declared.Head.TheVariants.{One, Bad}
+use Rattle.message.specs.declared.Failure.{Failure}
+use Rattle.message.specs.Failures.{failed_with}
 
 -- SLOTS
 
@@ -74,9 +74,10 @@ pub record FlagsAndLength (m : List ℕ) (at word : ℕ) : Type 0 where
   pub byte : get_or m (at + 4) 0 < 256
   pub three : net24 m (at + 5) < 16777216
 
--- That AVP if it passes the four tests, else the code of the first that fails.
-unfoldable pub head_at : List ℕ → ℕ → Head
-head_at m at = pick (eqb (avp_code (drop at m)) 0) (One (spot_at m at)) (Bad (avp_code (drop at m)))
+-- That AVP if it passes the four tests, else the first that fails.
+pub record HeadAt (m : List ℕ) (at : ℕ) (h : Result Spot Failure) : Type 0 where
+  pub code : avp_code (drop at m) ≡ failed_with h
+  pub one : (a : Spot) → h ≡ Ok a → a ≡ spot_at m at
 
 -- WHAT WAS GATHERED
 

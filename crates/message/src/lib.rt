@@ -5,9 +5,10 @@ ghost use Rattle.std.specs.Prelude.{◌≡◌, Bool, true, false, ◌&&◌, ◌|
 ghost use Rattle.octets.specs.Texts.{zeros};
 ghost use Rattle.octets.specs.Numbers.{net24, net32};
 ghost use Rattle.message.specs.CallsThatGetNoAnswer.{message_most, message_number};
-ghost use Rattle.message.specs.ReadingAMessage.{base, vendor, same_name, routing_policy, avp_code, avp_of, supported, command, header_code, request_walk, avps, walk_code, number_field, texts_field, field_code};
-ghost use Rattle.message.specs.Positions.{slots, not_known, routes_slot, slot_of, name_at, head_of, head_at, FlagsAndLength, Gathered};
-ghost use Rattle.message.specs.Spans.{bytes_field, code_of, Reads, RouteFrom, how_many, is_fit, routes_code, RoutesRead};
+ghost use Rattle.message.specs.ReadingAMessage.{base, vendor, same_name, routing_policy, avp_code, avp_of, supported, command, header_code, request_walk, walk_code, number_field};
+ghost use Rattle.message.specs.Positions.{slots, not_known, routes_slot, slot_of, name_at, head_of, HeadAt, FlagsAndLength, Gathered};
+ghost use Rattle.message.specs.Failures.{failure_code, failed_with};
+ghost use Rattle.message.specs.Spans.{bytes_field, required, Reads, RouteFrom, how_many, is_fit, RoutesRead};
 
 // Which kind of code a call is answered with.
 #[derive(Clone, Copy)]
@@ -15,6 +16,34 @@ pub enum Kind {
     NoAnswer,
     Plain,
     Experimental,
+}
+
+// WHY A MESSAGE IS REFUSED
+
+// The test that a message fails first, by the Result-Code that its answer has.
+#[derive(Clone, Copy, PartialEq, Eq)]
+pub enum Failure {
+    CommandUnsupported = 3001,
+    ApplicationUnsupported = 3007,
+    InvalidHeaderBits = 3008,
+    InvalidAvpBits = 3009,
+    AvpUnsupported = 5001,
+    UnknownSessionId = 5002,
+    InvalidAvpValue = 5004,
+    MissingAvp = 5005,
+    AvpOccursTooManyTimes = 5009,
+    InvalidBitInHeader = 5013,
+    InvalidAvpLength = 5014,
+}
+
+impl Failure {
+    // Its Result-Code.
+    #[tactic(auto, unfolding(crate::specs::Failures::failure_code))]
+    pub fn code(self) -> u32
+        ensures { (result ≡ failure_code self) × (result < 65536) }
+    {
+        self as u32
+    }
 }
 
 // THE LIMITS OF A MESSAGE, taken from here by every crate that reads or writes one
@@ -81,7 +110,7 @@ fn has_length(m: &[u8], n: usize) -> bool
     if m[1] != 0 {
         return false;
     }
-    octets::long(m[2]) * 256 + octets::long(m[3]) == n
+    usize::from(m[2]) * 256 + usize::from(m[3]) == n
 }
 
 // The number, 5 to 8, of the first test of the message that fails, 0 where none does.
@@ -112,33 +141,33 @@ pub fn number(m: &[u8]) -> u32
 
 // THE HEADER
 
-// The code of the first header test that fails, 0 where none does.
-pub fn header_code(m: &[u8]) -> u32
+// The header tests, up to the first that fails.
+pub fn test_header(m: &[u8]) -> Result<(), Failure>
     requires { 20 ≤ length m.now }
-    ensures { result ≡ header_code m.now }
+    ensures { failed_with result ≡ header_code m.now }
 {
     let flags = m[4];
     if flags % 16 != 0 {
-        return 5013;
+        return Err(Failure::InvalidBitInHeader);
     }
     if flags / 32 % 2 != 0 {
-        return 3008;
+        return Err(Failure::InvalidHeaderBits);
     }
     let command = octets::read24(m, 5);
     let application = octets::read32(m, 8);
     if command == 265 {
         if application == 1 {
-            return 0;
+            return Ok(());
         }
-        return 3007;
+        return Err(Failure::ApplicationUnsupported);
     }
     if command == 275 {
         if application <= 1 {
-            return 0;
+            return Ok(());
         }
-        return 3007;
+        return Err(Failure::ApplicationUnsupported);
     }
-    3001
+    Err(Failure::CommandUnsupported)
 }
 
 // ONE AVP
@@ -151,12 +180,6 @@ pub struct Spot {
     pub length: usize,
     pub mandatory: bool,
     pub next: usize,
-}
-
-#[derive(Clone, Copy)]
-pub enum Head {
-    One(Spot),
-    Bad(u32),
 }
 
 // The slot of an AVP without V. Of the codes that no list names the even ones come first, then the odd ones: neighbours in one arm
@@ -206,38 +229,38 @@ pub fn flags_and_length(m: &[u8], at: usize) -> u32
     requires { at + 8 ≤ length m.now }
     ensures { FlagsAndLength m.now at result }
 {
-    octets::wide(m[at + 4]) * 16777216 + octets::read24(m, at + 5) as u32
+    u32::from(m[at + 4]) * 16777216 + octets::read24(m, at + 5) as u32
 }
 
-// The AVP at a place, with so many bytes left from there on, by the four tests. Where no reserved bit is set, the word without its three highest bits is
+// The AVP at a place, with so many bytes left from there on, or the first of the four tests that it fails. Where no reserved bit is set, the word without its three highest bits is
 // the length. Where that is 8 at least, M and V are told by comparing the word as a whole: asked bit by bit, the compiler would load it byte by byte.
-pub fn head_at(m: &[u8], at: usize, left: usize) -> Head
+pub fn head_at(m: &[u8], at: usize, left: usize) -> Result<Spot, Failure>
     requires { at + left ≡ length m.now }
-    ensures { result ≡ head_at m.now at }
+    ensures { HeadAt m.now at result }
 {
     if left < 8 {
-        return Head::Bad(5014);
+        return Err(Failure::InvalidAvpLength);
     }
     let word = flags_and_length(m, at);
     let code = octets::read32(m, at);
     let length = (word % 536870912) as usize;
     if 16777216 <= length {
-        return Head::Bad(3009);
+        return Err(Failure::InvalidAvpBits);
     }
     if length < 8 {
-        return Head::Bad(5014);
+        return Err(Failure::InvalidAvpLength);
     }
     let whole = (length + 3) / 4 * 4;
     if left < whole {
-        return Head::Bad(5014);
+        return Err(Failure::InvalidAvpLength);
     }
     let mandatory = 1073741832 <= word % 2147483648;
     if 2147483656 <= word {
         if length < 12 {
-            return Head::Bad(5014);
+            return Err(Failure::InvalidAvpLength);
         }
         let slot = vendor_slot(octets::read32(m, at + 8), code);
-        return Head::One(Spot {
+        return Ok(Spot {
             slot,
             length,
             mandatory,
@@ -245,7 +268,7 @@ pub fn head_at(m: &[u8], at: usize, left: usize) -> Head
         });
     }
     let slot = base_slot(code);
-    Head::One(Spot {
+    Ok(Spot {
         slot,
         length,
         mandatory,
@@ -266,35 +289,29 @@ fn is_supported(slot: usize, mandatory: bool) -> bool
 // THE WALK
 
 // One walk over all AVPs. It notes for each slot 0 where no AVP has its name, the place of the only one that has,
-// 1 where there are more, and SLOTS numbers further on that AVP's length; its result is the code of the first AVP that fails,
-// 0 where none does.
+// 1 where there are more, and SLOTS numbers further on that AVP's length; it ends at the first AVP that fails.
 // The inner loop steps over the AVPs that no list names, if they are supported, as those that a list names are; the end and
 // a failing AVP leave both loops.
-pub fn gather(m: &[u8], index: &mut [usize]) -> u32
+pub fn gather(m: &[u8], index: &mut [usize]) -> Result<(), Failure>
     requires { (20 ≤ length m.now) × (index.old ≡ zeros (slots + slots)) }
-    ensures { (result ≡ walk_code m.now) × Gathered m.now index.new }
+    ensures { (failed_with result ≡ walk_code m.now) × Gathered m.now index.new }
 {
     let mut at: usize = HEADER_LENGTH;
     let mut left: usize = m.len() - HEADER_LENGTH;
     'walk: loop {
         let named = loop {
             if left == 0 {
-                break 'walk 0;
+                break 'walk Ok(());
             }
-            let h = head_at(m, at, left);
-            match h {
-                Head::Bad(code) => break 'walk code,
-                Head::One(a) => {
-                    if a.slot < SLOTS {
-                        break a;
-                    }
-                    if !is_supported(a.slot, a.mandatory) {
-                        break 'walk 5001;
-                    }
-                    left -= a.next - at;
-                    at = a.next;
-                }
+            let a = head_at(m, at, left)?;
+            if a.slot < SLOTS {
+                break a;
             }
+            if !is_supported(a.slot, a.mandatory) {
+                break 'walk Err(Failure::AvpUnsupported);
+            }
+            left -= a.next - at;
+            at = a.next;
         };
         let slot = named.slot;
         let seen = index[slot];
@@ -318,20 +335,15 @@ pub struct Span {
     pub len: usize,
 }
 
-// What a field's reader answers.
-#[derive(Clone, Copy)]
-pub enum Got {
-    Found(Span),
-    Absent,
-    Code(u32),
-}
+// A part of no bytes.
+pub const NO_TEXT: Span = Span { at: 0, len: 0 };
 
-// What the reader of the policies answers: the first, the second and the third, with no bytes where there is none.
+// The policies of a message: the first, the second and the third, of no bytes where there is none.
 #[derive(Clone, Copy)]
-pub enum Routes {
-    Brought(Span, Span, Span),
-    Missing,
-    Wrong(u32),
+pub struct Routes {
+    pub first: Span,
+    pub second: Span,
+    pub third: Span,
 }
 
 // How long the header of an AVP in a slot is: the last four have V.
@@ -352,68 +364,79 @@ pub fn value32(value: &[u8]) -> u32
     octets::read32(value, 0)
 }
 
-// The field of a slot, whose value has low to high bytes.
-pub fn text_field(m: &[u8], index: &[usize], slot: usize, low: usize, high: usize) -> Got
+// The field of a slot, whose value has low to high bytes; None where no AVP has the name.
+pub fn text_field(
+    m: &[u8],
+    index: &[usize],
+    slot: usize,
+    low: usize,
+    high: usize,
+) -> Result<Option<Span>, Failure>
     requires { (slot < slots) × (1 ≤ low) × Gathered m.now index.now }
     ensures { (b : Bool) → Reads m.now (bytes_field (name_at slot) b low high) result }
 {
     let at = index[slot];
     if at < 2 {
         if at == 0 {
-            return Got::Absent;
+            return Ok(None);
         }
-        return Got::Code(5009);
+        return Err(Failure::AvpOccursTooManyTimes);
     }
     let head = head_of(slot);
     let len = index[slot + SLOTS] - head;
     if len < low {
-        return Got::Code(5014);
+        return Err(Failure::InvalidAvpLength);
     }
     if high < len {
-        return Got::Code(5014);
+        return Err(Failure::InvalidAvpLength);
     }
-    Got::Found(Span { at: at + head, len })
+    Ok(Some(Span { at: at + head, len }))
 }
 
 // The field of a slot whose value is a number from low to high.
-pub fn number_field(m: &[u8], index: &[usize], slot: usize, low: u32, high: u32) -> Got
+pub fn number_field(
+    m: &[u8],
+    index: &[usize],
+    slot: usize,
+    low: u32,
+    high: u32,
+) -> Result<Option<Span>, Failure>
     requires { (slot < slots) × Gathered m.now index.now }
     ensures { Reads m.now (number_field (name_at slot) low high) result }
 {
-    let g = text_field(m, index, slot, 4, 4);
-    let Got::Found(s) = g else {
-        return g;
+    let Some(s) = text_field(m, index, slot, 4, 4)? else {
+        return Ok(None);
     };
     let a = s.at;
     let e = a + s.len;
     let n = value32(&m[a..e]);
     if n < low {
-        return Got::Code(5004);
+        return Err(Failure::InvalidAvpValue);
     }
     if high < n {
-        return Got::Code(5004);
+        return Err(Failure::InvalidAvpValue);
     }
-    g
+    Ok(Some(s))
 }
 
-// What a required field that was not found is refused with.
-pub fn refusal(g: Got) -> u32
-    ensures { result ≡ code_of true g }
+// A field, or the policies, that have to be there.
+#[tactic(auto, unfolding(crate::specs::Spans::required))]
+pub fn required<T: Copy>(g: Result<Option<T>, Failure>) -> Result<T, Failure>
+    ensures { result ≡ required g }
 {
     match g {
-        Got::Found(_) => 0,
-        Got::Absent => 5005,
-        Got::Code(n) => n,
+        Ok(Some(x)) => Ok(x),
+        Ok(None) => Err(Failure::MissingAvp),
+        Err(f) => Err(f),
     }
 }
 
 // THE POLICIES
 
-// A Routing-Policy: whether it is there, its value, and where the AVP behind it starts.
+// The value of a Routing-Policy, if there is one, and where the AVP behind it starts.
 #[derive(Clone, Copy)]
 pub struct Route {
-    pub there: bool,
-    pub span: Span,
+    pub span: Option<Span>,
     pub next: usize,
 }
 
@@ -443,19 +466,17 @@ fn route_from(m: &[u8], from: usize) -> Route
         let next = at + (n + 3) / 4 * 4;
         if is_route(m, at) {
             return Route {
-                there: true,
-                span: Span {
+                span: Some(Span {
                     at: at + 12,
                     len: n - 12,
-                },
+                }),
                 next,
             };
         }
         at = next;
     }
     Route {
-        there: false,
-        span: Span { at: 0, len: 0 },
+        span: None,
         next: m.len(),
     }
 }
@@ -477,33 +498,24 @@ fn how_many(second: bool, third: bool, fourth: bool) -> usize
 }
 
 // Whether one has 1 to 128 bytes, if it is there.
-fn is_fit(r: Route) -> bool
-    ensures { result ≡ is_fit r }
+fn is_fit(route: Option<Span>) -> bool
+    ensures { result ≡ is_fit route }
 {
-    if !r.there {
+    let Some(s) = route else {
         return true;
-    }
-    if r.span.len < 1 {
-        return false;
-    }
-    r.span.len <= TEXT_MOST
+    };
+    1 <= s.len && s.len <= TEXT_MOST
 }
 
-fn all_fit(a: Route, b: Route, c: Route) -> bool
+fn all_fit(a: Option<Span>, b: Option<Span>, c: Option<Span>) -> bool
     ensures { result ≡ is_fit a && (is_fit b && is_fit c) }
 {
-    if !is_fit(a) {
-        return false;
-    }
-    if !is_fit(b) {
-        return false;
-    }
-    is_fit(c)
+    is_fit(a) && is_fit(b) && is_fit(c)
 }
 
 // The Routing-Policies of a message whose walk passed, by a walk of their own that stops at the fourth: more than `most`, up to 3,
 // are too many.
-fn all_routes(m: &[u8], most: usize) -> Routes
+fn all_routes(m: &[u8], most: usize) -> Result<Option<Routes>, Failure>
     requires { (20 ≤ length m.now) × (walk_code m.now ≡ 0) × (most ≤ 3) }
     ensures { RoutesRead most m.now result }
 {
@@ -511,43 +523,46 @@ fn all_routes(m: &[u8], most: usize) -> Routes
     let b = route_from(m, a.next);
     let c = route_from(m, b.next);
     let d = route_from(m, c.next);
-    if !a.there {
-        return Routes::Missing;
+    let Some(first) = a.span else {
+        return Ok(None);
+    };
+    if most < how_many(b.span.is_some(), c.span.is_some(), d.span.is_some()) {
+        return Err(Failure::AvpOccursTooManyTimes);
     }
-    if most < how_many(b.there, c.there, d.there) {
-        return Routes::Wrong(5009);
+    if !all_fit(a.span, b.span, c.span) {
+        return Err(Failure::InvalidAvpLength);
     }
-    if !all_fit(a, b, c) {
-        return Routes::Wrong(5014);
-    }
-    let first = a.span;
-    let second = b.span;
-    let third = c.span;
-    Routes::Brought(first, second, third)
+    Ok(Some(Routes {
+        first,
+        second: b.span.unwrap_or(NO_TEXT),
+        third: c.span.unwrap_or(NO_TEXT),
+    }))
 }
 
 // The field of Routing-Policy by what the walk that gathers has noted, for any number of them that is allowed, if only one is where there
 // are more.
-fn one_route(m: &[u8], index: &[usize]) -> Routes
+fn one_route(m: &[u8], index: &[usize]) -> Result<Option<Routes>, Failure>
     requires { Gathered m.now index.now }
     ensures { (most : ℕ) → 1 ≤ most → (get_or index.now routes_slot 0 ≡ 1 → most ≡ 1) → RoutesRead most m.now result }
 {
-    let g = text_field(m, index, ROUTING_POLICY, 1, TEXT_MOST);
-    match g {
-        Got::Found(first) => Routes::Brought(first, Span { at: 0, len: 0 }, Span { at: 0, len: 0 }),
-        Got::Absent => Routes::Missing,
-        Got::Code(n) => Routes::Wrong(n),
-    }
+    let Some(first) = text_field(m, index, ROUTING_POLICY, 1, TEXT_MOST)? else {
+        return Ok(None);
+    };
+    Ok(Some(Routes {
+        first,
+        second: NO_TEXT,
+        third: NO_TEXT,
+    }))
 }
 
 // The field of Routing-Policy, of which a request may bring up to `most`. The walk that gathers has seen whether there is more than one;
 // only then, and only where more are allowed, the message is walked again. Most requests bring none.
-pub fn routes_field(m: &[u8], index: &[usize], most: usize) -> Routes
+pub fn routes_field(m: &[u8], index: &[usize], most: usize) -> Result<Option<Routes>, Failure>
     requires { (20 ≤ length m.now) × (walk_code m.now ≡ 0) × (1 ≤ most) × (most ≤ 3) × Gathered m.now index.now }
     ensures { RoutesRead most m.now result }
 {
     if index[ROUTING_POLICY] == 0 {
-        return Routes::Missing;
+        return Ok(None);
     }
     if index[ROUTING_POLICY] == 1 {
         if 1 < most {
@@ -557,42 +572,14 @@ pub fn routes_field(m: &[u8], index: &[usize], most: usize) -> Routes
     one_route(m, index)
 }
 
-// The code of policies that need not be there, 0 where they pass.
-pub fn routes_wrong(g: Routes) -> u32
-    ensures { result ≡ routes_code false g }
-{
-    match g {
-        Routes::Wrong(n) => n,
-        _ => 0,
-    }
-}
-
-pub fn routes_code(m: &[u8], index: &[usize], most: usize) -> u32
-    requires { (20 ≤ length m.now) × (walk_code m.now ≡ 0) × (1 ≤ most) × (most ≤ 3) × Gathered m.now index.now }
-    ensures { result ≡ field_code (avps m.now) (texts_field most routing_policy false) }
-{
-    let g = routes_field(m, index, most);
-    routes_wrong(g)
-}
-
-// What policies that are required and were not found are refused with.
-pub fn routes_refusal(g: Routes) -> u32
-    ensures { result ≡ routes_code true g }
-{
-    match g {
-        Routes::Brought(_, _, _) => 0,
-        Routes::Missing => 5005,
-        Routes::Wrong(n) => n,
-    }
-}
-
 // WHAT THE LISTS GIVE
 
-// The first five fields, of both requests: Session-Id, Origin-Host and Origin-Realm, or the code of the first that fails.
+// Of the first five fields, which both requests have, those that are used: the session, and who asks.
 #[derive(Clone, Copy)]
-pub enum Both {
-    Held(Span, Span, Span),
-    Failed(u32),
+pub struct Sender {
+    pub session: Span,
+    pub host: Span,
+    pub realm: Span,
 }
 
 // What is asked, by parts of the message; a second and a third policy that are not there have no bytes.
@@ -617,16 +604,16 @@ pub enum Asked {
     },
 }
 
-// A message as it is read: refused with a code, or the user and what is asked.
+// A request as it is read: the user and what is asked.
 #[derive(Clone, Copy)]
-pub enum Told {
-    Refused(u32),
-    Request(Span, Asked),
+pub struct UserRequest {
+    pub user: Span,
+    pub asked: Asked,
 }
 
-// A whole message: what it says, and whether the answer has a Proxy-Info to copy.
+// A whole message: the request, or the test that it fails first; and whether the answer has a Proxy-Info to copy.
 #[derive(Clone, Copy)]
 pub struct Heard {
-    pub told: Told,
+    pub told: Result<UserRequest, Failure>,
     pub proxies: bool,
 }

@@ -27,12 +27,10 @@ fn rows_movable(t: &[u8], form: usize) -> bool
     ensures { result ≡ every movable (rows (lent form t.now)) }
 {
     let n = t.len() / table::row_length(form);
-    let mut i: usize = 0;
-    while i < n {
+    for i in 0..n {
         if !row_movable(row::at(t, form, i)) {
             return false;
         }
-        i += 1;
     }
     true
 }
@@ -55,12 +53,10 @@ fn row_plain(r: &[u8]) -> bool
     ensures { result ≡ fits_form1 r.now }
 {
     let n = soundness::accesses_in_use(r);
-    let mut i: usize = 0;
-    while i < n {
+    for i in 0..n {
         if !place_plain(r, row::line_place(r, i)) {
             return false;
         }
-        i += 1;
     }
     true
 }
@@ -70,12 +66,10 @@ fn rows_plain(t: &[u8], form: usize) -> bool
     ensures { result ≡ every fits_form1 (rows (lent form t.now)) }
 {
     let n = t.len() / table::row_length(form);
-    let mut i: usize = 0;
-    while i < n {
+    for i in 0..n {
         if !row_plain(row::at(t, form, i)) {
             return false;
         }
-        i += 1;
     }
     true
 }
@@ -134,12 +128,10 @@ fn move_places(from: &[u8], places: &mut [u8])
     ensures { places.new ≡ copied_places (length places.old / 8) from.now }
 {
     let width = places.len() / table::PLACES;
-    let mut k: usize = 0;
-    while k < table::PLACES {
+    for k in 0..table::PLACES {
         let a = width * k;
         let e = a + width;
         move_place(row::first(from, k + 1), &mut places[a..e]);
-        k += 1;
     }
 }
 
@@ -161,12 +153,10 @@ fn move_rows(table: &[u8], target: &mut [u8], form: usize)
     let width = table::row_length(form);
     let other = 3 - form;
     let n = target.len() / width;
-    let mut i: usize = 0;
-    while i < n {
+    for i in 0..n {
         let a = width * i;
         let e = a + width;
         move_row(row::at(table, other, i), &mut target[a..e]);
-        i += 1;
     }
 }
 

@@ -4,7 +4,7 @@
 ghost use Rattle.std.specs.Prelude.{◌≡◌, ℕ, ◌<◌};
 ghost use Rattle.message.specs.Codes.{kind_of};
 ghost use Rattle.message.specs.Kinds.{code_from};
-ghost use Rattle.decision.specs.Outcomes.{cut_host, cut_made, cut_realm, cut_session, result_said};
+ghost use Rattle.decision.specs.Outcomes.{cut_made, result_said};
 ghost use Rattle.numbers.specs.InNumbers.{In32, numbers_said};
 
 use decision::Outcome;
@@ -45,60 +45,31 @@ pub fn kind_number(kind: Kind) -> u32
 }
 
 // 1 for a cut, which is also how many notices it leaves.
-pub fn cut_number(cut: Cut) -> u32
+pub fn cut_number(cut: Option<Cut>) -> u32
     ensures { result ≡ cut_made cut }
 {
-    match cut {
-        Cut::NoCut => 0,
-        Cut::Lengths(session, host, realm) => 1,
-    }
+    u32::from(cut.is_some())
 }
 
-fn session_number(cut: Cut) -> u32
-    requires { cut_session cut < 4294967296 }
-    ensures { result ≡ cut_session cut }
-{
-    match cut {
-        Cut::NoCut => 0,
-        Cut::Lengths(session, host, realm) => narrow(session),
-    }
-}
-
-fn host_number(cut: Cut) -> u32
-    requires { cut_host cut < 4294967296 }
-    ensures { result ≡ cut_host cut }
-{
-    match cut {
-        Cut::NoCut => 0,
-        Cut::Lengths(session, host, realm) => narrow(host),
-    }
-}
-
-fn realm_number(cut: Cut) -> u32
-    requires { cut_realm cut < 4294967296 }
-    ensures { result ≡ cut_realm cut }
-{
-    match cut {
-        Cut::NoCut => 0,
-        Cut::Lengths(session, host, realm) => narrow(realm),
-    }
-}
-
-// The eight numbers of an outcome.
+// The eight numbers of an outcome; the lengths of no cut are 0.
 pub fn numbers_of(o: Outcome) -> Numbers
     requires { In32 (result_said o) }
     ensures { numbers_said result ≡ result_said o }
 {
-    let kind = o.kind;
-    let cut = o.cut;
+    let none = Cut {
+        session: 0,
+        host: 0,
+        realm: 0,
+    };
+    let cut = o.cut.unwrap_or(none);
     Numbers {
         code: o.code,
-        kind: kind_number(kind),
+        kind: kind_number(o.kind),
         length: narrow(o.length),
         place: narrow(o.place),
-        cut: cut_number(cut),
-        session: session_number(cut),
-        host: host_number(cut),
-        realm: realm_number(cut),
+        cut: cut_number(o.cut),
+        session: narrow(cut.session),
+        host: narrow(cut.host),
+        realm: narrow(cut.realm),
     }
 }

@@ -1,6 +1,6 @@
 -- Laws of texts: parts, rooms, writes, and the steps of the loops over them.
 use mathlib.Core.Path.{◌≡◌, refl, sym, ap, ◌∙◌}
-use mathlib.Core.Bool.{Bool, true, false, ◌&&◌}
+use mathlib.Core.Bool.{Bool, true, false, ◌&&◌, true≢false}
 use mathlib.Core.List.{List, [], ◌∷◌, ◌++◌, append_assoc}
 use Prim.Native.Nat.{ℕ, zero, suc, ◌+◌, ◌-◌, ◌≤◌, ◌<◌}
 use native.Mathlib.Nat.{le_antisymm, add_assoc}
@@ -11,7 +11,9 @@ use lib.Dec.{eqb}
 use lib.ListN.{length, get_or, take, drop, length-append, length-take, length-drop, length-replicate, drop_of_length-le, take-append-drop}
 use lib.Seq.{drop-cons, paste, take-length, drop-drop, take-take, take-add, drop-append-add, drop-append-le, length-take-le, take_at, drop_at}
 use Rattle.octets.specs.Texts.{part, zeros, filled, same, all_zero, put}
-use Rattle.octets.proofs.Lists.{by-test, same-eq}
+use Rattle.octets.proofs.Lists.{by-test, same-eq, same_refl}
+use Rattle.std.specs.Bool.{Decides}
+use Rattle.std.specs.List.{list_all}
 
 -- LENGTHS
 
@@ -50,7 +52,19 @@ same_end a b i h k = rw (drop_of_length-le a h, drop_of_length-le b k)
 pub same-lengths : (a b : List ℕ) → (length a ≡ length b → ⊥) → same a b ≡ false
 same-lengths a b h = by-test (same a b) (λ e. absurd (h (ap length (same-eq a b e)))) (λ e. e)
 
--- all zero: one byte more, and the end
+-- a test that tells whether two texts are equal
+pub same-decides : (a b : List ℕ) (r : Bool) → Decides r (a ≡ b) → r ≡ same a b
+same-decides a b r d =
+    by-test r
+    (λ e. let q : a ≡ b = d.0 e in e ∙ sym (rw q (same_refl b)))
+    (λ e. by-test (same a b) (λ t. absurd (true≢false (sym (d.1 (same-eq a b t)) ∙ e))) (λ t. e ∙ sym t))
+
+-- all zero: by a test of each byte; one byte more, and the end
+pub zero-all : (s : List ℕ) → list_all (λ x. eqb x 0) s ≡ all_zero s
+unfolding all_zero same zeros
+zero-all [] = refl
+zero-all (x ∷ s) = rw (zero-all s)
+
 pub zero-cons : (x : ℕ) (s : List ℕ) → all_zero (x ∷ s) ≡ eqb x 0 && all_zero s
 unfolding all_zero same zeros
 zero-cons x s = refl
@@ -61,17 +75,6 @@ zero-step s i h = rw (drop-cons s i 0 h, zero-cons (get_or s i 0) (drop (suc i) 
 pub zero-end : (s : List ℕ) (i : ℕ) → length s ≤ i → all_zero (drop i s) ≡ true
 unfolding all_zero same zeros
 zero-end s i h = rw (drop_of_length-le s h)
-
--- the largest byte so far is zero, and those behind are
-pub most-larger : (most x : ℕ) (t : Bool) → most < x → eqb x 0 && t ≡ eqb most 0 && (eqb x 0 && t)
-most-larger most x t h =
-    rw (ne_eqb x 0 (omega arith)) (by-test (eqb most 0) (λ e. rw e) (λ e. rw e))
-
-pub most-stays : (most x : ℕ) (t : Bool) → x ≤ most → eqb most 0 && t ≡ eqb most 0 && (eqb x 0 && t)
-most-stays most x t h =
-    by-test (eqb most 0)
-    (λ e. rw (e, eq-eqb x 0 (omega (arith, eqb-true most 0 e))))
-    (λ e. rw e)
 
 -- WRITING
 

@@ -2,7 +2,7 @@
 use mathlib.Core.Path.{◌≡◌, refl, sym, ap, ◌∙◌}
 use mathlib.Core.Bool.{Bool, true, ◌&&◌}
 use mathlib.Core.List.{List, [], ◌∷◌, map}
-use Prim.Native.Nat.{ℕ, suc}
+use Prim.Native.Nat.{ℕ, suc, ◌≤◌}
 use native.Mathlib.Omega.{arith}
 use borrow.Author.Tests.{ne_eqb}
 use lib.Dec.{eqb}
@@ -11,11 +11,13 @@ use Rattle.octets.specs.Choice.{pick, within}
 use Rattle.octets.specs.Lists.{every, keep, first_or}
 use Rattle.octets.specs.Texts.{same}
 use Rattle.octets.proofs.Lists.{by-test, and_left, and_right, within_low, every-keep, every_map}
-use Rattle.table.specs.TheTable.{Access, access_at, head, line, order_line, places, read_access, read_row}
+use Rattle.table.specs.TheTable.{Access, access_at, form_of, head, line, order_line, places, read_access, read_row}
 use Rattle.table.specs.Soundness.{has_form, line_exact, on_entry, place_sums, sound, sums_agree}
 use Rattle.table.proofs.Form.{line_read}
 use Rattle.changes.proofs.Steps.{keep-map}
 use Rattle.rules.specs.Deciding.{with_session, place_of, first_on, none}
+use Rattle.table.proofs.Good.{each-entry}
+use Rattle.table.proofs.Sound.{says-good}
 use Rattle.plans.proofs.Search.{hunt, all_in}
 
 pub line-sound : (r : List ℕ) → sound r ≡ true → line_exact r ≡ true
@@ -84,3 +86,18 @@ none-ended r n s h = none_is _ (every-keep _ _ _ (every-keep _ _ _ (places-in r 
 pub on-places : (r : List ℕ) (n : ℕ) → sound r ≡ true → every (λ (x : Access). within 1 8 x.place) (on_entry n (read_row r).accesses) ≡ true
 unfolding on_entry
 on-places r n h = every-keep _ _ _ (places-in r h)
+
+-- no access stands on entry 0
+none-on-0 : (n : ℕ) (a : List Access) → every (λ (x : Access). within 1 n x.entry) a ≡ true → keep (λ (x : Access). eqb x.entry 0) a ≡ []
+unfolding keep every pick
+none-on-0 n [] h = refl
+none-on-0 n (x ∷ a) h =
+    let one : 1 ≤ x.entry = within_low 1 n x.entry (and_left _ (every (λ (y : Access). within 1 n y.entry) a) h) in
+    rw (ne_eqb x.entry 0 (omega (arith, one))) (none-on-0 n a (and_right (within 1 n x.entry) _ h))
+
+pub none-unnamed : (r s : List ℕ) → sound r ≡ true → none (with_session s (on_entry 0 (read_row r).accesses)) ≡ true
+unfolding none with_session on_entry keep
+none-unnamed r s h =
+    let t = read_row r in
+    let g = says-good r h in
+    rw (none-on-0 (length t.entries) t.accesses (each-entry (form_of r) t.entries t.accesses g.accesses-good.each)) refl

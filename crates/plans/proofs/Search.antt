@@ -1,15 +1,16 @@
 -- Searches along the order line: what is found from its i-th place on, and one step of each loop. A place is never 0, so that
 -- 0 says that the line is over.
-use mathlib.Core.Path.{◌≡◌, refl, sym, ◌∙◌}
-use mathlib.Core.Bool.{Bool, true, false}
+use mathlib.Core.Path.{◌≡◌, refl, sym, ap, ◌∙◌}
+use mathlib.Core.Bool.{Bool, true, false, not}
 use mathlib.Core.List.{List, [], ◌∷◌}
 use Prim.Native.Nat.{ℕ, zero, suc, ◌+◌, ◌≤◌, ◌<◌}
 use native.Mathlib.Numerals.{add-one}
 use native.Mathlib.Omega.{arith}
-use borrow.Author.Tests.{eqb-true, leb-true, leb-false}
+use borrow.Author.Tests.{eqb-true, eqb-false, leb-true, leb-false, ne_eqb}
 use lib.Dec.{eqb, leb}
 use lib.ListN.{length, drop, get_or, length-take, drop_of_length-le, get_or-eq_default}
 use lib.Seq.{drop-cons}
+use Rattle.std.specs.Prelude.{Option, Some, None, is_some, unwrap_or}
 use Rattle.octets.specs.Choice.{pick, within}
 use Rattle.octets.specs.Lists.{every, keep, first_or, up_to0, is_on}
 use Rattle.octets.specs.Texts.{all_zero}
@@ -17,6 +18,7 @@ use Rattle.octets.proofs.Lists.{by-test, and_left, and_right, within_low, on-fir
 use Rattle.octets.proofs.Texts.{zero-cons}
 use Rattle.table.specs.TheTable.{head, line_room, order_line}
 use Rattle.table.specs.Soundness.{sound, zero_behind}
+use Rattle.plans.specs.Plans.{found}
 use Rattle.table.proofs.Form.{up-to-length}
 use Rattle.table.proofs.Sound.{clauses, head_of, on-more}
 
@@ -91,6 +93,11 @@ module _ (l : List ℕ) (i : ℕ) where
     unfolding hunt keep first_or
     hunt-over p = rw over
 
+-- past the end of the line nothing is found
+pub hunt-end : (p : ℕ → Bool) (l : List ℕ) (i : ℕ) → length l ≤ i → hunt p l i ≡ 0
+unfolding hunt keep first_or
+hunt-end p l i h = rw (drop_of_length-le l {i = i} h)
+
 -- what is found stands on the list
 pub hunt-on : (p : ℕ → Bool) (l : List ℕ) → (hunt p l 0 ≡ 0 → ⊥) → is_on l (hunt p l 0) ≡ true
 unfolding hunt keep first_or pick
@@ -99,3 +106,31 @@ hunt-on p (x ∷ l) nz =
     by-test (p x)
     (λ e. rw e (on-first x l x refl))
     (λ e. rw e (on-more x l _ (hunt-on p l (rw e at nz))))
+
+-- a number that is not 0 is found
+pub found-some : (k : ℕ) → (k ≡ 0 → ⊥) → Some k ≡ found k
+unfolding found pick
+found-some k nz = rw (ne_eqb k 0 nz)
+
+pub found-none : (k : ℕ) → k ≡ 0 → None ≡ found k
+unfolding found pick
+found-none k z = rw z
+
+-- what was found is the number, which is not 0; where nothing was found it is 0
+pub found-is : (n k : ℕ) → found n ≡ Some k → (n ≡ k) × (n ≡ 0 → ⊥)
+unfolding found pick
+found-is n k h =
+    by-test (eqb n 0)
+    (λ e. let none : None ≡ Some k = rw e at h in let z : true ≡ false = ap (λ (o : Option ℕ). is_some o) (sym none) in cc)
+    (λ e. let same : Some n ≡ Some k = rw e at h in (ap (λ (o : Option ℕ). unwrap_or o n) same, eqb-false n 0 e))
+
+pub not-found : (n : ℕ) → ((k : ℕ) → found n ≡ Some k → ⊥) → n ≡ 0
+unfolding found pick
+not-found n h = by-test (eqb n 0) (λ e. eqb-true n 0 e) (λ e. absurd (h n (rw e refl)))
+
+pub found-tests : (n : ℕ) → is_some (found n) ≡ not (eqb n 0)
+unfolding found pick
+found-tests n = by-test (eqb n 0) (λ e. rw e) (λ e. rw e)
+
+pub found-none-is : (n : ℕ) → found n ≡ None → n ≡ 0
+found-none-is n h = not-found n (λ k e. let z : true ≡ false = ap (λ (o : Option ℕ). is_some o) (sym e ∙ h) in cc)

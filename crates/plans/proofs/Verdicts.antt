@@ -18,20 +18,21 @@ use Rattle.plans.proofs.Search.{hunt-on}
 use Rattle.plans.proofs.Stay.{limit_is, limit-some, room-left}
 use Rattle.rules.specs.Deciding.{admit, at_limit, entry_at, entry_named, first_on, grant, held_already, none, place_of, refuse, stands_on, terminate, type0, type1, with_session}
 use Rattle.plans.specs.declared.Plan.TheVariants.{Open, Route}
-use Rattle.plans.specs.Plans.{Brought, fit_plan, planned}
+use Rattle.plans.specs.Plans.{Brought, fit_plan, found, planned}
+use Rattle.std.specs.Prelude.{None}
 use Rattle.octets.proofs.Lists.{and_left, both, in_within, within_low}
 use Rattle.table.proofs.Sound.{says-good}
 
 -- AN OPENING
 
 module _ (n : ℕ) (b : Brought) (s : Subscriber) where
-  pub opens : length (on_entry n s.accesses) < (entry_at n s).limit → planned b (Open n 0) s ≡ admit n b.opening s
+  pub opens : length (on_entry n s.accesses) < (entry_at n s).limit → planned b (Open n None) s ≡ admit n b.opening s
   unfolding planned admit at_limit pick
   opens h = rw (lt-ltb _ _ h)
 
   pub cuts : (entry_at n s).limit ≤ length (on_entry n s.accesses) → (first_on n s.accesses ≡ 0 → ⊥)
-      → planned b (Open n (first_on n s.accesses)) s ≡ admit n b.opening s
-  unfolding planned admit at_limit pick
+      → planned b (Open n (found (first_on n s.accesses))) s ≡ admit n b.opening s
+  unfolding planned found admit at_limit pick
   cuts h nz = rw (le-ltb _ _ h, ne_eqb (first_on n s.accesses) 0 nz)
 
 -- at its limit an entry has an access to cut
@@ -116,15 +117,15 @@ module _ (r : List ℕ) (h : sound r ≡ true) where
     entry_in : within 1 4 n ≡ true
     entry_in = in_within 1 4 n one (omega (arith, most-four r h))
 
-    pub fit-open : length (on_entry n (read_row r).accesses) < (entry_at n (read_row r)).limit → (p : Policies) → fit_plan p (Open n 0) r ≡ true
+    pub fit-open : length (on_entry n (read_row r).accesses) < (entry_at n (read_row r)).limit → (p : Policies) → fit_plan p (Open n None) r ≡ true
     unfolding fit_plan pick
     fit-open below p = both entry_in (lt-ltb (length (read_row r).accesses) 8 (room-left n (read_row r) (says-good r h) (in_within 1 _ n one le) below))
 
-    pub fit_cut : (first_on n (read_row r).accesses ≡ 0 → ⊥) → (p : Policies) → fit_plan p (Open n (first_on n (read_row r).accesses)) r ≡ true
-    unfolding fit_plan pick
+    pub fit_cut : (first_on n (read_row r).accesses ≡ 0 → ⊥) → (p : Policies) → fit_plan p (Open n (found (first_on n (read_row r).accesses))) r ≡ true
+    unfolding fit_plan found pick
     fit_cut nz p =
-        both entry_in
-        (rw (ne_eqb (first_on n (read_row r).accesses) 0 nz, first-is r n) (hunt-on (entry_is r n) (order_line r) (λ z. nz (first-is r n ∙ z))))
+        rw (ne_eqb (first_on n (read_row r).accesses) 0 nz)
+        (both entry_in (rw (first-is r n) (hunt-on (entry_is r n) (order_line r) (λ z. nz (first-is r n ∙ z)))))
 
   pub fit-place : (s : List ℕ) → (place_of (with_session s (read_row r).accesses) ≡ 0 → ⊥) → is_on (order_line r) (place_of (with_session s (read_row r).accesses)) ≡ true
   fit-place s nz = rw (session-is r s) (hunt-on (session_is r s) (order_line r) (λ z. nz (session-is r s ∙ z)))

@@ -1,5 +1,5 @@
 -- Deciding: what each case of the code's plan means.
-use Rattle.std.specs.Prelude.{Bool, true, ◌&&◌, List, [], ℕ, eqb, leb, ltb, length}
+use Rattle.std.specs.Prelude.{Bool, true, ◌&&◌, List, [], ℕ, Option, Some, None, eqb, leb, ltb, length}
 use Rattle.octets.specs.Choice.{pick, within}
 use Rattle.octets.specs.Lists.{is_on}
 use Rattle.message.specs.ReadingAMessage.{Ask, tunnel, policy, termination}
@@ -10,6 +10,10 @@ use Rattle.changes.specs.Changes.{Opening, freed, routed}
 use Rattle.plans.specs.declared.Plan.{Plan}
 use Rattle.plans.specs.declared.Plan.TheVariants.{NotSubscribed, Barred, RoamingNotAllowed, UnableToComply, UnusedByUser, Stands, Open, Route, Free}
 use Rattle.rules.specs.Deciding.{Verdict, refuse, grant, open_on, at_place}
+
+-- What a search gives that the paper has answer with a number counted from 1: the number, or none for 0.
+unfoldable pub found : ℕ → Option ℕ
+found n = pick (eqb n 0) None (Some n)
 
 -- The code of a plan: a refusal's own, and 2001 for an access that goes on and for a change.
 unfoldable pub plan_code : Plan → Code
@@ -36,8 +40,8 @@ planned b RoamingNotAllowed s = refuse (plan_code RoamingNotAllowed) s
 planned b UnableToComply s = refuse (plan_code UnableToComply) s
 planned b UnusedByUser s = refuse (plan_code UnusedByUser) s
 planned b Stands s = grant s
-planned b (Open n cut) s =
-    pick (eqb cut 0) (open_on n b.opening [] s) (open_on n b.opening (at_place cut s.accesses) (freed cut s))
+planned b (Open n None) s = open_on n b.opening [] s
+planned b (Open n (Some k)) s = open_on n b.opening (at_place k s.accesses) (freed k s)
 planned b (Route k) s = grant (routed k b.policies s)
 planned b (Free k) s = grant (freed k s)
 
@@ -54,7 +58,8 @@ fit_plan p RoamingNotAllowed r = true
 fit_plan p UnableToComply r = true
 fit_plan p UnusedByUser r = true
 fit_plan p Stands r = true
-fit_plan p (Open n cut) r = within 1 4 n && pick (eqb cut 0) (ltb (length (read_row r).accesses) 8) (is_on (order_line r) cut)
+fit_plan p (Open n None) r = within 1 4 n && ltb (length (read_row r).accesses) 8
+fit_plan p (Open n (Some k)) r = within 1 4 n && is_on (order_line r) k
 fit_plan p (Route k) r = is_on (order_line r) k && fit_policies p
 fit_plan p (Free k) r = is_on (order_line r) k
 

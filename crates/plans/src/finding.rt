@@ -1,27 +1,17 @@
 // What a request speaks of, read from a sound row.
-ghost use Rattle.std.specs.Prelude.{◌≡◌, true, ◌&&◌, ℕ, ◌+◌, ◌-◌, ◌*◌, ◌≤◌, ◌<◌, eqb, length, get_or};
+ghost use Rattle.std.specs.Prelude.{◌≡◌, true, ◌&&◌, IfSome, ℕ, ◌+◌, ◌-◌, ◌*◌, ◌≤◌, ◌<◌, eqb, length};
 ghost use Rattle.octets.specs.Texts.{same};
-ghost use Rattle.table.specs.TheTable.{access_at, order_line, read_row};
+ghost use Rattle.table.specs.TheTable.{access_at, read_row};
 ghost use Rattle.table.specs.Soundness.{is_row, on_entry, same_label, sound};
 ghost use Rattle.rules.specs.Deciding.{entry_named, entry_at, with_session, place_of, first_on};
-
-// The i-th place on the order line, first opened first; 0 where the line is over.
-fn line_at(row: &[u8], i: usize) -> usize
-    requires { sound row.now ≡ true }
-    ensures { result ≡ get_or (order_line row.now) i 0 }
-{
-    if 8 <= i {
-        return 0;
-    }
-    row::line_place(row, i)
-}
+ghost use Rattle.plans.specs.Plans.{found};
 
 // Whether the access at a place is on this entry.
 fn on_entry(row: &[u8], place: usize, entry: usize) -> bool
     requires { (is_row row.now ≡ true) × (1 ≤ place) × (place ≤ 8) }
     ensures { result ≡ eqb (access_at row.now place).entry entry }
 {
-    octets::long(row::entry_of(row, place)) == entry
+    usize::from(row::entry_of(row, place)) == entry
 }
 
 // Whether the access at a place has this Session-Id.
@@ -39,64 +29,60 @@ fn is_access(row: &[u8], place: usize, entry: usize, session: &[u8]) -> bool
         ≡ eqb (access_at row.now place).entry entry
         && same (access_at row.now place).session session.now }
 {
-    if on_entry(row, place, entry) {
-        return has_session(row, place, session);
-    }
-    false
+    on_entry(row, place, entry) && has_session(row, place, session)
 }
 
-// The place of the entry's first-opened access: the search along the order line yields it by break; 0 where there is none.
-pub fn first_on(row: &[u8], entry: usize) -> usize
+// The place of the entry's first-opened access: the search along the order line yields it by break.
+pub fn first_on(row: &[u8], entry: usize) -> Option<usize>
     requires { sound row.now ≡ true }
-    ensures { (result ≡ first_on entry (read_row row.now).accesses) × (result ≤ 8) }
+    ensures { (result ≡ found (first_on entry (read_row row.now).accesses)) × IfSome result (λ k. k ≤ 8) }
 {
-    let mut i: usize = 0;
-    loop {
-        let first = line_at(row, i);
-        if first == 0 {
-            break 0;
+    'line: {
+        for i in 0..table::PLACES {
+            let first = row::line_place(row, i);
+            if first == 0 {
+                break 'line None;
+            }
+            if on_entry(row, first, entry) {
+                break 'line Some(first);
+            }
         }
-        if on_entry(row, first, entry) {
-            break first;
-        }
-        i += 1;
+        None
     }
 }
 
-// The place of the access with this Session-Id, 0 where there is none.
-pub fn place_of(row: &[u8], session: &[u8]) -> usize
+// The place of the access with this Session-Id.
+pub fn place_of(row: &[u8], session: &[u8]) -> Option<usize>
     requires { sound row.now ≡ true }
-    ensures { (result ≡ place_of (with_session session.now (read_row row.now).accesses)) × (result ≤ 8) }
+    ensures { (result ≡ found (place_of (with_session session.now (read_row row.now).accesses))) × IfSome result (λ k. k ≤ 8) }
 {
-    let mut i: usize = 0;
-    loop {
-        let place = line_at(row, i);
+    for i in 0..table::PLACES {
+        let place = row::line_place(row, i);
         if place == 0 {
-            break 0;
+            return None;
         }
         if has_session(row, place, session) {
-            break place;
+            return Some(place);
         }
-        i += 1;
     }
+    None
 }
 
-// The place of the access with this Session-Id on this entry, 0 where there is none.
-pub fn place_on(row: &[u8], entry: usize, session: &[u8]) -> usize
+// The place of the access with this Session-Id on this entry.
+pub fn place_on(row: &[u8], entry: usize, session: &[u8]) -> Option<usize>
     requires { sound row.now ≡ true }
-    ensures { (result ≡ place_of (with_session session.now (on_entry entry (read_row row.now).accesses))) × (result ≤ 8) }
+    ensures { (result ≡ found (place_of (with_session session.now (on_entry entry (read_row row.now).accesses)))) × IfSome result (λ k. k ≤ 8) }
 {
-    let mut i: usize = 0;
-    loop {
-        let place = line_at(row, i);
+    for i in 0..table::PLACES {
+        let place = row::line_place(row, i);
         if place == 0 {
-            break 0;
+            return None;
         }
         if is_access(row, place, entry, session) {
-            break place;
+            return Some(place);
         }
-        i += 1;
     }
+    None
 }
 
 // How many entries there are.
@@ -104,7 +90,7 @@ fn entry_count(row: &[u8]) -> usize
     requires { sound row.now ≡ true }
     ensures { (result ≡ length (read_row row.now).entries) × (result ≤ 4) }
 {
-    octets::long(row::entry_count(row))
+    usize::from(row::entry_count(row))
 }
 
 // Whether entry n, counted from 1, has this label.
@@ -115,23 +101,18 @@ fn has_label(row: &[u8], n: usize, label: &[u8]) -> bool
     blocks::same_label(label, row::label(row::entries_room(row), n - 1))
 }
 
-// The number of the entry with this label, counted from 1; 0 where no entry has it.
-pub fn entry_named(row: &[u8], label: &[u8]) -> usize
+// The number of the first entry with this label, counted from 1.
+pub fn entry_named(row: &[u8], label: &[u8]) -> Option<usize>
     requires { sound row.now ≡ true }
-    ensures { (result ≡ entry_named label.now (read_row row.now))
-        × (result ≤ length (read_row row.now).entries) }
+    ensures { (result ≡ found (entry_named label.now (read_row row.now)))
+        × IfSome result (λ n. (1 ≤ n) × (n ≤ length (read_row row.now).entries)) }
 {
-    let count = entry_count(row);
-    let mut n: usize = 1;
-    loop {
-        if count < n {
-            break 0;
-        }
+    for n in 1..=entry_count(row) {
         if has_label(row, n, label) {
-            break n;
+            return Some(n);
         }
-        n += 1;
     }
+    None
 }
 
 // The flags of entry n.

@@ -16,8 +16,8 @@ pub enum Plan {
     UnusedByUser,
     // the access that is asked for stands already, and goes on as it is
     Stands,
-    // a new access on the entry; the place that is cut for it, 0 for none
-    Open(usize, usize),
+    // a new access on the entry, and the place that is cut for it
+    Open { entry: usize, cut: Option<usize> },
     // the policy of the access at the place
     Route(usize),
     // the place is freed

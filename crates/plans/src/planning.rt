@@ -15,20 +15,23 @@ fn plan_opening(row: &[u8], n: usize) -> Plan
         → planned (record { opening = o; policies = p }) result (read_row row.now) ≡ admit n o (read_row row.now))
         × ((p : Policies) → fit_plan p result row.now ≡ true) }
 {
-    if soundness::accesses_on(row, n) < octets::long(finding::limit_of(row, n)) {
-        return Plan::Open(n, 0);
+    if soundness::accesses_on(row, n) < usize::from(finding::limit_of(row, n)) {
+        return Plan::Open {
+            entry: n,
+            cut: None,
+        };
     }
-    Plan::Open(n, finding::first_on(row, n))
+    Plan::Open {
+        entry: n,
+        cut: finding::first_on(row, n),
+    }
 }
 
 // A visited network is named, and the entry may not roam.
 fn roams_unasked(flags: u8, visited: bool) -> bool
     ensures { result ≡ visited && not (eqb (flags / 2 % 2) 1) }
 {
-    if visited {
-        return flags / 2 % 2 != 1;
-    }
-    false
+    visited && flags / 2 % 2 != 1
 }
 
 // A Session-Id that is already in the row: on entry n its access goes on.
@@ -37,10 +40,10 @@ fn plan_held(row: &[u8], n: usize, session: &[u8]) -> Plan
     ensures { ((b : Brought) → planned b result (read_row row.now) ≡ held_already n session.now (read_row row.now))
         × ((p : Policies) → fit_plan p result row.now ≡ true) }
 {
-    if finding::place_on(row, n, session) != 0 {
-        return Plan::Stands;
+    match finding::place_on(row, n, session) {
+        Some(_) => Plan::Stands,
+        None => Plan::UnableToComply,
     }
-    Plan::UnableToComply
 }
 
 // Type 0: may a tunnel open?
@@ -51,10 +54,9 @@ pub fn plan_tunnel(row: &[u8], session: &[u8], label: &[u8], visited: bool) -> P
         ≡ type0 o label.now visited (read_row row.now))
         × ((p : Policies) → fit_plan p result row.now ≡ true) }
 {
-    let n = finding::entry_named(row, label);
-    if n == 0 {
+    let Some(n) = finding::entry_named(row, label) else {
         return Plan::NotSubscribed;
-    }
+    };
     let flags = finding::flags_of(row, n);
     let roams = roams_unasked(flags, visited);
     if flags % 2 == 1 {
@@ -63,7 +65,7 @@ pub fn plan_tunnel(row: &[u8], session: &[u8], label: &[u8], visited: bool) -> P
     if roams {
         return Plan::RoamingNotAllowed;
     }
-    if finding::place_of(row, session) != 0 {
+    if finding::place_of(row, session).is_some() {
         return plan_held(row, n, session);
     }
     plan_opening(row, n)
@@ -77,10 +79,9 @@ pub fn plan_policy(row: &[u8], session: &[u8], wag: bool) -> Plan
         ≡ type1 session.now p wag (read_row row.now))
         × ((p : Policies) → fit_policies p ≡ true → fit_plan p result row.now ≡ true) }
 {
-    let k = finding::place_of(row, session);
-    if k == 0 {
+    let Some(k) = finding::place_of(row, session) else {
         return Plan::UnableToComply;
-    }
+    };
     if wag {
         return Plan::Route(k);
     }
@@ -95,10 +96,11 @@ pub fn plan_termination(row: &[u8], session: &[u8], label: &[u8]) -> Plan
         ≡ terminate session.now label.now (read_row row.now))
         × ((p : Policies) → fit_plan p result row.now ≡ true) }
 {
-    let n = finding::entry_named(row, label);
-    let k = finding::place_on(row, n, session);
-    if k == 0 {
+    let Some(n) = finding::entry_named(row, label) else {
         return Plan::UnusedByUser;
-    }
+    };
+    let Some(k) = finding::place_on(row, n, session) else {
+        return Plan::UnusedByUser;
+    };
     Plan::Free(k)
 }

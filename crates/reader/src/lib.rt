@@ -7,8 +7,6 @@ ghost use Rattle.octets.specs.Numbers.{up4};
 ghost use Rattle.message.specs.ReadingAMessage.{known as isKnown, avp_length, avp_code, avp_of};
 ghost use Rattle.reader.specs.Steps.{fault_of, seen_at, step_at};
 
-use message::Head;
-
 // An AVP that passes the four tests. Its vendor is 0 without V; its value and the next AVP are places of the message.
 // A request with one that has M and is not known is refused.
 #[derive(Clone, Copy)]
@@ -104,10 +102,9 @@ fn step_at(m: &[u8], at: usize) -> Step
         return Step::End;
     }
     let left = m.len() - at;
-    let h = message::head_at(m, at, left);
-    match h {
-        Head::Bad(_) => Step::Bad(fault_at(m, at)),
-        Head::One(a) => Step::One(seen_at(m, at, a.next, a.slot != message::NOT_KNOWN)),
+    match message::head_at(m, at, left) {
+        Err(_) => Step::Bad(fault_at(m, at)),
+        Ok(a) => Step::One(seen_at(m, at, a.next, a.slot != message::NOT_KNOWN)),
     }
 }
 

@@ -1,6 +1,6 @@
 -- The first check of reading that fails: header, walk and lists, with a law for each way out of the code.
 use mathlib.Core.Path.{◌≡◌, refl, sym, ap, ◌∙◌}
-use mathlib.Core.Bool.{true, false, ◌&&◌, ◌||◌, not}
+use mathlib.Core.Bool.{Bool, true, false, ◌&&◌, ◌||◌, not}
 use mathlib.Core.List.{List, [], ◌∷◌, ◌++◌, append_assoc, flat_map}
 use Prim.Native.Nat.{ℕ, ◌+◌, ◌/◌, ◌%◌, ◌≤◌, ◌<◌}
 use native.Mathlib.Omega.{arith}
@@ -11,7 +11,14 @@ use lib.Seq.{drop-drop}
 use Rattle.octets.specs.Choice.{pick, require, first_of, within}
 use Rattle.octets.specs.Numbers.{up4}
 use Rattle.octets.proofs.Lists.{by-test, no_length}
+use Rattle.std.specs.Prelude.{Option, Some, None, Result, Ok, Err}
 use Rattle.message.specs.Codes.{plain}
+use Rattle.message.specs.declared.Failure.{Failure}
+use Rattle.message.specs.declared.Failure.TheVariants.{CommandUnsupported, ApplicationUnsupported, InvalidHeaderBits, InvalidAvpBits, AvpUnsupported, UnknownSessionId, InvalidAvpValue, MissingAvp, AvpOccursTooManyTimes, InvalidBitInHeader, InvalidAvpLength}
+use Rattle.message.specs.Failures.{failure_code, failed_with}
+use Rattle.message.proofs.Failures.{failure-least}
+use Rattle.std.specs.Result.{is_err}
+use Rattle.message.specs.Spans.{code_of}
 use Rattle.message.specs.ReadingAMessage.{Name, Avp, Field, flags, command, application, header_code, head_length, avp_length, avp_code, avp_of, supported, request_code, avps, walk_code, session_id, having, starts_with, each_code, tested_as, field_code, for_both, for265, for275, fields}
 use Rattle.message.proofs.Walks.{Passed, passes as passed, request-four, request-passes, request-refuses}
 use Rattle.message.proofs.Listing.{above_zero, first_one}
@@ -49,9 +56,19 @@ header-entry m =
     (λ b. rw (a, b)))
     (λ a. rw a)
 
-pub header-last : (n : ℕ) → (n ≡ 0 → ⊥) → (n ≡ 5013 → ⊥) → (n ≡ 3008 → ⊥) → (n ≡ 3001 → ⊥) → header_entry n ≡ fail wrong_application (plain 3007)
-unfolding header_entry pick
-header-last n a b c d = rw (ne_eqb n 0 a, ne_eqb n 5013 b, ne_eqb n 3008 c, ne_eqb n 3001 d)
+pub header-last : (f : Failure) → (f ≡ InvalidBitInHeader → ⊥) → (f ≡ InvalidHeaderBits → ⊥) → (f ≡ CommandUnsupported → ⊥) → header_entry (failure_code f) ≡ fail wrong_application (plain 3007)
+unfolding header_entry failure_code pick
+header-last CommandUnsupported a b d = absurd (d refl)
+header-last ApplicationUnsupported a b d = refl
+header-last InvalidHeaderBits a b d = absurd (b refl)
+header-last InvalidAvpBits a b d = refl
+header-last AvpUnsupported a b d = refl
+header-last UnknownSessionId a b d = refl
+header-last InvalidAvpValue a b d = refl
+header-last MissingAvp a b d = refl
+header-last AvpOccursTooManyTimes a b d = refl
+header-last InvalidBitInHeader a b d = absurd (a refl)
+header-last InvalidAvpLength a b d = refl
 
 -- THE WALK
 
@@ -208,9 +225,44 @@ field-entry f (a ∷ xs) =
     (λ e. rw (some, there-is f.required, e) (ap (field_entry f.name) (first_one (each_code f (a ∷ xs))) ∙ each-entry f (a ∷ xs)))
     (λ e. rw (some, there-is f.required, e))
 
-pub field-last : (name : Name) (n : ℕ) → (n ≡ 0 → ⊥) → (n ≡ 5005 → ⊥) → (n ≡ 5009 → ⊥) → (n ≡ 5014 → ⊥) → field_entry name n ≡ fail (wrong_value name) (plain 5004)
-unfolding field_entry pick
-field-last name n a b c d = rw (ne_eqb n 0 a, ne_eqb n 5005 b, ne_eqb n 5009 c, ne_eqb n 5014 d)
+pub field-last : (name : Name) (f : Failure) → (f ≡ MissingAvp → ⊥) → (f ≡ AvpOccursTooManyTimes → ⊥) → (f ≡ InvalidAvpLength → ⊥) → field_entry name (failure_code f) ≡ fail (wrong_value name) (plain 5004)
+unfolding field_entry failure_code pick
+field-last name CommandUnsupported a b d = refl
+field-last name ApplicationUnsupported a b d = refl
+field-last name InvalidHeaderBits a b d = refl
+field-last name InvalidAvpBits a b d = refl
+field-last name AvpUnsupported a b d = refl
+field-last name UnknownSessionId a b d = refl
+field-last name InvalidAvpValue a b d = refl
+field-last name MissingAvp a b d = absurd (a refl)
+field-last name AvpOccursTooManyTimes a b d = absurd (b refl)
+field-last name InvalidBitInHeader a b d = refl
+field-last name InvalidAvpLength a b d = absurd (d refl)
+
+-- what fails has a code
+pub code-err : {T : Type 0} (r : Result T Failure) → is_err r ≡ true → failed_with r ≡ 0 → ⊥
+unfolding failed_with
+code-err (Ok x) e z = absurd cc
+code-err (Err f) e z = omega (arith, failure-least f)
+
+pub code-ok : {T : Type 0} (r : Result T Failure) → is_err r ≡ false → failed_with r ≡ 0
+unfolding failed_with
+code-ok (Ok x) e = refl
+code-ok (Err f) e = absurd cc
+
+-- the code of a field by what its reader answers
+module _ {T : Type 0} (b : Bool) (g : Result (Option T) Failure) where
+  pub code-some : (o : Option T) (x : T) → g ≡ Ok o → o ≡ Some x → code_of b g ≡ 0
+  unfolding code_of
+  code-some o x e h = rw (e, h)
+
+  pub code-none : (o : Option T) → g ≡ Ok o → o ≡ None → code_of b g ≡ require (not b) 5005
+  unfolding code_of
+  code-none o e h = rw (e, h)
+
+  pub code-failed : (f : Failure) → g ≡ Err f → code_of b g ≡ failure_code f
+  unfolding code_of
+  code-failed f e = rw e
 
 -- FIELDS IN ORDER
 

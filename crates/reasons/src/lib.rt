@@ -16,10 +16,9 @@ ghost use Rattle.order.specs.Demand2.{checks};
 ghost use Rattle.reasons.specs.Reasons.{check_named, ground_named, ground_of};
 ghost use Rattle.reasons.specs.Parts.{behind_type, first_of_fields, row_checks};
 
-use message::{Asked, Got, Span, Told};
+use message::{Asked, Failure, Span};
 use plans::Plan;
 use reader::{Fault, Step};
-use table::RowFound;
 
 // The check that fails, or that none does.
 #[derive(Clone, Copy)]
@@ -67,17 +66,19 @@ pub enum Why {
 
 // HEADER AND WALK
 
-// Each code of the header tests is that of one test.
+// Each failure of the header tests is that of one test.
 fn header_failed(m: &[u8]) -> Reason
     requires { 20 ≤ length m.now }
     ensures { check_named result ≡ first_failed (header_checks m.now) }
 {
-    match message::header_code(m) {
-        0 => Reason::Passes,
-        5013 => Reason::ReservedBits,
-        3008 => Reason::ErrorBit,
-        3001 => Reason::UnknownCommand,
-        _ => Reason::WrongApplication,
+    match message::test_header(m) {
+        Ok(()) => Reason::Passes,
+        Err(f) => match f {
+            Failure::InvalidBitInHeader => Reason::ReservedBits,
+            Failure::InvalidHeaderBits => Reason::ErrorBit,
+            Failure::CommandUnsupported => Reason::UnknownCommand,
+            _ => Reason::WrongApplication,
+        },
     }
 }
 
@@ -136,29 +137,26 @@ fn first_of(a: Reason, b: Reason) -> Reason
     }
 }
 
-// The code of a field by what its reader answers; one that is not required may be absent.
-fn code_in(g: Got, required: bool) -> u32
-    ensures { result ≡ code_of required g }
+// A field by what its reader answers; one that is not required may be absent. Each failure is that of one test.
+fn field_failed<T: Copy>(slot: usize, g: Result<Option<T>, Failure>, is_required: bool) -> Reason
+    ensures { (f : Field) (there : List Avp) → f.name ≡ name_at slot → tested_as f there ≡ code_of is_required g → check_named result ≡ first_failed (field_checks f there) }
 {
-    if required {
-        return message::refusal(g);
-    }
     match g {
-        Got::Code(n) => n,
-        _ => 0,
-    }
-}
-
-// Each code of a field is that of one test.
-fn field_failed(slot: usize, code: u32) -> Reason
-    ensures { (f : Field) (there : List Avp) → f.name ≡ name_at slot → tested_as f there ≡ code → check_named result ≡ first_failed (field_checks f there) }
-{
-    match code {
-        0 => Reason::Passes,
-        5005 => Reason::Absent(slot),
-        5009 => Reason::Twice(slot),
-        5014 => Reason::WrongLength(slot),
-        _ => Reason::WrongValue(slot),
+        Ok(found) => match found {
+            Some(_) => Reason::Passes,
+            None => {
+                if is_required {
+                    return Reason::Absent(slot);
+                }
+                Reason::Passes
+            }
+        },
+        Err(f) => match f {
+            Failure::MissingAvp => Reason::Absent(slot),
+            Failure::AvpOccursTooManyTimes => Reason::Twice(slot),
+            Failure::InvalidAvpLength => Reason::WrongLength(slot),
+            _ => Reason::WrongValue(slot),
+        },
     }
 }
 
@@ -175,7 +173,7 @@ fn text_failed(
     ensures { check_named result ≡ first_of_fields m.now (bytes_field (name_at slot) required low high ∷ []) }
 {
     let g = message::text_field(m, index, slot, low, high);
-    field_failed(slot, code_in(g, required))
+    field_failed(slot, g, required)
 }
 
 // The field of a slot whose value is a number from low to high.
@@ -184,7 +182,7 @@ fn number_failed(m: &[u8], index: &[usize], slot: usize, low: u32, high: u32) ->
     ensures { check_named result ≡ first_of_fields m.now (number_field (name_at slot) low high ∷ []) }
 {
     let g = message::number_field(m, index, slot, low, high);
-    field_failed(slot, message::refusal(g))
+    field_failed(slot, g, true)
 }
 
 // The policies, of which a request may bring up to `most`.
@@ -192,14 +190,8 @@ fn routes_failed(m: &[u8], index: &[usize], required: bool, most: usize) -> Reas
     requires { (20 ≤ length m.now) × (walk_code m.now ≡ 0) × (1 ≤ most) × (most ≤ 3) × Gathered m.now index.now }
     ensures { check_named result ≡ first_of_fields m.now (texts_field most routing_policy required ∷ []) }
 {
-    if required {
-        let g = message::routes_field(m, index, most);
-        return field_failed(message::ROUTING_POLICY, message::routes_refusal(g));
-    }
-    field_failed(
-        message::ROUTING_POLICY,
-        message::routes_code(m, index, most),
-    )
+    let g = message::routes_field(m, index, most);
+    field_failed(message::ROUTING_POLICY, g, required)
 }
 
 // The fields of both requests.
@@ -265,11 +257,12 @@ fn list_265_failed(m: &[u8], index: &[usize], most: usize) -> Reason
     let user = text_failed(m, index, message::USER_NAME, true, 1, message::TEXT_MOST);
     let before = first_of(request, first_of(host, user));
     let g = message::number_field(m, index, message::SESSION_REQUEST_TYPE, 0, 1);
-    let Got::Found(kind) = g else {
-        return first_of(
-            before,
-            field_failed(message::SESSION_REQUEST_TYPE, message::refusal(g)),
-        );
+    let this = field_failed(message::SESSION_REQUEST_TYPE, g, true);
+    let Ok(found) = g else {
+        return first_of(before, this);
+    };
+    let Some(kind) = found else {
+        return first_of(before, this);
     };
     let a = kind.at;
     let e = a + kind.len;
@@ -320,11 +313,11 @@ pub fn reading_failed(m: &[u8], most: usize) -> Reason
     requires { (20 ≤ length m.now) × (1 ≤ most) × (most ≤ 3) }
     ensures { check_named result ≡ first_failed (reading_checks most m.now) }
 {
-    if message::header_code(m) != 0 {
+    if message::test_header(m).is_err() {
         return header_failed(m);
     }
     let mut index = [0usize; message::INDEX_LENGTH];
-    if message::gather(m, &mut index) != 0 {
+    if message::gather(m, &mut index).is_err() {
         return walk_failed(m);
     }
     lists_failed(m, &index, most)
@@ -420,8 +413,7 @@ fn request_failed(
     requires { (table_number (lent form table.now) ≡ 0) × (every (is_inside m.now) (spans_in asked) ≡ true) × (is_inside m.now user ≡ true) }
     ensures { check_named result ≡ first_failed (row_checks (lent form table.now) (lookup (lent form table.now) (record { operator = op; name = bytes_of m.now user })) (asks m.now asked) wag) }
 {
-    let found = table::lookup(table, form, op, decision::text(m, user));
-    let RowFound::At(i) = found else {
+    let Some(i) = table::lookup(table, form, op, decision::text(m, user)) else {
         return Reason::NoRow;
     };
     let width = table::row_length(form);
@@ -440,14 +432,9 @@ fn answered_for(table: &[u8], form: usize, op: u32, m: &[u8], wag: bool) -> Reas
 {
     let most = decision::most_policies(form);
     let heard = request::read(m, most);
-    let told = heard.told;
-    match told {
-        Told::Refused(_) => {
-            return reading_failed(m, most);
-        }
-        Told::Request(user, asked) => {
-            return request_failed(table, form, op, m, wag, user, asked);
-        }
+    match heard.told {
+        Err(_) => reading_failed(m, most),
+        Ok(q) => request_failed(table, form, op, m, wag, q.user, q.asked),
     }
 }
 

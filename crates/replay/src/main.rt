@@ -4,7 +4,7 @@
 // have at most 4,723,264, and the usual stack of 8 MB will do.
 #![tactic(auto)]
 
-use replay_run::{Damage, Progress, Turn};
+use replay_run::{Damage, Note, Notes, Progress, Turn};
 use system::{STDOUT_FILENO, System};
 
 fn say(sys: &System, text: &[u8]) {
@@ -17,7 +17,7 @@ fn say_number(sys: &System, n: usize) {
     say(sys, &digits[..k]);
 }
 
-fn say_field(sys: &System, field: usize) {
+fn say_field(sys: &System, field: u32) {
     match field {
         1 => say(sys, b"code"),
         2 => say(sys, b"kind"),
@@ -46,49 +46,30 @@ fn say_field(sys: &System, field: usize) {
 }
 
 // The fields that are bytes or numbers at a place. Of results the numbers are counted through, eight to a place.
-fn is_placed(field: usize) -> bool {
-    if field == 17 {
-        return true;
-    }
-    if field < 9 {
-        return false;
-    }
-    if field == 13 {
-        return false;
-    }
-    field < 15
+fn is_placed(field: u32) -> bool {
+    matches!(field, 9..=12 | 14 | 17)
 }
 
-fn say_note(sys: &System, call: usize, field: usize, at: usize, expected: usize, got: usize) {
+fn say_note(sys: &System, n: Note) {
     say(sys, b"call ");
-    say_number(sys, call);
+    say_number(sys, n.call);
     say(sys, b": ");
-    say_field(sys, field);
-    if is_placed(field) {
-        say_number(sys, at);
+    say_field(sys, n.field);
+    if is_placed(n.field) {
+        say_number(sys, n.at);
     }
     say(sys, b": expected ");
-    say_number(sys, expected);
+    say_number(sys, n.expected);
     say(sys, b", got ");
-    say_number(sys, got);
+    say_number(sys, n.got);
     say(sys, b"\n");
 }
 
-fn say_notes(sys: &System, notes: &[usize; 100], differing: usize) {
-    let mut k: usize = 0;
-    while k < 20 {
-        if k < differing {
-            let i = 5 * k;
-            say_note(
-                sys,
-                notes[i],
-                notes[i + 1],
-                notes[i + 2],
-                notes[i + 3],
-                notes[i + 4],
-            );
+fn say_notes(sys: &System, notes: &Notes) {
+    for place in notes {
+        if let Some(n) = place {
+            say_note(sys, *n);
         }
-        k += 1;
     }
 }
 
@@ -129,30 +110,27 @@ fn turn(
     room: &mut [u8],
     answer: &mut [u8; 65536],
     notice: &mut [u8; 6144],
-    notes: &mut [usize; 100],
+    notes: &mut Notes,
     p: Progress,
-) -> Turn {
+) -> Result<Turn, Damage> {
     if room.len() < 65536 {
-        return Turn::Broken(Damage::Length);
+        return Err(Damage::Length);
     }
     let got = sys.read_full(fd, &mut room[0..5]);
     if got < 5 {
-        return Turn::Broken(Damage::Ends);
+        return Err(Damage::Ends);
     }
     let n = octets::read32(room, 1) as usize;
-    if n < 4 {
-        return Turn::Broken(Damage::Length);
-    }
-    if 65531 < n {
-        return Turn::Broken(Damage::Length);
+    if n < 4 || 65531 < n {
+        return Err(Damage::Length);
     }
     let e = n + 5;
     let rest = sys.read_full(fd, &mut room[5..e]);
     if rest < n {
-        return Turn::Broken(Damage::Ends);
+        return Err(Damage::Ends);
     }
     if !replay_script::is_checked(&room[0..e]) {
-        return Turn::Broken(Damage::Check);
+        return Err(Damage::Check);
     }
     let b = e - 4;
     replay_run::on_record(room[0], &room[5..b], table, answer, notice, notes, p)
@@ -164,18 +142,18 @@ fn goes_on(sys: &System, fd: i32) -> bool {
     sys.read_full(fd, &mut one) > 0
 }
 
-fn finish(sys: &System, fd: i32, notes: &[usize; 100], p: Progress) {
+fn finish(sys: &System, fd: i32, notes: &Notes, p: Progress) {
     if goes_on(sys, fd) {
         if p.records < 4294967296 {
             say_damage(sys, p.records + 2, Damage::Behind);
         }
         return;
     }
-    say_notes(sys, notes, p.differing);
+    say_notes(sys, notes);
     say_end(sys, p);
 }
 
-// A proved loop has to end, and nothing says that a script does, so the turns are counted down.
+// A proved loop has to end, and nothing says that a script does, so the records are counted.
 fn run(
     sys: &System,
     fd: i32,
@@ -183,22 +161,20 @@ fn run(
     room: &mut [u8; 65536],
     answer: &mut [u8; 65536],
     notice: &mut [u8; 6144],
-    notes: &mut [usize; 100],
+    notes: &mut Notes,
 ) {
     let mut p = replay_run::begin();
-    let mut turns: usize = 4294967296;
-    while turns > 0 {
-        turns -= 1;
+    for before in 0..4294967296usize {
         match turn(sys, fd, table, room, answer, notice, notes, p) {
-            Turn::Next(q) => {
+            Ok(Turn::Next(q)) => {
                 p = q;
             }
-            Turn::End(q) => {
+            Ok(Turn::End(q)) => {
                 finish(sys, fd, notes, q);
                 return;
             }
-            Turn::Broken(what) => {
-                say_damage(sys, 4294967296 - turns, what);
+            Err(what) => {
+                say_damage(sys, before + 1, what);
                 return;
             }
         }
@@ -210,7 +186,7 @@ fn run(
 fn run_on(sys: &System, fd: i32, table: &mut [u8], answer: &mut [u8; 65536]) {
     let mut room = [0u8; 65536];
     let mut notice = [0u8; 6144];
-    let mut notes = [0usize; 100];
+    let mut notes = [None; 20];
     run(sys, fd, table, &mut room, answer, &mut notice, &mut notes);
 }
 
@@ -261,10 +237,10 @@ fn script(sys: &System) -> i32 {
         sys.fail(b"replay");
         return -1;
     }
-    let fd = sys.open_read(&path[..n]);
-    if fd < 0 {
+    let Some(fd) = sys.open_read(&path[..n]) else {
         sys.fail(&path[..n]);
-    }
+        return -1;
+    };
     fd
 }
 

@@ -5,21 +5,14 @@ ghost use Rattle.std.specs.Prelude.{◌≡◌, ◌+◌, ◌*◌, ◌≤◌, leng
 
 use abort::Written;
 use burst::Taken;
-use effects::Cut;
 use message::Kind;
-use replay_verdict::{Got, Verdict, both, judged, number, text_end};
+use replay_verdict::{Fault, Got, Verdict, both, judged, number, text_end, whole_text};
 
 // A set-up operation and a move return their number, and reading an answer yes or no.
 fn set_up(code: u32) -> Got {
     Got {
         code,
-        kind: 0,
-        length: 0,
-        place: 0,
-        cut: 0,
-        cut_session: 0,
-        cut_host: 0,
-        cut_realm: 0,
+        ..Got::default()
     }
 }
 
@@ -27,13 +20,8 @@ fn set_up(code: u32) -> Got {
 fn written(w: Written) -> Got {
     Got {
         code: w.number,
-        kind: 0,
         length: w.length,
-        place: 0,
-        cut: 0,
-        cut_session: 0,
-        cut_host: 0,
-        cut_realm: 0,
+        ..Got::default()
     }
 }
 
@@ -47,10 +35,9 @@ fn kind_number(k: Kind) -> u32 {
 
 // The outcome of a request in the script's numbers.
 fn outcome(o: decision::Outcome) -> Got {
-    let cut = o.cut;
     let kind = o.kind;
-    match cut {
-        Cut::NoCut => Got {
+    match o.cut {
+        None => Got {
             code: o.code,
             kind: kind_number(kind),
             length: o.length,
@@ -60,15 +47,15 @@ fn outcome(o: decision::Outcome) -> Got {
             cut_host: 0,
             cut_realm: 0,
         },
-        Cut::Lengths(session, host, realm) => Got {
+        Some(cut) => Got {
             code: o.code,
             kind: kind_number(kind),
             length: o.length,
             place: o.place,
             cut: 1,
-            cut_session: session,
-            cut_host: host,
-            cut_realm: realm,
+            cut_session: cut.session,
+            cut_host: cut.host,
+            cut_realm: cut.realm,
         },
     }
 }
@@ -78,7 +65,7 @@ pub fn play_clear(table: &mut [u8], r: &[u8]) -> Verdict
     requires { length r.now ≤ 65536 }
 {
     if r.len() < 4 {
-        return Verdict::Damaged;
+        return Err(Fault::Damaged);
     }
     let got = set_up(setup::clear(table, octets::read32(r, 0)));
     judged(r, 4, got, table, &r[0..0], 0, &r[0..0], 0)
@@ -89,10 +76,8 @@ fn read_shares(r: &[u8], n: usize, shares: &mut [u32; 17])
     requires { (n ≤ 17) × (12 + 4 * n ≤ length r.now) × (length shares.old ≡ 17) }
     ensures { length shares.new ≡ 17 }
 {
-    let mut i: usize = 0;
-    while i < n {
+    for i in 0..n {
         shares[i] = octets::read32(r, 12 + 4 * i);
-        i += 1;
     }
 }
 
@@ -100,10 +85,7 @@ fn read_shares(r: &[u8], n: usize, shares: &mut [u32; 17])
 fn enter_named(table: &mut [u8], r: &[u8], n: usize, from: usize) -> Verdict
     requires { (n ≤ 17) × (from ≡ 12 + 4 * n) × (from ≤ length r.now) × (length r.now ≤ 65536) }
 {
-    let e = text_end(r, from);
-    if r.len() < e {
-        return Verdict::Damaged;
-    }
+    let e = whole_text(r, from)?;
     let mut shares = [0u32; 17];
     read_shares(r, n, &mut shares);
     let name = from + 4;
@@ -119,15 +101,15 @@ pub fn play_enter(table: &mut [u8], r: &[u8]) -> Verdict
     requires { length r.now ≤ 65536 }
 {
     if r.len() < 12 {
-        return Verdict::Damaged;
+        return Err(Fault::Damaged);
     }
     let n = number(r, 8);
     if 17 < n {
-        return Verdict::Damaged;
+        return Err(Fault::Damaged);
     }
     let from = 12 + 4 * n;
     if r.len() < from {
-        return Verdict::Damaged;
+        return Err(Fault::Damaged);
     }
     enter_named(table, r, n, from)
 }
@@ -137,17 +119,14 @@ pub fn play_add(table: &mut [u8], r: &[u8]) -> Verdict
     requires { length r.now ≤ 65536 }
 {
     if r.len() < 8 {
-        return Verdict::Damaged;
+        return Err(Fault::Damaged);
     }
     let form = octets::read32(r, 0);
     let op = octets::read32(r, 4);
-    let e = text_end(r, 8);
-    if r.len() < e {
-        return Verdict::Damaged;
-    }
+    let e = whole_text(r, 8)?;
     let f = text_end(r, e);
     if r.len() < f + 2 {
-        return Verdict::Damaged;
+        return Err(Fault::Damaged);
     }
     let label = e + 4;
     let got = set_up(setup::add(table, form, op, &r[12..e], &r[label..f], r[f], r[f + 1]));
@@ -180,19 +159,13 @@ pub fn play_handle(table: &mut [u8], r: &[u8], answer: &mut [u8], notice: &mut [
     requires { (length r.now ≤ 65536) × (length answer.old ≤ 65536) × (length notice.old ≤ 65536) }
 {
     if r.len() < 8 {
-        return Verdict::Damaged;
+        return Err(Fault::Damaged);
     }
-    let host = text_end(r, 8);
-    if r.len() < host {
-        return Verdict::Damaged;
-    }
-    let realm = text_end(r, host);
-    if r.len() < realm {
-        return Verdict::Damaged;
-    }
+    let host = whole_text(r, 8)?;
+    let realm = whole_text(r, host)?;
     let message = text_end(r, realm);
     if r.len() < message + 11 {
-        return Verdict::Damaged;
+        return Err(Fault::Damaged);
     }
     in_rooms(table, r, host, realm, message, answer, notice)
 }
@@ -213,17 +186,11 @@ fn in_rooms(
     let room = rooms_at(r, message);
     let a = room.answer;
     let n = room.notice;
-    if 8192 < a {
-        return Verdict::Damaged;
+    if 8192 < a || answer.len() < a {
+        return Err(Fault::Damaged);
     }
-    if answer.len() < a {
-        return Verdict::Damaged;
-    }
-    if 1024 < n {
-        return Verdict::Damaged;
-    }
-    if notice.len() < n {
-        return Verdict::Damaged;
+    if 1024 < n || notice.len() < n {
+        return Err(Fault::Damaged);
     }
     request(
         table,
@@ -302,11 +269,11 @@ pub fn play_move(table: &[u8], r: &[u8], room: &mut [u8]) -> Verdict
     requires { (length r.now ≤ 65536) × (length room.old ≤ 65536) }
 {
     if r.len() < 9 {
-        return Verdict::Damaged;
+        return Err(Fault::Damaged);
     }
     let n = number(r, 4);
     if room.len() < n {
-        return Verdict::Damaged;
+        return Err(Fault::Damaged);
     }
     move_filled(table, r, &mut room[0..n])
 }
@@ -332,23 +299,14 @@ pub fn play_abort(table: &[u8], r: &[u8], room: &mut [u8]) -> Verdict
     requires { (length r.now ≤ 65536) × (length room.old ≤ 65536) }
 {
     if r.len() < 25 {
-        return Verdict::Damaged;
+        return Err(Fault::Damaged);
     }
-    let host = text_end(r, 25);
-    if r.len() < host {
-        return Verdict::Damaged;
-    }
-    let realm = text_end(r, host);
-    if r.len() < realm {
-        return Verdict::Damaged;
-    }
-    let notice = text_end(r, realm);
-    if r.len() < notice {
-        return Verdict::Damaged;
-    }
+    let host = whole_text(r, 25)?;
+    let realm = whole_text(r, host)?;
+    let notice = whole_text(r, realm)?;
     let n = number(r, 20);
     if room.len() < n {
-        return Verdict::Damaged;
+        return Err(Fault::Damaged);
     }
     abort_filled(table, r, host, realm, notice, &mut room[0..n])
 }
@@ -392,10 +350,7 @@ fn abort_into(r: &[u8], host: usize, realm: usize, notice: usize, room: &mut [u8
 
 // Yes is 1.
 fn yes(belongs: bool) -> u32 {
-    if belongs {
-        return 1;
-    }
-    0
+    u32::from(belongs)
 }
 
 // The two identifiers, the Session-Id and the answer.
@@ -403,16 +358,10 @@ pub fn play_answered(table: &[u8], r: &[u8]) -> Verdict
     requires { length r.now ≤ 65536 }
 {
     if r.len() < 8 {
-        return Verdict::Damaged;
+        return Err(Fault::Damaged);
     }
-    let session = text_end(r, 8);
-    if r.len() < session {
-        return Verdict::Damaged;
-    }
-    let answer = text_end(r, session);
-    if r.len() < answer {
-        return Verdict::Damaged;
-    }
+    let session = whole_text(r, 8)?;
+    let answer = whole_text(r, session)?;
     let from = session + 4;
     let belongs = abort::answered(
         &r[from..answer],
@@ -434,18 +383,13 @@ fn taken(t: Taken) -> Got {
         length: t.bytes,
         place: t.answers,
         cut: small(t.notices),
-        cut_session: 0,
-        cut_host: 0,
-        cut_realm: 0,
+        ..Got::default()
     }
 }
 
 // A number of 32 bits; no record expects one that is larger.
 fn small(n: usize) -> u32 {
-    if n < 4294967295 {
-        return n as u32;
-    }
-    4294967295
+    n.min(4294967295) as u32
 }
 
 // Where the texts of a burst end: own host, own realm, messages, words of the WAG.
@@ -462,23 +406,14 @@ pub fn play_burst(table: &mut [u8], r: &[u8], answer: &mut [u8], notice: &mut [u
     requires { (length r.now ≤ 65536) × (length answer.old ≤ 65536) × (length notice.old ≤ 65536) }
 {
     if r.len() < 8 {
-        return Verdict::Damaged;
+        return Err(Fault::Damaged);
     }
-    let host = text_end(r, 8);
-    if r.len() < host {
-        return Verdict::Damaged;
-    }
-    let realm = text_end(r, host);
-    if r.len() < realm {
-        return Verdict::Damaged;
-    }
-    let messages = text_end(r, realm);
-    if r.len() < messages {
-        return Verdict::Damaged;
-    }
+    let host = whole_text(r, 8)?;
+    let realm = whole_text(r, host)?;
+    let messages = whole_text(r, realm)?;
     let words = text_end(r, messages);
     if r.len() < words + 14 {
-        return Verdict::Damaged;
+        return Err(Fault::Damaged);
     }
     burst_in_bounds(
         table,
@@ -506,17 +441,11 @@ fn burst_in_bounds(
         × (length r.now ≤ 65536) × (length answer.old ≤ 65536) × (length notice.old ≤ 65536) }
 {
     let places = number(r, e.words + 10);
-    if 40964 < e.messages - e.realm {
-        return Verdict::Damaged;
+    if 40964 < e.messages - e.realm || 20 < e.words - e.messages {
+        return Err(Fault::Damaged);
     }
-    if 20 < e.words - e.messages {
-        return Verdict::Damaged;
-    }
-    if 16 < places {
-        return Verdict::Damaged;
-    }
-    if r.len() < e.words + 14 + 32 * places {
-        return Verdict::Damaged;
+    if 16 < places || r.len() < e.words + 14 + 32 * places {
+        return Err(Fault::Damaged);
     }
     burst_in_rooms(table, r, e, places, answer, notice)
 }
@@ -536,11 +465,8 @@ fn burst_in_rooms(
 {
     let a = number(r, e.words);
     let n = number(r, e.words + 5);
-    if answer.len() < a {
-        return Verdict::Damaged;
-    }
-    if notice.len() < n {
-        return Verdict::Damaged;
+    if answer.len() < a || notice.len() < n {
+        return Err(Fault::Damaged);
     }
     burst_filled(table, r, e, places, &mut answer[0..a], &mut notice[0..n])
 }
@@ -575,12 +501,8 @@ fn fresh(i: usize) -> [u32; 8] {
 }
 
 fn fill_places(results: &mut [[u32; 8]]) {
-    let mut i: usize = 16;
-    while i > 0 {
-        i -= 1;
-        if i < results.len() {
-            results[i] = fresh(i);
-        }
+    for (i, place) in results.iter_mut().enumerate() {
+        *place = fresh(i);
     }
 }
 

@@ -5,7 +5,7 @@ ghost use Rattle.std.specs.Prelude.{◌+◌, ◌≤◌, length};
 
 use gateway::Reauthorized;
 use message::Kind;
-use replay_verdict::{Got, Verdict, judged, number, text_end};
+use replay_verdict::{Fault, Got, Verdict, judged, number, whole_text};
 
 fn kind_number(k: Kind) -> u32 {
     match k {
@@ -23,10 +23,7 @@ fn reauthorized(g: Reauthorized) -> Got {
         kind: kind_number(kind),
         length: g.length,
         place: g.request_length,
-        cut: 0,
-        cut_session: 0,
-        cut_host: 0,
-        cut_realm: 0,
+        ..Got::default()
     }
 }
 
@@ -47,20 +44,11 @@ pub fn play_reauth(table: &[u8], r: &[u8], answer: &mut [u8], request: &mut [u8]
     requires { (length r.now ≤ 65536) × (length answer.old ≤ 65536) × (length request.old ≤ 65536) }
 {
     if r.len() < 18 {
-        return Verdict::Damaged;
+        return Err(Fault::Damaged);
     }
-    let host = text_end(r, 18);
-    if r.len() < host {
-        return Verdict::Damaged;
-    }
-    let realm = text_end(r, host);
-    if r.len() < realm {
-        return Verdict::Damaged;
-    }
-    let session = text_end(r, realm);
-    if r.len() < session {
-        return Verdict::Damaged;
-    }
+    let host = whole_text(r, 18)?;
+    let realm = whole_text(r, host)?;
+    let session = whole_text(r, realm)?;
     for_access(table, r, host, realm, session, answer, request)
 }
 
@@ -77,22 +65,10 @@ fn for_access(
     requires { (22 ≤ host) × (host + 4 ≤ realm) × (realm + 4 ≤ session) × (session ≤ length r.now) × (length r.now ≤ 65536)
         × (length answer.old ≤ 65536) × (length request.old ≤ 65536) }
 {
-    let user = text_end(r, session);
-    if r.len() < user {
-        return Verdict::Damaged;
-    }
-    let label = text_end(r, user);
-    if r.len() < label {
-        return Verdict::Damaged;
-    }
-    let visited = text_end(r, label);
-    if r.len() < visited {
-        return Verdict::Damaged;
-    }
-    let message = text_end(r, visited);
-    if r.len() < message {
-        return Verdict::Damaged;
-    }
+    let user = whole_text(r, session)?;
+    let label = whole_text(r, user)?;
+    let visited = whole_text(r, label)?;
+    let message = whole_text(r, visited)?;
     let e = Ends {
         host,
         realm,
@@ -113,11 +89,8 @@ fn in_rooms(table: &[u8], r: &[u8], e: Ends, answer: &mut [u8], request: &mut [u
 {
     let a = number(r, 8);
     let q = number(r, 13);
-    if answer.len() < a {
-        return Verdict::Damaged;
-    }
-    if request.len() < q {
-        return Verdict::Damaged;
+    if answer.len() < a || request.len() < q {
+        return Err(Fault::Damaged);
     }
     in_filled(table, r, e, &mut answer[0..a], &mut request[0..q])
 }

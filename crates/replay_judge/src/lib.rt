@@ -3,9 +3,9 @@
 
 ghost use Rattle.std.specs.Prelude.{◌+◌, ◌≤◌, length};
 
-use likeness::Found;
+use judge::Found;
 use replay_calls::{Rooms, rooms_at};
-use replay_verdict::{Got, Verdict, judged, text_end};
+use replay_verdict::{Fault, Got, Verdict, judged, text_end, whole_text};
 
 // What judging returns in the script's numbers: the mismatch stands where the kind of a code does, its byte where the length of an answer does.
 fn found(f: Found) -> Got {
@@ -13,11 +13,7 @@ fn found(f: Found) -> Got {
         code: f.number,
         kind: f.mismatch,
         length: f.at,
-        place: 0,
-        cut: 0,
-        cut_session: 0,
-        cut_host: 0,
-        cut_realm: 0,
+        ..Got::default()
     }
 }
 
@@ -38,19 +34,13 @@ pub fn play_judge(table: &mut [u8], r: &[u8], answer: &mut [u8], notice: &mut [u
     requires { (length r.now ≤ 65536) × (length answer.old ≤ 65536) × (length notice.old ≤ 65536) }
 {
     if r.len() < 8 {
-        return Verdict::Damaged;
+        return Err(Fault::Damaged);
     }
-    let host = text_end(r, 8);
-    if r.len() < host {
-        return Verdict::Damaged;
-    }
-    let realm = text_end(r, host);
-    if r.len() < realm {
-        return Verdict::Damaged;
-    }
+    let host = whole_text(r, 8)?;
+    let realm = whole_text(r, host)?;
     let message = text_end(r, realm);
     if r.len() < message + 11 {
-        return Verdict::Damaged;
+        return Err(Fault::Damaged);
     }
     of_the_old(table, r, host, realm, message, answer, notice)
 }
@@ -68,18 +58,9 @@ fn of_the_old(
     requires { (12 ≤ host) × (host + 4 ≤ realm) × (realm + 4 ≤ message) × (message + 11 ≤ length r.now) × (length r.now ≤ 65536)
         × (length answer.old ≤ 65536) × (length notice.old ≤ 65536) }
 {
-    let after = text_end(r, message + 11);
-    if r.len() < after {
-        return Verdict::Damaged;
-    }
-    let theirs = text_end(r, after);
-    if r.len() < theirs {
-        return Verdict::Damaged;
-    }
-    let told = text_end(r, theirs);
-    if r.len() < told {
-        return Verdict::Damaged;
-    }
+    let after = whole_text(r, message + 11)?;
+    let theirs = whole_text(r, after)?;
+    let told = whole_text(r, theirs)?;
     let e = Ends {
         host,
         realm,
@@ -100,11 +81,8 @@ fn in_rooms(table: &mut [u8], r: &[u8], e: Ends, answer: &mut [u8], notice: &mut
     let room = rooms_at(r, e.message);
     let a = room.answer;
     let n = room.notice;
-    if answer.len() < a {
-        return Verdict::Damaged;
-    }
-    if notice.len() < n {
-        return Verdict::Damaged;
+    if answer.len() < a || notice.len() < n {
+        return Err(Fault::Damaged);
     }
     in_filled(table, r, e, room, &mut answer[0..a], &mut notice[0..n])
 }

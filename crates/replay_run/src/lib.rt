@@ -5,4 +5,4 @@
 mod progress;
 mod records;
 
-pub use progress::{Damage, Progress, Turn, begin, on_record};
+pub use progress::{Damage, Note, Notes, Progress, Turn, begin, on_record};

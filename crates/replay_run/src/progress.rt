@@ -1,13 +1,13 @@
 // A script from record to record.
 ghost use Rattle.std.specs.Prelude.{◌≤◌, length};
 
-use crate::records::{Told, announced, is_patched, only_number};
+use crate::records::{announced, is_patched, only_number};
 use replay_calls::{
     play_abort, play_add, play_answered, play_burst, play_clear, play_enter, play_handle, play_move,
 };
 use replay_gateway::play_reauth;
 use replay_judge::play_judge;
-use replay_verdict::Verdict;
+use replay_verdict::{Fault, Verdict};
 
 // How far a script is played: the records and calls so far, the records that HEADER announces, the calls that differ, and the
 // table's length.
@@ -21,7 +21,7 @@ pub struct Progress {
 }
 
 // What is wrong with a script.
-#[derive(Clone, Copy)]
+#[derive(Clone, Copy, PartialEq, Eq)]
 pub enum Damage {
     Ends,
     Length,
@@ -39,12 +39,27 @@ pub enum Damage {
 pub enum Turn {
     Next(Progress),
     End(Progress),
-    Broken(Damage),
 }
 
-// One more. A script's counts are 32 bits wide, so none stands still before its script is refused.
-fn more(n: usize) -> usize {
-    if n < 4294967296 { n + 1 } else { n }
+// A call that differs: its number, the field, where in it, what was expected and what was got.
+#[derive(Clone, Copy)]
+pub struct Note {
+    pub call: usize,
+    pub field: u32,
+    pub at: usize,
+    pub expected: usize,
+    pub got: usize,
+}
+
+// The first calls that differ.
+pub type Notes = [Option<Note>; 20];
+
+// The progress with one record more. A script's counts are 32 bits wide, so none stands still before its script is refused.
+fn one_more(p: Progress) -> Progress {
+    Progress {
+        records: p.records.saturating_add(1),
+        ..p
+    }
 }
 
 // The progress before the first record.
@@ -58,137 +73,80 @@ pub fn begin() -> Progress {
     }
 }
 
-fn on_header(r: &[u8]) -> Turn {
-    let Told::Number(n) = announced(r) else {
-        return Turn::Broken(Damage::Header);
-    };
-    Turn::Next(Progress {
-        records: 1,
-        announced: n,
-        calls: 0,
-        differing: 0,
-        table: 0,
+fn on_header(r: &[u8]) -> Result<Progress, Damage> {
+    Ok(Progress {
+        announced: announced(r).ok_or(Damage::Header)?,
+        ..one_more(begin())
     })
 }
 
-fn on_set_table(table: &mut [u8], r: &[u8], p: Progress) -> Turn {
-    let Told::Number(n) = only_number(r) else {
-        return Turn::Broken(Damage::Fields);
-    };
-    if table.len() < n {
-        return Turn::Broken(Damage::Table);
-    }
-    octets::clear(&mut table[0..n]);
-    Turn::Next(Progress {
-        records: more(p.records),
-        announced: p.announced,
-        calls: p.calls,
-        differing: p.differing,
+fn on_set_table(table: &mut [u8], r: &[u8], p: Progress) -> Result<Progress, Damage> {
+    let n = only_number(r).ok_or(Damage::Fields)?;
+    octets::clear(table.get_mut(..n).ok_or(Damage::Table)?);
+    Ok(Progress {
         table: n,
+        ..one_more(p)
     })
 }
 
-fn on_patch(table: &mut [u8], r: &[u8], p: Progress) -> Turn
+fn on_patch(table: &mut [u8], r: &[u8], p: Progress) -> Result<Progress, Damage>
     requires { length r.now ≤ 65536 }
 {
     if is_patched(table, r) {
-        return Turn::Next(Progress {
-            records: more(p.records),
-            announced: p.announced,
-            calls: p.calls,
-            differing: p.differing,
-            table: p.table,
-        });
+        return Ok(one_more(p));
     }
-    Turn::Broken(Damage::Fields)
+    Err(Damage::Fields)
 }
 
-fn on_end(r: &[u8], p: Progress) -> Turn {
-    let Told::Number(n) = only_number(r) else {
-        return Turn::Broken(Damage::Fields);
-    };
-    if n != p.calls {
-        return Turn::Broken(Damage::Count);
+fn on_end(r: &[u8], p: Progress) -> Result<Progress, Damage> {
+    let n = only_number(r).ok_or(Damage::Fields)?;
+    if n != p.calls || one_more(p).records != p.announced {
+        return Err(Damage::Count);
     }
-    if more(p.records) != p.announced {
-        return Turn::Broken(Damage::Count);
-    }
-    Turn::End(p)
+    Ok(p)
 }
 
 // The call of a record of type 4 to 7 or 9 to 14, on the table as long as it is now.
 fn play(kind: u8, table: &mut [u8], r: &[u8], answer: &mut [u8], notice: &mut [u8]) -> Verdict
     requires { (length r.now ≤ 65536) × (length answer.old ≤ 65536) × (length notice.old ≤ 65536) }
 {
-    if kind == 4 {
-        return play_clear(table, r);
-    }
-    if kind == 5 {
-        return play_enter(table, r);
-    }
-    if kind == 6 {
-        return play_add(table, r);
-    }
-    if kind == 9 {
-        return play_move(table, r, answer);
-    }
-    if kind == 10 {
-        return play_abort(table, r, answer);
-    }
-    if kind == 11 {
-        return play_answered(table, r);
-    }
-    if kind == 12 {
-        return play_burst(table, r, answer, notice);
-    }
-    if kind == 13 {
-        return play_reauth(table, r, answer, notice);
-    }
-    if kind == 14 {
-        return play_judge(table, r, answer, notice);
-    }
-    play_handle(table, r, answer, notice)
-}
-
-// A difference is kept, as long as there is room: the call's number, the field, where in it, expected and got.
-fn note(
-    notes: &mut [usize; 100],
-    k: usize,
-    call: usize,
-    field: usize,
-    at: usize,
-    expected: usize,
-    got: usize,
-) {
-    if k < 20 {
-        let i = 5 * k;
-        notes[i] = call;
-        notes[i + 1] = field;
-        notes[i + 2] = at;
-        notes[i + 3] = expected;
-        notes[i + 4] = got;
+    match kind {
+        4 => play_clear(table, r),
+        5 => play_enter(table, r),
+        6 => play_add(table, r),
+        9 => play_move(table, r, answer),
+        10 => play_abort(table, r, answer),
+        11 => play_answered(table, r),
+        12 => play_burst(table, r, answer, notice),
+        13 => play_reauth(table, r, answer, notice),
+        14 => play_judge(table, r, answer, notice),
+        _ => play_handle(table, r, answer, notice),
     }
 }
 
-fn on_verdict(v: Verdict, notes: &mut [usize; 100], p: Progress) -> Turn {
-    let call = more(p.calls);
+// What came of a call. A difference is kept, as long as there is room.
+fn on_verdict(v: Verdict, notes: &mut Notes, p: Progress) -> Result<Progress, Damage> {
+    let calls = p.calls.saturating_add(1);
+    let after = Progress {
+        calls,
+        ..one_more(p)
+    };
     match v {
-        Verdict::Damaged => Turn::Broken(Damage::Fields),
-        Verdict::Agrees => Turn::Next(Progress {
-            records: more(p.records),
-            announced: p.announced,
-            calls: call,
-            differing: p.differing,
-            table: p.table,
-        }),
-        Verdict::Differs(field, at, expected, got) => {
-            note(notes, p.differing, call, field as usize, at, expected, got);
-            Turn::Next(Progress {
-                records: more(p.records),
-                announced: p.announced,
-                calls: call,
-                differing: more(p.differing),
-                table: p.table,
+        Err(Fault::Damaged) => Err(Damage::Fields),
+        Ok(()) => Ok(after),
+        Err(Fault::Differs(field, at, expected, got)) => {
+            if let Some(place) = notes.get_mut(p.differing) {
+                *place = Some(Note {
+                    call: calls,
+                    field,
+                    at,
+                    expected,
+                    got,
+                });
+            }
+            Ok(Progress {
+                differing: p.differing.saturating_add(1),
+                ..after
             })
         }
     }
@@ -201,36 +159,29 @@ pub fn on_record(
     table: &mut [u8],
     answer: &mut [u8],
     notice: &mut [u8],
-    notes: &mut [usize; 100],
+    notes: &mut Notes,
     p: Progress,
-) -> Turn
+) -> Result<Turn, Damage>
     requires { (length r.now ≤ 65536) × (length answer.old ≤ 65536) × (length notice.old ≤ 65536) }
 {
     if p.records == 0 {
         if kind == 1 {
-            return on_header(r);
+            return Ok(Turn::Next(on_header(r)?));
         }
-        return Turn::Broken(Damage::Header);
+        return Err(Damage::Header);
     }
     let n = p.table;
     if table.len() < n {
-        return Turn::Broken(Damage::Table);
+        return Err(Damage::Table);
     }
-    if kind == 2 {
-        return on_set_table(table, r, p);
+    match kind {
+        2 => Ok(Turn::Next(on_set_table(table, r, p)?)),
+        3 => Ok(Turn::Next(on_patch(&mut table[..n], r, p)?)),
+        8 => Ok(Turn::End(on_end(r, p)?)),
+        4..=14 => {
+            let v = play(kind, &mut table[..n], r, answer, notice);
+            Ok(Turn::Next(on_verdict(v, notes, p)?))
+        }
+        _ => Err(Damage::Kind),
     }
-    if kind == 3 {
-        return on_patch(&mut table[0..n], r, p);
-    }
-    if kind == 8 {
-        return on_end(r, p);
-    }
-    if kind < 4 {
-        return Turn::Broken(Damage::Kind);
-    }
-    if 14 < kind {
-        return Turn::Broken(Damage::Kind);
-    }
-    let v = play(kind, &mut table[0..n], r, answer, notice);
-    on_verdict(v, notes, p)
 }

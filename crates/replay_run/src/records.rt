@@ -3,33 +3,20 @@ ghost use Rattle.std.specs.Prelude.{◌≤◌, length};
 
 use replay_verdict::{number, text_end};
 
-// What may stand in a number's place.
-#[derive(Clone, Copy)]
-pub enum Told {
-    Number(usize),
-    Nothing,
-}
-
 // The number of records that a HEADER announces.
-pub fn announced(r: &[u8]) -> Told {
-    if r.len() != 16 {
-        return Told::Nothing;
+pub fn announced(r: &[u8]) -> Option<usize> {
+    if r.len() != 16 || !r.starts_with(b"WMSCRIPT") || number(r, 8) != 7 {
+        return None;
     }
-    if !octets::same_bytes(&r[0..8], b"WMSCRIPT") {
-        return Told::Nothing;
-    }
-    if number(r, 8) != 7 {
-        return Told::Nothing;
-    }
-    Told::Number(number(r, 12))
+    Some(number(r, 12))
 }
 
 // The only number of a SET-TABLE or an END.
-pub fn only_number(r: &[u8]) -> Told {
+pub fn only_number(r: &[u8]) -> Option<usize> {
     if r.len() != 4 {
-        return Told::Nothing;
+        return None;
     }
-    Told::Number(number(r, 0))
+    Some(number(r, 0))
 }
 
 // A PATCH put into the table; false where its fields do not fill it or it goes past the table's end.
@@ -41,10 +28,7 @@ pub fn is_patched(table: &mut [u8], r: &[u8]) -> bool
     }
     let at = number(r, 0);
     let e = text_end(r, 4);
-    if r.len() != e {
-        return false;
-    }
-    if table.len() < at + (e - 8) {
+    if r.len() != e || table.len() < at + (e - 8) {
         return false;
     }
     octets::put_bytes(table, at, &r[8..e]);

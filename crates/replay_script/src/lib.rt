@@ -12,10 +12,8 @@ pub fn digest(s: &[u8], k: u64) -> u64
     ensures { (result ≡ digest_of k 0 s.now) × (result < 2147483647) }
 {
     let mut h: u64 = 0;
-    let mut i: usize = 0;
-    while i < s.len() {
-        h = digested(h, k, s[i]);
-        i += 1;
+    for x in s {
+        h = digested(h, k, *x);
     }
     h
 }
@@ -24,7 +22,7 @@ fn digested(h: u64, k: u64, x: u8) -> u64
     requires { (h < 2147483647) × (k ≤ 1103515245) }
     ensures { (result ≡ digest_step k h x) × (result < 2147483647) }
 {
-    (h * k + x as u64 + 1) % 2147483647
+    (h * k + u64::from(x) + 1) % 2147483647
 }
 
 // Byte i of a room before a call.
@@ -32,7 +30,7 @@ fn room_byte(seed: u8, i: usize) -> u8
     requires { i ≤ 65536 }
     ensures { result ≡ room_byte seed i }
 {
-    ((seed as usize + 7 * i) % 256) as u8
+    ((usize::from(seed) + 7 * i) % 256) as u8
 }
 
 // The room as it is before a call.
@@ -40,10 +38,8 @@ pub fn fill(room: &mut [u8], seed: u8)
     requires { length room.old ≤ 65536 }
     ensures { (i : ℕ) → i < length room.old → get_or room.new i 0 ≡ room_byte seed i }
 {
-    let mut i: usize = 0;
-    while i < room.len() {
+    for i in 0..room.len() {
         room[i] = room_byte(seed, i);
-        i += 1;
     }
 }
 
@@ -52,12 +48,10 @@ pub fn is_filled(room: &[u8], seed: u8, from: usize) -> bool
     requires { (from ≤ length room.now) × (length room.now ≤ 65536) }
     ensures { result ≡ as_filled seed from (drop from room.now) }
 {
-    let mut i = from;
-    while i < room.len() {
+    for i in from..room.len() {
         if room[i] != room_byte(seed, i) {
             return false;
         }
-        i += 1;
     }
     true
 }
@@ -67,14 +61,12 @@ pub fn first_unlike(a: &[u8], b: &[u8]) -> usize
     requires { length a.now ≡ length b.now }
     ensures { (result ≡ unlike a.now b.now) × (result ≤ length a.now) }
 {
-    let mut i: usize = 0;
-    while i < a.len() {
+    for i in 0..a.len() {
         if a[i] != b[i] {
             return i;
         }
-        i += 1;
     }
-    i
+    a.len()
 }
 
 // Whether the check at the end of a whole record is right.
@@ -83,6 +75,6 @@ pub fn is_checked(whole: &[u8]) -> bool
     ensures { result ≡ eqb (digest_of 1103515245 0 (take (length whole.now - 4) whole.now)) (net32 whole.now (length whole.now - 4)) }
 {
     let end = whole.len() - 4;
-    let expected = octets::read32(whole, end) as u64;
+    let expected = u64::from(octets::read32(whole, end));
     digest(&whole[0..end], 1103515245) == expected
 }

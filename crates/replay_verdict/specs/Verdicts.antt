@@ -1,18 +1,15 @@
 -- What a record expects of a call (oracle/README.md, *expected*), and when all that the call left is as expected.
-use Rattle.std.specs.Prelude.{Bool, true, false, ◌&&◌, List, [], ◌∷◌, ℕ, zero, suc, ◌+◌, ◌-◌, eqb, leb, ltb, length, get_or, take, drop}
+use Rattle.std.specs.Prelude.{Result, is_ok, ⊤, Bool, true, false, ◌&&◌, List, [], ◌∷◌, ℕ, zero, suc, ◌+◌, ◌-◌, eqb, leb, ltb, length, get_or, take, drop}
 use Rattle.octets.specs.Choice.{pick}
 use Rattle.octets.specs.Numbers.{net32}
 use Rattle.octets.specs.Texts.{part, same, all_zero}
 use Rattle.replay_script.specs.TheScript.{digest_of, as_filled}
 use Rattle.replay_verdict.specs.declared.Got.{Got}
-use Rattle.replay_verdict.specs.declared.Verdict.{Verdict}
-use Rattle.replay_verdict.specs.declared.Verdict.TheVariants.{Agrees, Differs, Damaged}
+use Rattle.replay_verdict.specs.declared.Fault.{Fault}
 
 -- A verdict says that all is as expected.
-unfoldable pub agreed : Verdict → Bool
-agreed Agrees = true
-agreed (Differs field place expected got) = false
-agreed Damaged = false
+unfoldable pub agreed : Result ⊤ Fault → Bool
+agreed v = is_ok v
 
 -- Where the text at byte a ends, whose length stands before it; past the end of the record where even the length is cut off.
 unfoldable pub text_end : List ℕ → ℕ → ℕ

@@ -1,25 +1,26 @@
 // What a call left, against what its record expects.
 #![tactic(auto)]
 
-ghost use Rattle.std.specs.Prelude.{◌&&◌, ◌≡◌, ◌+◌, ◌*◌, ◌≤◌, ◌<◌, eqb, length};
+ghost use Rattle.std.specs.Prelude.{◌&&◌, ◌≡◌, ◌+◌, ◌*◌, ◌≤◌, ◌<◌, IfOk, eqb, length};
 ghost use Rattle.octets.specs.Numbers.{net32};
 ghost use Rattle.replay_verdict.specs.Verdicts.{agreed, answer_numbers, as_expected, changes_from, cleared_as, cut_numbers, digests_as, numbers_at, results_at, room_as, stands_at, table_as, text_end};
 
-use octets::{all_zero, long, read32};
 use replay_script::{digest, first_unlike, is_filled};
 
-// A call is as expected, or differs: in which field, where in it, what was expected and what was got; or its record does not
+// A call differs from what is expected: in which field, where in it, what was expected and what was got; or its record does not
 // have the form of its type.
 #[derive(Clone, Copy)]
-pub enum Verdict {
-    Agrees,
+pub enum Fault {
     Differs(u32, usize, usize, usize),
     Damaged,
 }
 
+// Whether a call is as expected, and why not.
+pub type Verdict = Result<(), Fault>;
+
 // The numbers that a call returns; of a set-up operation all but the first are 0. A burst has its own five: its number, how many messages and bytes were
 // taken, how many bytes of answers and how many notices were written.
-#[derive(Clone, Copy)]
+#[derive(Clone, Copy, Default)]
 pub struct Got {
     pub code: u32,
     pub kind: u32,
@@ -31,21 +32,11 @@ pub struct Got {
     pub cut_realm: usize,
 }
 
-fn agrees(v: Verdict) -> bool
-    ensures { result ≡ agreed v }
-{
-    match v {
-        Verdict::Agrees => true,
-        Verdict::Differs(_, _, _, _) => false,
-        Verdict::Damaged => false,
-    }
-}
-
 // What two tests say, in their order: the first that does not agree.
 pub fn both(v: Verdict, w: Verdict) -> Verdict
     ensures { agreed result ≡ agreed v && agreed w }
 {
-    if agrees(v) {
+    if v.is_ok() {
         return w;
     }
     v
@@ -63,6 +54,18 @@ pub fn text_end(r: &[u8], at: usize) -> usize
     start + number(r, at)
 }
 
+// Where the text at `at` ends, in a record that has all of it.
+pub fn whole_text(r: &[u8], at: usize) -> Result<usize, Fault>
+    requires { (at ≤ length r.now) × (length r.now ≤ 65536) }
+    ensures { IfOk result (λ e. (at + 4 ≤ e) × (e ≤ length r.now)) }
+{
+    let e = text_end(r, at);
+    if r.len() < e {
+        return Err(Fault::Damaged);
+    }
+    Ok(e)
+}
+
 // The number at `at`.
 pub fn number(r: &[u8], at: usize) -> usize
     requires { at + 4 ≤ length r.now }
@@ -75,9 +78,9 @@ fn unless(field: u32, expected: usize, got: usize) -> Verdict
     ensures { agreed result ≡ eqb expected got }
 {
     if expected == got {
-        return Verdict::Agrees;
+        return Ok(());
     }
-    Verdict::Differs(field, 0, expected, got)
+    Err(Fault::Differs(field, 0, expected, got))
 }
 
 // The four numbers at `at`, on the answer.
@@ -111,17 +114,17 @@ fn room(field: u32, room: &[u8], seed: u8, text: &[u8]) -> Verdict
 {
     let n = text.len();
     if room.len() < n {
-        return Verdict::Damaged;
+        return Err(Fault::Damaged);
     }
     let i = first_unlike(&room[0..n], text);
     if i < n {
-        return Verdict::Differs(field, i, octets::long(text[i]), octets::long(room[i]));
+        return Err(Fault::Differs(field, i, usize::from(text[i]), usize::from(room[i])));
     }
     let behind = field + 1;
     if is_filled(room, seed, n) {
-        return Verdict::Agrees;
+        return Ok(());
     }
-    Verdict::Differs(behind, n, 0, 0)
+    Err(Fault::Differs(behind, n, 0, 0))
 }
 
 // The text stands in the table from byte `from` on.
@@ -132,18 +135,18 @@ fn change(table: &[u8], from: usize, text: &[u8]) -> Verdict
     let n = text.len();
     let to = from + n;
     if table.len() < to {
-        return Verdict::Damaged;
+        return Err(Fault::Damaged);
     }
     let i = first_unlike(&table[from..to], text);
     if i < n {
-        return Verdict::Differs(
+        return Err(Fault::Differs(
             14,
             from + i,
-            octets::long(text[i]),
-            octets::long(table[from + i]),
-        );
+            usize::from(text[i]),
+            usize::from(table[from + i]),
+        ));
     }
-    Verdict::Agrees
+    Ok(())
 }
 
 // The changes that fill `s`, `count` of them.
@@ -155,24 +158,24 @@ fn changes(table: &[u8], s: &[u8], count: usize) -> Verdict
     let mut left = count;
     while left > 0 {
         if s.len() < p + 8 {
-            return Verdict::Damaged;
+            return Err(Fault::Damaged);
         }
         let e = text_end(s, p + 4);
         if s.len() < e {
-            return Verdict::Damaged;
+            return Err(Fault::Damaged);
         }
         let a = p + 8;
         let v = change(table, number(s, p), &s[a..e]);
-        if !agrees(v) {
+        if !v.is_ok() {
             return v;
         }
         p = e;
         left -= 1;
     }
     if p == s.len() {
-        return Verdict::Agrees;
+        return Ok(());
     }
-    Verdict::Damaged
+    Err(Fault::Damaged)
 }
 
 // The digests at the end of a record.
@@ -181,7 +184,7 @@ fn digests(table: &[u8], s: &[u8]) -> Verdict
     ensures { agreed result ≡ digests_as table.now s.now }
 {
     if s[0] == 0 {
-        return Verdict::Agrees;
+        return Ok(());
     }
     let first = unless(15, number(s, 1), digest(table, 1103515245) as usize);
     let second = unless(16, number(s, 5), digest(table, 1664525) as usize);
@@ -193,12 +196,12 @@ fn cleared(table: &[u8], mark: u8) -> Verdict
     ensures { agreed result ≡ cleared_as table.now mark }
 {
     if mark != 1 {
-        return Verdict::Agrees;
+        return Ok(());
     }
     if octets::all_zero(table) {
-        return Verdict::Agrees;
+        return Ok(());
     }
-    Verdict::Differs(13, 0, 1, 0)
+    Err(Fault::Differs(13, 0, 1, 0))
 }
 
 // What is expected of the table.
@@ -230,15 +233,15 @@ pub fn judged(
     let n = r.len();
     let a = at + 32;
     if n < a {
-        return Verdict::Damaged;
+        return Err(Fault::Damaged);
     }
     let e = text_end(r, a);
     if n < e {
-        return Verdict::Damaged;
+        return Err(Fault::Damaged);
     }
     let f = text_end(r, e);
     if n < f + 14 {
-        return Verdict::Damaged;
+        return Err(Fault::Damaged);
     }
     let from_answer = a + 4;
     let from_notice = e + 4;
@@ -256,16 +259,14 @@ fn result(r: &[u8], at: usize, place: [u32; 8], i: usize) -> Verdict
     requires { (at + 32 ≤ length r.now) × (length r.now ≤ 65536) × (i ≤ 65536) }
     ensures { agreed result ≡ numbers_at r.now at place }
 {
-    let mut k: usize = 0;
-    while k < 8 {
+    for k in 0..8 {
         let expected = number(r, at + 4 * k);
         let got = place[k] as usize;
         if expected != got {
-            return Verdict::Differs(17, 8 * i + k, expected, got);
+            return Err(Fault::Differs(17, 8 * i + k, expected, got));
         }
-        k += 1;
     }
-    Verdict::Agrees
+    Ok(())
 }
 
 // All places are as the record has them from `at` on, those that nothing was written into too.
@@ -273,15 +274,13 @@ pub fn results(r: &[u8], at: usize, places: &[[u32; 8]]) -> Verdict
     requires { (at + 32 * length places.now ≤ length r.now) × (length r.now ≤ 65536) }
     ensures { agreed result ≡ results_at r.now at places.now }
 {
-    let mut i: usize = 0;
     let mut a = at;
-    while i < places.len() {
+    for i in 0..places.len() {
         let v = result(r, a, places[i], i);
-        if !agrees(v) {
+        if !v.is_ok() {
             return v;
         }
         a += 32;
-        i += 1;
     }
-    Verdict::Agrees
+    Ok(())
 }

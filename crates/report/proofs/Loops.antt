@@ -1,5 +1,5 @@
 -- What the loops over a list of results and over the hours keep: what is left has the same answer as the whole.
-use mathlib.Core.Path.{◌≡◌, refl, ap, ◌∙◌}
+use mathlib.Core.Path.{◌≡◌, refl, sym, ap, ◌∙◌}
 use mathlib.Core.Bool.{true, false}
 use mathlib.Core.List.{List, [], ◌∷◌, map}
 use Prim.Native.Nat.{ℕ, suc, ◌+◌, ◌-◌, ◌≤◌, ◌<◌}
@@ -14,7 +14,8 @@ use Rattle.octets.specs.Lists.{every, sum_of, counted}
 use Rattle.octets.proofs.Lists.{by-test}
 use Rattle.report.specs.TheReport.{in_column, how_many, hour_right, total, hours, year, in64}
 use Rattle.report.specs.Code.{told_of, told_by, adds, summed}
-use Rattle.report.specs.declared.Year.TheVariants.{Sum, Passed}
+use Rattle.std.specs.Prelude.{Some, None}
+use Rattle.std.specs.Option.{is_some}
 use Rattle.report.proofs.Counting.{many-cons, many-none, many-most}
 
 module _ (s : List (List ℕ)) (i : ℕ) where
@@ -98,24 +99,34 @@ pub was-past : (n : ℕ) → in64 n ≡ false → 18446744073709551616 ≤ n
 unfolding in64
 was-past n e = ltb-false n 18446744073709551616 e
 
-pub is_sum : (n : ℕ) → n < 18446744073709551616 → Sum n ≡ summed n
+pub is_sum : (n : ℕ) → n < 18446744073709551616 → Some n ≡ summed n
 unfolding summed in64 pick
 is_sum n h = rw (lt-ltb n 18446744073709551616 h)
 
-pub is-passed : (n : ℕ) → 18446744073709551616 ≤ n → Passed ≡ summed n
+pub is-passed : (n : ℕ) → 18446744073709551616 ≤ n → None ≡ summed n
 unfolding summed in64 pick
 is-passed n h = rw (le-ltb n 18446744073709551616 h)
 
-pub was-sum : (n v : ℕ) → summed n ≡ Sum v → (n < 18446744073709551616) × (v ≡ n)
+pub was-sum : (n v : ℕ) → summed n ≡ Some v → (n < 18446744073709551616) × (v ≡ n)
 unfolding summed in64 pick
 was-sum n v e =
     by-test (ltb n 18446744073709551616)
-    (λ t. let s : Sum n ≡ Sum v = rw t at e in (ltb-true n 18446744073709551616 t, cc))
-    (λ t. let s : Passed ≡ Sum v = rw t at e in let z : ◌≡◌ {A = ℕ} 0 1 = cc in absurd (omega arith))
+    (λ t. let s : Some n ≡ Some v = rw t at e in (ltb-true n 18446744073709551616 t, cc))
+    (λ t. let s : None ≡ Some v = rw t at e in let z : ◌≡◌ {A = ℕ} 0 1 = cc in absurd (omega arith))
 
-pub was-passed : (n : ℕ) → summed n ≡ Passed → 18446744073709551616 ≤ n
+pub was-passed : (n : ℕ) → summed n ≡ None → 18446744073709551616 ≤ n
 unfolding summed in64 pick
 was-passed n e =
     by-test (ltb n 18446744073709551616)
-    (λ t. let s : Sum n ≡ Passed = rw t at e in let z : ◌≡◌ {A = ℕ} 0 1 = cc in absurd (omega arith))
+    (λ t. let s : Some n ≡ None = rw t at e in let z : ◌≡◌ {A = ℕ} 0 1 = cc in absurd (omega arith))
     (λ t. ltb-false n 18446744073709551616 t)
+
+pub some-in : (n : ℕ) → is_some (summed n) ≡ in64 n
+unfolding summed pick
+some-in n = by-test (in64 n) (λ t. rw t) (λ t. rw t)
+
+pub none-past : (n : ℕ) → is_some (summed n) ≡ false → 18446744073709551616 ≤ n
+none-past n e = by-test (in64 n) (λ t. let z : true ≡ false = sym (some-in n ∙ t) ∙ e in absurd cc) (λ t. was-past n t)
+
+pub some-within : (n : ℕ) → is_some (summed n) ≡ true → n < 18446744073709551616
+some-within n e = by-test (in64 n) (λ t. was-in n t) (λ t. let z : false ≡ true = sym (some-in n ∙ t) ∙ e in absurd cc)

@@ -1,10 +1,8 @@
 -- What the code's numbers, structs and enums say in the report's terms.
-use Rattle.std.specs.Prelude.{List, map, ℕ, ◌+◌, get_or, set}
+use Rattle.std.specs.Prelude.{List, map, ℕ, ◌+◌, get_or, set, Option, Some, None}
 use Rattle.octets.specs.Choice.{pick}
-use Rattle.report.specs.TheReport.{Told, Left, in_column, in64}
+use Rattle.report.specs.TheReport.{Told, Left, in_column, in64, held, year}
 use Rattle.report.specs.Rates.{Rated}
-use Rattle.report.specs.declared.Year.{Year}
-use Rattle.report.specs.declared.Year.TheVariants.{Sum, Passed}
 use Rattle.report.specs.declared.Ratio.{Ratio}
 
 -- A result is lent as six numbers, in the order of the struct of C.
@@ -35,8 +33,12 @@ unfoldable pub leaves : ℕ → List ℕ → Left
 leaves number report = record { number = number; report = report }
 
 -- A sum as long as 64 bits hold it.
-unfoldable pub summed : ℕ → Year
-summed n = pick (in64 n) (Sum n) Passed
+unfoldable pub summed : ℕ → Option ℕ
+summed n = pick (in64 n) (Some n) None
+
+-- The year's cuts and openings, as long as 64 bits hold every total.
+unfoldable pub totals : List ℕ → Option (ℕ × ℕ)
+totals report = pick (held report) (Some (year report 1, year report 0)) None
 
 unfoldable pub ratio_said : Ratio → Rated
 ratio_said r = record { number = r.number; cuts = r.cuts; opened = r.opened }

@@ -1,12 +1,13 @@
 // Both lists in order, and a message as a whole: the request with its fields, or the code of the first test that fails.
 #![tactic(auto)]
 
-ghost use Rattle.std.specs.Prelude.{◌≡◌, false, ℕ, ◌≤◌, length};
-ghost use Rattle.message.specs.ReadingAMessage.{avps, field_code, header_code, origin_host, origin_realm, request_of, routing_policy, session_id, starts_with, texts_field, user_name, walk_code};
+ghost use Rattle.std.specs.Prelude.{◌≡◌, true, false, Err, ℕ, ◌≤◌, length};
+ghost use Rattle.octets.specs.Lists.{every};
+ghost use Rattle.message.specs.ReadingAMessage.{avps, header_code, origin_host, origin_realm, read, request_of, session_id, starts_with, user_name, walk_code};
 ghost use Rattle.message.specs.Positions.{Gathered};
-ghost use Rattle.message.specs.Spans.{BothRead, HeardOf, Holds, Listed, RoutesRead, has_proxies, is_found, policy_code, policy_of, rest_code, tunnel_code, tunnel_of};
+ghost use Rattle.message.specs.Spans.{BothRead, HeardOf, Holds, Listed, RoutesRead, has_proxies, is_inside, says, spans, policy_code, policy_of, rest_code, tunnel_code, tunnel_of};
 
-use message::{Asked, Both, Got, Heard, Routes, Span, Told};
+use message::{Asked, Failure, Heard, Routes, Sender, Span, UserRequest, number_field, text_field};
 
 // Whether the first AVP is Session-Id, in a message whose walk passed.
 pub fn starts(m: &[u8]) -> bool
@@ -23,168 +24,139 @@ pub fn starts(m: &[u8]) -> bool
 }
 
 // The first five fields, which both requests have.
-pub fn first_five(m: &[u8], index: &[usize]) -> Both
+pub fn first_five(m: &[u8], index: &[usize]) -> Result<Sender, Failure>
     requires { (20 ≤ length m.now) × (walk_code m.now ≡ 0) × Gathered m.now index.now }
     ensures { BothRead m.now result }
 {
     if !starts(m) {
-        return Both::Failed(5005);
+        return Err(Failure::MissingAvp);
     }
-    let g1 = message::text_field(m, index, message::SESSION_ID, 1, message::TEXT_MOST);
-    let Got::Found(session) = g1 else {
-        return Both::Failed(message::refusal(g1));
+    let Some(session) = text_field(m, index, message::SESSION_ID, 1, message::TEXT_MOST)? else {
+        return Err(Failure::MissingAvp);
     };
-    let g2 = message::number_field(m, index, message::AUTH_APPLICATION_ID, 1, 1);
-    let Got::Found(_) = g2 else {
-        return Both::Failed(message::refusal(g2));
+    let Some(_) = number_field(m, index, message::AUTH_APPLICATION_ID, 1, 1)? else {
+        return Err(Failure::MissingAvp);
     };
-    let g3 = message::text_field(m, index, message::ORIGIN_HOST, 1, message::TEXT_MOST);
-    let Got::Found(host) = g3 else {
-        return Both::Failed(message::refusal(g3));
+    let Some(host) = text_field(m, index, message::ORIGIN_HOST, 1, message::TEXT_MOST)? else {
+        return Err(Failure::MissingAvp);
     };
-    let g4 = message::text_field(m, index, message::ORIGIN_REALM, 1, message::TEXT_MOST);
-    let Got::Found(realm) = g4 else {
-        return Both::Failed(message::refusal(g4));
+    let Some(realm) = text_field(m, index, message::ORIGIN_REALM, 1, message::TEXT_MOST)? else {
+        return Err(Failure::MissingAvp);
     };
-    let g5 = message::text_field(m, index, message::DESTINATION_REALM, 1, message::TEXT_MOST);
-    let Got::Found(_) = g5 else {
-        return Both::Failed(message::refusal(g5));
+    let Some(_) = text_field(m, index, message::DESTINATION_REALM, 1, message::TEXT_MOST)? else {
+        return Err(Failure::MissingAvp);
     };
-    Both::Held(session, host, realm)
+    Ok(Sender {
+        session,
+        host,
+        realm,
+    })
 }
 
-// The end of a 265 of type 0: the W-APN, and policies that are tested and not used, by the code that they are refused with, 0 for none.
+// The end of a 265 of type 0: the W-APN, and policies that are tested and not used.
 fn tunnel_end(
     m: &[u8],
     index: &[usize],
     user: Span,
-    session: Span,
-    host: Span,
-    realm: Span,
+    from: Sender,
     visited: bool,
-    wrong: u32,
-) -> Told
-    requires { (Gathered m.now index.now) × (Holds m.now user_name user) × (Holds m.now session_id session) × (Holds m.now origin_host host) × (Holds m.now origin_realm realm) }
-    ensures { (most : ℕ) → wrong ≡ field_code (avps m.now) (texts_field most routing_policy false)
+    routes: Result<Option<Routes>, Failure>,
+) -> Result<UserRequest, Failure>
+    requires { (Gathered m.now index.now) × (Holds m.now user_name user) × (Holds m.now session_id from.session) × (Holds m.now origin_host from.host) × (Holds m.now origin_realm from.realm) }
+    ensures { (most : ℕ) → RoutesRead most m.now routes
         → Listed m.now (tunnel_code most (avps m.now)) (tunnel_of visited (avps m.now)) result }
 {
-    let g1 = message::text_field(m, index, message::WLAN_APN_ID, 1, message::LABEL_MOST);
-    let Got::Found(label) = g1 else {
-        return Told::Refused(message::refusal(g1));
+    let Some(label) = text_field(m, index, message::WLAN_APN_ID, 1, message::LABEL_MOST)? else {
+        return Err(Failure::MissingAvp);
     };
-    if wrong != 0 {
-        return Told::Refused(wrong);
-    }
-    Told::Request(
+    routes?;
+    Ok(UserRequest {
         user,
-        Asked::Tunnel {
-            session,
-            host,
-            realm,
+        asked: Asked::Tunnel {
+            session: from.session,
+            host: from.host,
+            realm: from.realm,
             label,
             visited,
         },
-    )
+    })
 }
 
 // The end of a 265 of type 1: a W-APN that is tested and not used, and the policies.
-fn policy_end(m: &[u8], index: &[usize], user: Span, session: Span, routes: Routes) -> Told
+fn policy_end(
+    m: &[u8],
+    index: &[usize],
+    user: Span,
+    session: Span,
+    routes: Result<Option<Routes>, Failure>,
+) -> Result<UserRequest, Failure>
     requires { (Gathered m.now index.now) × (Holds m.now user_name user) × (Holds m.now session_id session) }
     ensures { (most : ℕ) → RoutesRead most m.now routes
         → Listed m.now (policy_code most (avps m.now)) (policy_of (avps m.now)) result }
 {
-    let g1 = message::text_field(m, index, message::WLAN_APN_ID, 1, message::LABEL_MOST);
-    if let Got::Code(n) = g1 {
-        return Told::Refused(n);
-    }
-    let Routes::Brought(first, second, third) = routes else {
-        return Told::Refused(message::routes_refusal(routes));
+    text_field(m, index, message::WLAN_APN_ID, 1, message::LABEL_MOST)?;
+    let Some(brought) = routes? else {
+        return Err(Failure::MissingAvp);
     };
-    Told::Request(
+    Ok(UserRequest {
         user,
-        Asked::Policy {
+        asked: Asked::Policy {
             session,
-            first,
-            second,
-            third,
+            first: brought.first,
+            second: brought.second,
+            third: brought.third,
         },
-    )
-}
-
-// Whether a field that may be absent is there.
-fn is_found(g: Got) -> bool
-    ensures { result ≡ is_found g }
-{
-    match g {
-        Got::Found(_) => true,
-        _ => false,
-    }
+    })
 }
 
 // The fields of a 265. The policies are read first, once for both of its types, and come last in the order of the tests.
-fn list_265(m: &[u8], index: &[usize], session: Span, host: Span, realm: Span, most: usize) -> Told
-    requires { (Gathered m.now index.now) × (Holds m.now session_id session) × (Holds m.now origin_host host) × (Holds m.now origin_realm realm) × (20 ≤ length m.now) × (walk_code m.now ≡ 0) × (1 ≤ most) × (most ≤ 3) }
+fn list_265(m: &[u8], index: &[usize], from: Sender, most: usize) -> Result<UserRequest, Failure>
+    requires { (Gathered m.now index.now) × (Holds m.now session_id from.session) × (Holds m.now origin_host from.host) × (Holds m.now origin_realm from.realm) × (20 ≤ length m.now) × (walk_code m.now ≡ 0) × (1 ≤ most) × (most ≤ 3) }
     ensures { Listed m.now (rest_code most 265 (avps m.now)) (request_of 265 (avps m.now)) result }
 {
     let routes = message::routes_field(m, index, most);
-    let g1 = message::number_field(m, index, message::AUTH_REQUEST_TYPE, 2, 2);
-    let Got::Found(_) = g1 else {
-        return Told::Refused(message::refusal(g1));
+    let Some(_) = number_field(m, index, message::AUTH_REQUEST_TYPE, 2, 2)? else {
+        return Err(Failure::MissingAvp);
     };
-    let g2 = message::text_field(m, index, message::DESTINATION_HOST, 1, message::TEXT_MOST);
-    let Got::Found(_) = g2 else {
-        return Told::Refused(message::refusal(g2));
+    let Some(_) = text_field(m, index, message::DESTINATION_HOST, 1, message::TEXT_MOST)? else {
+        return Err(Failure::MissingAvp);
     };
-    let g3 = message::text_field(m, index, message::USER_NAME, 1, message::TEXT_MOST);
-    let Got::Found(user) = g3 else {
-        return Told::Refused(message::refusal(g3));
+    let Some(user) = text_field(m, index, message::USER_NAME, 1, message::TEXT_MOST)? else {
+        return Err(Failure::MissingAvp);
     };
-    let g4 = message::number_field(m, index, message::SESSION_REQUEST_TYPE, 0, 1);
-    let Got::Found(kind) = g4 else {
-        return Told::Refused(message::refusal(g4));
+    let Some(kind) = number_field(m, index, message::SESSION_REQUEST_TYPE, 0, 1)? else {
+        return Err(Failure::MissingAvp);
     };
-    let g5 = message::text_field(m, index, message::VISITED_NETWORK, 1, message::TEXT_MOST);
-    if let Got::Code(n) = g5 {
-        return Told::Refused(n);
-    }
+    let network = text_field(m, index, message::VISITED_NETWORK, 1, message::TEXT_MOST)?;
     let a = kind.at;
     let e = a + kind.len;
     if message::value32(&m[a..e]) == 0 {
-        let visited = is_found(g5);
-        let wrong = message::routes_wrong(routes);
-        return tunnel_end(m, index, user, session, host, realm, visited, wrong);
+        return tunnel_end(m, index, user, from, network.is_some(), routes);
     }
-    policy_end(m, index, user, session, routes)
+    policy_end(m, index, user, from.session, routes)
 }
 
 // The fields of a 275.
-fn list_275(m: &[u8], index: &[usize], session: Span) -> Told
+fn list_275(m: &[u8], index: &[usize], session: Span) -> Result<UserRequest, Failure>
     requires { (Gathered m.now index.now) × (Holds m.now session_id session) }
     ensures { (most : ℕ) → Listed m.now (rest_code most 275 (avps m.now)) (request_of 275 (avps m.now)) result }
 {
-    let cause = message::number_field(m, index, message::TERMINATION_CAUSE, 1, 8);
-    let Got::Found(_) = cause else {
-        return Told::Refused(message::refusal(cause));
+    let Some(_) = number_field(m, index, message::TERMINATION_CAUSE, 1, 8)? else {
+        return Err(Failure::MissingAvp);
     };
-    let destination = message::text_field(
-        m,
-        index,
-        message::DESTINATION_HOST,
-        1,
-        message::TEXT_MOST,
-    );
-    let Got::Found(_) = destination else {
-        return Told::Refused(message::refusal(destination));
+    let Some(_) = text_field(m, index, message::DESTINATION_HOST, 1, message::TEXT_MOST)? else {
+        return Err(Failure::MissingAvp);
     };
-    let name = message::text_field(m, index, message::USER_NAME, 1, message::TEXT_MOST);
-    let Got::Found(user) = name else {
-        return Told::Refused(message::refusal(name));
+    let Some(user) = text_field(m, index, message::USER_NAME, 1, message::TEXT_MOST)? else {
+        return Err(Failure::MissingAvp);
     };
-    let apn = message::text_field(m, index, message::WLAN_APN_ID, 1, message::LABEL_MOST);
-    let Got::Found(label) = apn else {
-        return Told::Refused(message::refusal(apn));
+    let Some(label) = text_field(m, index, message::WLAN_APN_ID, 1, message::LABEL_MOST)? else {
+        return Err(Failure::MissingAvp);
     };
-    Told::Request(user, Asked::Termination { session, label })
+    Ok(UserRequest {
+        user,
+        asked: Asked::Termination { session, label },
+    })
 }
 
 // Whether the answer has a Proxy-Info to copy.
@@ -196,48 +168,42 @@ fn proxies_seen(m: &[u8], index: &[usize]) -> bool
 }
 
 // Both lists, of a message whose header and walk passed.
-fn lists(m: &[u8], index: &[usize], most: usize) -> Heard
+fn lists(m: &[u8], index: &[usize], most: usize) -> Result<UserRequest, Failure>
     requires { (20 ≤ length m.now) × (header_code m.now ≡ 0) × (walk_code m.now ≡ 0) × (Gathered m.now index.now) × (1 ≤ most) × (most ≤ 3) }
-    ensures { HeardOf most m.now result }
+    ensures { (says m.now result ≡ read most m.now) × (every (is_inside m.now) (spans result) ≡ true) }
 {
-    let proxies = proxies_seen(m, index);
-    let b = first_five(m, index);
-    match b {
-        Both::Failed(n) => Heard {
-            told: Told::Refused(n),
-            proxies,
-        },
-        Both::Held(session, host, realm) => {
-            if octets::read24(m, 5) == 265 {
-                let told = list_265(m, index, session, host, realm, most);
-                return Heard { told, proxies };
-            }
-            let told = list_275(m, index, session);
-            Heard { told, proxies }
-        }
+    let from = first_five(m, index)?;
+    if octets::read24(m, 5) == 265 {
+        return list_265(m, index, from, most);
+    }
+    list_275(m, index, from.session)
+}
+
+// A message that is refused before its lists are read.
+fn refused(f: Failure) -> Heard
+    ensures { result ≡ record { told = Err f; proxies = false } }
+{
+    Heard {
+        told: Err(f),
+        proxies: false,
     }
 }
 
-// Header tests, the walk, the lists: the request with its fields, or the code of the first test that fails;
+// Header tests, the walk, the lists: the request with its fields, or the first test that fails;
 // and whether the answer has a Proxy-Info to copy. A request may bring up to `most` policies.
 pub fn read(m: &[u8], most: usize) -> Heard
     requires { (20 ≤ length m.now) × (1 ≤ most) × (most ≤ 3) }
     ensures { HeardOf most m.now result }
 {
-    let h = message::header_code(m);
-    if h != 0 {
-        return Heard {
-            told: Told::Refused(h),
-            proxies: false,
-        };
+    if let Err(f) = message::test_header(m) {
+        return refused(f);
     }
     let mut index = [0usize; message::INDEX_LENGTH];
-    let w = message::gather(m, &mut index);
-    if w != 0 {
-        return Heard {
-            told: Told::Refused(w),
-            proxies: false,
-        };
+    if let Err(f) = message::gather(m, &mut index) {
+        return refused(f);
     }
-    lists(m, &index, most)
+    Heard {
+        told: lists(m, &index, most),
+        proxies: proxies_seen(m, &index),
+    }
 }

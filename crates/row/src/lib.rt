@@ -59,7 +59,7 @@ pub fn line_place(r: &[u8], i: usize) -> usize
     requires { (block_length ≤ length r.now) × (i < 8) }
     ensures { (result ≡ get_or (line_room r.now) i 0) × (result < 256) }
 {
-    octets::long(r[table::LINE + i])
+    usize::from(r[table::LINE + i])
 }
 
 // The room of the entries.
@@ -128,7 +128,7 @@ pub fn session(r: &[u8], k: usize) -> &[u8]
 {
     let from = start(r, k);
     let at = from + table::FIRST_TEXT;
-    let end = at + octets::long(r[from + 2]);
+    let end = at + usize::from(r[from + 2]);
     &r[at..end]
 }
 
@@ -139,7 +139,7 @@ pub fn host(r: &[u8], k: usize) -> &[u8]
 {
     let from = start(r, k);
     let at = from + table::SECOND_TEXT;
-    let end = at + octets::long(r[from + 3]);
+    let end = at + usize::from(r[from + 3]);
     &r[at..end]
 }
 
@@ -148,7 +148,7 @@ pub fn policy_length(r: &[u8], k: usize) -> usize
     requires { (is_row r.now ≡ true) × (1 ≤ k) × (k ≤ 8) }
     ensures { (result ≡ get_or (first_block (place r.now k)) 5 0) × (result < 256) }
 {
-    octets::long(r[start(r, k) + 5])
+    usize::from(r[start(r, k) + 5])
 }
 
 pub fn policy(r: &[u8], k: usize) -> &[u8]
@@ -172,16 +172,24 @@ pub fn notice_rooms(r: &[u8], k: usize) -> &[u8]
 
 // WHAT A SECOND BLOCK SAYS. Form 1 has none, so a block of no bytes says nothing.
 
+// The text that starts at `at`, of the length in byte `size`.
+fn text(c: &[u8], at: usize, size: usize) -> &[u8]
+    requires { (length c.now % block_length ≡ 0) × (size < block_length) × (at + get_or c.now size 0 ≤ block_length) }
+    ensures { result.now ≡ part c.now at (get_or c.now size 0) }
+{
+    if c.is_empty() {
+        return c;
+    }
+    let end = at + usize::from(c[size]);
+    &c[at..end]
+}
+
 // The realm of the gateway.
 pub fn realm(c: &[u8]) -> &[u8]
     requires { length c.now % block_length ≡ 0 }
     ensures { result.now ≡ part c.now 8 (get_or c.now 1 0) }
 {
-    if c.len() == 0 {
-        return c;
-    }
-    let end = table::FIRST_TEXT + octets::long(c[1]);
-    &c[table::FIRST_TEXT..end]
+    text(c, table::FIRST_TEXT, 1)
 }
 
 // Its room, where there is a block, as a cut notice of form 2 has it.
@@ -197,11 +205,7 @@ pub fn second_policy(c: &[u8]) -> &[u8]
     requires { length c.now % block_length ≡ 0 }
     ensures { result.now ≡ part c.now 136 (get_or c.now 3 0) }
 {
-    if c.len() == 0 {
-        return c;
-    }
-    let end = table::SECOND_TEXT + octets::long(c[3]);
-    &c[table::SECOND_TEXT..end]
+    text(c, table::SECOND_TEXT, 3)
 }
 
 // The third, where it ends within the block.
@@ -209,11 +213,7 @@ pub fn third_policy(c: &[u8]) -> &[u8]
     requires { (length c.now % block_length ≡ 0) × (get_or c.now 4 0 ≤ 248) }
     ensures { result.now ≡ part c.now 264 (get_or c.now 4 0) }
 {
-    if c.len() == 0 {
-        return c;
-    }
-    let end = table::THIRD_TEXT + octets::long(c[4]);
-    &c[table::THIRD_TEXT..end]
+    text(c, table::THIRD_TEXT, 4)
 }
 
 // AN ENTRY, in the room of the entries, counted from 0
@@ -234,10 +234,7 @@ pub fn has_label(room: &[u8], i: usize) -> bool
     ensures { result ≡ within 1 100 (get_or room.now (104 * i) 0) }
 {
     let n = room[table::ENTRY_LENGTH * i];
-    if n < 1 {
-        return false;
-    }
-    n <= 100
+    1 <= n && n <= 100
 }
 
 pub fn label(room: &[u8], i: usize) -> &[u8]
@@ -245,7 +242,7 @@ pub fn label(room: &[u8], i: usize) -> &[u8]
     ensures { result.now ≡ (read_entry (part room.now (104 * i) 104)).label }
 {
     let at = table::ENTRY_LENGTH * i + table::LABEL;
-    let end = at + octets::long(room[table::ENTRY_LENGTH * i]);
+    let end = at + usize::from(room[table::ENTRY_LENGTH * i]);
     &room[at..end]
 }
 

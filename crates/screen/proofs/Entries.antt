@@ -1,16 +1,15 @@
 -- What the loops over a list of entries keep: what is said of the first entries, step by step, and what one entry says of the whole list.
-use mathlib.Core.Path.{◌≡◌, refl, sym, ap, ◌∙◌}
+use mathlib.Core.Path.{◌≡◌, refl}
 use mathlib.Core.Bool.{Bool, true}
 use mathlib.Core.List.{List, [], ◌∷◌, ◌++◌}
 use Prim.Native.Nat.{ℕ, zero, suc, ◌+◌, ◌≤◌, ◌<◌}
 use native.Mathlib.Numerals.{add-one}
 use native.Mathlib.Omega.{arith}
 use lib.ListN.{length, get_or, take}
-use lib.Seq.{take-suc, get_or-take, length-take-le}
+use lib.Seq.{take-suc}
 use Rattle.octets.specs.Lists.{every}
-use Rattle.octets.specs.Texts.{same}
 use Rattle.octets.proofs.Lists.{and_left, and_right, every_append, every_one, within-high}
-use Rattle.screen.specs.TheBoard.{session_of, sized, is_of}
+use Rattle.screen.specs.TheBoard.{sized}
 use Rattle.screen.specs.Code.{none}
 use Rattle.screen.specs.declared.Screen.{Screen}
 
@@ -33,13 +32,7 @@ module _ {A : Type 0} (f : A → Bool) (d : A) where
   pub every-step : (l : List A) (i : ℕ) → i < length l → every f (take i l) ≡ true → f (get_or l i d) ≡ true → every f (take (i + 1) l) ≡ true
   every-step l i h e p = rw (one_more d l i h) (every_append f (take i l) (get_or l i d ∷ []) e (every_one f (get_or l i d) p))
 
--- the length of a Session-Id among the first entries, where all of them are right
-pub size-at : (l : List Screen) (n i : ℕ) → n ≤ length l → i < n → every sized (take n l) ≡ true → (get_or l i none).size ≤ 128
+-- the length of a Session-Id on a list of which all are right
+pub size-at : (l : List Screen) (i : ℕ) → i < length l → every sized l ≡ true → (get_or l i none).size ≤ 128
 unfolding sized
-size-at l n i h k e =
-    let at : sized (get_or l i none) ≡ true = ap sized (sym (get_or-take n l i none k)) ∙ every-at sized none (take n l) i (rw (length-take-le n l h) k) e in
-    within-high 1 128 (get_or l i none).size at
-
-pub is-it : (session : List ℕ) (s : Screen) → is_of session s ≡ same (take s.size s.room) session
-unfolding is_of session_of
-is-it session s = refl
+size-at l i h e = within-high 1 128 (get_or l i none).size (every-at sized none l i h e)

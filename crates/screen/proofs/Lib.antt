@@ -1,10 +1,8 @@
 pub mod Entries
 pub mod Feeding
 pub mod Table
-pub mod Results
 pub mod Leaving
 pub mod WorkedCases
 pub mod TheBoardsRules
 pub mod Ensured
-pub mod Telling
 pub mod Surveying

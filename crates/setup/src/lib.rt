@@ -12,8 +12,6 @@ ghost use Rattle.setup.specs.SetUp.{add, clear, enter, entry_number, left, share
 ghost use Rattle.setup.specs.Parts.{share_number};
 ghost use Rattle.changes.specs.Changes.{named, with_entry};
 
-use table::RowFound;
-
 // Every byte zero.
 pub fn clear(table: &mut [u8], form: u32) -> u32
     ensures { left result (lent form table.new) ≡ clear (lent form table.old) }
@@ -98,9 +96,9 @@ fn enter_number(table: &[u8], form: u32, op: u32, shares: &[u32], name: &[u8]) -
     if !is_name(name) {
         return 9;
     }
-    let RowFound::Nothing = table::lookup(table, f, op, name) else {
+    if table::lookup(table, f, op, name).is_some() {
         return 10;
-    };
+    }
     if shares[op as usize] <= table::own_rows(table, f, op) {
         return 27;
     }
@@ -116,7 +114,7 @@ pub fn enter(table: &mut [u8], form: u32, op: u32, shares: &[u32], name: &[u8]) 
         return n;
     }
     let f = form as usize;
-    let RowFound::At(i) = table::first_zero_row(table, f) else {
+    let Some(i) = table::first_zero_row(table, f) else {
         return 11;
     };
     enter_row(table, f, i, op as u8, name);
@@ -221,7 +219,7 @@ pub fn add(
         return n;
     }
     let f = form as usize;
-    let RowFound::At(i) = table::lookup(table, f, op, name) else {
+    let Some(i) = table::lookup(table, f, op, name) else {
         return 12;
     };
     let width = table::row_length(f);

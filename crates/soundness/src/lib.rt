@@ -34,8 +34,7 @@ pub fn line_exact(r: &[u8]) -> bool
 {
     let n = blocks::line_length(row::line_room(r));
     let mut used: u8 = 0;
-    let mut i: usize = 0;
-    while i < n {
+    for i in 0..n {
         let k = row::line_place(r, i);
         if table::PLACES < k {
             return false;
@@ -44,7 +43,6 @@ pub fn line_exact(r: &[u8]) -> bool
             return false;
         }
         used = with_place(used, k);
-        i += 1;
     }
     row::used_bits(r) == used
 }
@@ -88,12 +86,10 @@ fn firsts_sound(r: &[u8], n: u8) -> bool
     requires { is_row r.now ≡ true }
     ensures { result ≡ every (first_sound n r.now) places }
 {
-    let mut k: usize = 1;
-    while k < 9 {
+    for k in 1..9 {
         if !first_sound(r, k, n) {
             return false;
         }
-        k += 1;
     }
     true
 }
@@ -102,12 +98,10 @@ fn seconds_sound(r: &[u8]) -> bool
     requires { (is_row r.now ≡ true) × (form_of r.now ≡ 2) }
     ensures { result ≡ every (other_sound r.now) places }
 {
-    let mut k: usize = 1;
-    while k < 9 {
+    for k in 1..9 {
         if !second_sound(r, k) {
             return false;
         }
-        k += 1;
     }
     true
 }
@@ -134,13 +128,11 @@ fn session_once(r: &[u8], n: usize, i: usize) -> bool
     ensures { result ≡ every (λ y. not (same (get_or (sessions (read_row r.now).accesses) i []) y)) (drop (i + 1) (sessions (read_row r.now).accesses)) }
 {
     let this = row::session(r, row::line_place(r, i));
-    let mut j: usize = i + 1;
-    while j < n {
+    for j in i + 1..n {
         let other = row::session(r, row::line_place(r, j));
         if octets::same_bytes(this, other) {
             return false;
         }
-        j += 1;
     }
     true
 }
@@ -150,12 +142,10 @@ pub fn sessions_differ(r: &[u8]) -> bool
     ensures { result ≡ distinct same (sessions (read_row r.now).accesses) }
 {
     let n = accesses_in_use(r);
-    let mut i: usize = 0;
-    while i < n {
+    for i in 0..n {
         if !session_once(r, n, i) {
             return false;
         }
-        i += 1;
     }
     true
 }
@@ -167,13 +157,11 @@ pub fn accesses_on(r: &[u8], e: usize) -> usize
 {
     let n = accesses_in_use(r);
     let mut count: usize = 0;
-    let mut i: usize = 0;
-    while i < n {
+    for i in 0..n {
         let on = row::entry_of(r, row::line_place(r, i));
-        if octets::long(on) == e {
+        if usize::from(on) == e {
             count += 1;
         }
-        i += 1;
     }
     count
 }
@@ -184,12 +172,10 @@ pub fn under_limits(r: &[u8], n: usize) -> bool
     ensures { result ≡ under_limits 1 (limits (read_row r.now).entries) (read_row r.now).accesses }
 {
     let entries = row::entries_room(r);
-    let mut i: usize = 0;
-    while i < n {
-        if octets::long(row::limit(entries, i)) < accesses_on(r, i + 1) {
+    for i in 0..n {
+        if usize::from(row::limit(entries, i)) < accesses_on(r, i + 1) {
             return false;
         }
-        i += 1;
     }
     true
 }
@@ -204,7 +190,7 @@ fn head_sound(r: &[u8]) -> bool
     if !blocks::head_form(row::head(r)) {
         return false;
     }
-    let n = octets::long(row::entry_count(r));
+    let n = usize::from(row::entry_count(r));
     let entries = row::entries_room(r);
     if !blocks::entries_form(entries, n) {
         return false;
@@ -233,7 +219,7 @@ fn all_sound(r: &[u8]) -> bool
     if !sessions_differ(r) {
         return false;
     }
-    if !under_limits(r, octets::long(n)) {
+    if !under_limits(r, usize::from(n)) {
         return false;
     }
     blocks::block_sums_agree(row::head(r))

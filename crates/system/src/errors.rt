@@ -5,13 +5,11 @@ use std::io::Error;
 
 // The bytes of a message up to the system's number, which stands behind it in brackets.
 fn words_of(message: &[u8]) -> &[u8] {
-    let end = b" (os error ";
-    for i in 0..message.len() {
-        if message[i..].starts_with(end) {
-            return &message[..i];
-        }
+    let end: &[u8] = b" (os error ";
+    match message.windows(end.len()).position(|part| part == end) {
+        Some(i) => &message[..i],
+        None => message,
     }
-    message
 }
 
 impl System {

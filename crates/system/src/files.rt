@@ -2,15 +2,16 @@
 ghost use Rattle.std.specs.Prelude.{◌≤◌, length};
 
 use crate::names::text_of;
-use crate::standard::put_all;
-use crate::{EBADF, EMFILE, MOST_FILES, STDERR_FILENO, STDIN_FILENO, STDOUT_FILENO, System};
+use crate::{
+    EBADF, EMFILE, FIRST_FILENO, MOST_FILES, STDERR_FILENO, STDIN_FILENO, STDOUT_FILENO, System,
+};
 use std::fs::{File, Metadata, OpenOptions, Permissions};
 use std::io::{Read, Seek, SeekFrom, Write};
 use std::os::unix::fs::{MetadataExt, PermissionsExt, fchown};
 use std::{fs, io};
 
 // What the system knows of a file.
-#[derive(Clone, Copy)]
+#[derive(Clone, Copy, Default)]
 pub struct Status {
     pub device: u64,
     pub inode: u64,
@@ -59,26 +60,25 @@ fn open_to_write(system: &System, path: &str) -> io::Result<File> {
 }
 
 // The number of a place among the files.
-fn number_of(place: usize) -> i32 {
-    if place < MOST_FILES {
-        return place as i32 + 3;
-    }
-    -1
+fn number_of(place: usize) -> Option<i32> {
+    i32::try_from(place).ok()?.checked_add(FIRST_FILENO)
 }
 
-// The place of a file by its number; behind all of them for what is no number of a file.
-fn place_of(fd: i32) -> usize {
-    if fd < 3 {
-        return MOST_FILES;
-    }
-    (fd - 3) as usize
+// The place of a file by its number, if it is one.
+fn place_of(fd: i32) -> Option<usize> {
+    usize::try_from(fd.checked_sub(FIRST_FILENO)?).ok()
+}
+
+// The file of a number, where one is open.
+fn file_of(files: &[Option<File>; MOST_FILES], fd: i32) -> Option<&File> {
+    files.get(place_of(fd)?)?.as_ref()
 }
 
 impl System {
     // An open file gets the lowest number that is free.
-    fn keep(&self, file: File) -> i32 {
+    fn keep(&self, file: File) -> Option<i32> {
         let Ok(mut files) = self.files.try_borrow_mut() else {
-            return -1;
+            return None;
         };
         let all = &mut *files;
         for i in 0..MOST_FILES {
@@ -88,31 +88,25 @@ impl System {
             }
         }
         self.set_errno(EMFILE);
-        -1
+        None
     }
 
-    fn number(&self, opened: io::Result<File>) -> i32 {
-        match opened {
-            Ok(file) => self.keep(file),
-            Err(e) => {
-                self.failed(&e);
-                -1
-            }
-        }
+    fn number(&self, opened: io::Result<File>) -> Option<i32> {
+        self.keep(self.done(opened)?)
     }
 
-    // The number of a file that is opened to be read; -1 where it can not be, likewise below.
-    pub fn open_read(&self, path: &[u8]) -> i32 {
+    // The number of a file that is opened to be read, where it can be, likewise below.
+    pub fn open_read(&self, path: &[u8]) -> Option<i32> {
         self.number(open_old(self, path, false))
     }
 
     // The same of one to be read and written. Its bytes stay as they are.
-    pub fn open_update(&self, path: &[u8]) -> i32 {
+    pub fn open_update(&self, path: &[u8]) -> Option<i32> {
         self.number(open_old(self, path, true))
     }
 
     // The same of one that is made, where no file has the name.
-    pub fn create(&self, path: &[u8]) -> i32 {
+    pub fn create(&self, path: &[u8]) -> Option<i32> {
         self.number(open_new(self, path))
     }
 
@@ -120,10 +114,11 @@ impl System {
         let Ok(mut files) = self.files.try_borrow_mut() else {
             return;
         };
-        let i = place_of(fd);
-        if i < MOST_FILES {
-            let all = &mut *files;
-            all[i] = None;
+        let all = &mut *files;
+        if let Some(i) = place_of(fd) {
+            if i < MOST_FILES {
+                all[i] = None;
+            }
         }
     }
 
@@ -140,17 +135,8 @@ impl System {
         let Ok(files) = self.files.try_borrow() else {
             return 0;
         };
-        let i = place_of(fd);
-        if MOST_FILES <= i {
-            self.set_errno(EBADF);
-            return 0;
-        }
-        let all = &*files;
-        match &all[i] {
-            Some(file) => {
-                let mut from = file;
-                self.fill(&mut from, room)
-            }
+        match file_of(&files, fd) {
+            Some(mut file) => self.fill(&mut file, room),
             None => {
                 self.set_errno(EBADF);
                 0
@@ -188,12 +174,9 @@ impl System {
 
     // A text written to what is open by the system's own number 9, which another program opened; whether it is open.
     pub fn mark(&self, text: &[u8]) -> bool {
-        match open_to_write(self, "/proc/self/fd/9") {
-            Ok(mut file) => self.is_ok(&put_all(&mut file, text)),
-            Err(e) => {
-                self.failed(&e);
-                false
-            }
+        match self.done(open_to_write(self, "/proc/self/fd/9")) {
+            Some(mut file) => self.is_done(file.write_all(text)),
+            None => false,
         }
     }
 
@@ -231,14 +214,8 @@ impl System {
         let Ok(files) = self.files.try_borrow() else {
             return false;
         };
-        let i = place_of(fd);
-        if MOST_FILES <= i {
-            self.set_errno(EBADF);
-            return false;
-        }
-        let all = &*files;
-        match &all[i] {
-            Some(file) => self.is_ok(&apply(file, work)),
+        match file_of(&files, fd) {
+            Some(file) => self.is_done(apply(file, work)),
             None => {
                 self.set_errno(EBADF);
                 false
@@ -249,36 +226,20 @@ impl System {
     // What is known of an open file.
     pub fn fstat(&self, fd: i32) -> Option<Status> {
         if fd == STDOUT_FILENO {
-            return self.known(ask_by_name(self, "/proc/self/fd/1"));
+            return self.done(ask_by_name(self, "/proc/self/fd/1"));
         }
         if fd == STDERR_FILENO {
-            return self.known(ask_by_name(self, "/proc/self/fd/2"));
+            return self.done(ask_by_name(self, "/proc/self/fd/2"));
         }
         self.status(fd)
-    }
-
-    fn known(&self, asked: io::Result<Status>) -> Option<Status> {
-        match asked {
-            Ok(s) => Some(s),
-            Err(e) => {
-                self.failed(&e);
-                None
-            }
-        }
     }
 
     fn status(&self, fd: i32) -> Option<Status> {
         let Ok(files) = self.files.try_borrow() else {
             return None;
         };
-        let i = place_of(fd);
-        if MOST_FILES <= i {
-            self.set_errno(EBADF);
-            return None;
-        }
-        let all = &*files;
-        match &all[i] {
-            Some(file) => self.known(ask(file)),
+        match file_of(&files, fd) {
+            Some(file) => self.done(ask(file)),
             None => {
                 self.set_errno(EBADF);
                 None
@@ -301,18 +262,11 @@ enum Work<'a> {
 fn apply(file: &File, work: Work<'_>) -> io::Result<()> {
     let mut to = file;
     match work {
-        Work::Write(text) => put_all(&mut to, text),
-        Work::Seek(at) => moved(to.seek(at)),
+        Work::Write(text) => to.write_all(text),
+        Work::Seek(at) => to.seek(at).map(|_| ()),
         Work::Cut(length) => file.set_len(length),
         Work::ForceOut => file.sync_all(),
         Work::Own(owner, group) => fchown(file, Some(owner), Some(group)),
         Work::Mode(mode) => file.set_permissions(Permissions::from_mode(mode)),
-    }
-}
-
-fn moved(at: io::Result<u64>) -> io::Result<()> {
-    match at {
-        Ok(_) => Ok(()),
-        Err(e) => Err(e),
     }
 }

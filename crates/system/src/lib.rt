@@ -38,6 +38,9 @@ pub const STDOUT_FILENO: i32 = 1;
 
 pub const STDERR_FILENO: i32 = 2;
 
+// The number that the first of the others gets.
+const FIRST_FILENO: i32 = 3;
+
 // The most files that are open at a time.
 const MOST_FILES: usize = 64;
 

@@ -4,10 +4,7 @@ use std::fs::Files;
 use std::{fs, io, str};
 
 pub(crate) fn text_of(path: &[u8]) -> io::Result<&str> {
-    match str::from_utf8(path) {
-        Ok(text) => Ok(text),
-        Err(_) => Err(io::Error::from_raw_os_error(crate::EILSEQ)),
-    }
+    str::from_utf8(path).map_err(|_| io::Error::from_raw_os_error(crate::EILSEQ))
 }
 
 fn remove(system: &System, path: &[u8]) -> io::Result<()> {
@@ -26,30 +23,21 @@ fn is_symlink(system: &System, path: &[u8]) -> io::Result<bool> {
 impl System {
     // The file with this name removed; whether it was there to be removed.
     pub fn unlink(&self, path: &[u8]) -> bool {
-        self.is_ok(&remove(self, path))
+        self.is_done(remove(self, path))
     }
 
     // A file under another name, in the place of one that had it; whether that was done.
     pub fn rename(&self, from: &[u8], to: &[u8]) -> bool {
-        self.is_ok(&rename(self, from, to))
+        self.is_done(rename(self, from, to))
     }
 
     // Whether a name is that of a link.
     pub fn is_link(&self, path: &[u8]) -> bool {
-        match is_symlink(self, path) {
-            Ok(is_one) => is_one,
-            Err(e) => {
-                self.failed(&e);
-                false
-            }
-        }
+        self.done(is_symlink(self, path)) == Some(true)
     }
 
     // Whether there is a file of this name, a link followed.
     pub fn is_there(&self, path: &[u8]) -> bool {
-        match text_of(path) {
-            Ok(text) => fs::metadata(&self.rt, text).is_ok(),
-            Err(_) => false,
-        }
+        text_of(path).is_ok_and(|text| fs::metadata(&self.rt, text).is_ok())
     }
 }

@@ -4,11 +4,6 @@ use std::io::Write;
 use std::os::fd::{AsRawFd, IntoRawFd};
 use std::{fs, io, process};
 
-// All of a text written; the end of what takes no more counts as a failure.
-pub(crate) fn put_all<W: Write>(to: &mut W, text: &[u8]) -> io::Result<()> {
-    to.write_all(text)
-}
-
 impl System {
     pub(crate) fn put_out(&self, text: &[u8]) -> bool {
         if self.is_shut.get() {
@@ -16,12 +11,12 @@ impl System {
             return false;
         }
         let mut out = self.rt.stdout();
-        self.is_ok(&put_all(&mut out, text))
+        self.is_done(out.write_all(text))
     }
 
     pub(crate) fn put_error(&self, text: &[u8]) -> bool {
         let mut out = self.rt.stderr();
-        if self.is_ok(&put_all(&mut out, text)) {
+        if self.is_done(out.write_all(text)) {
             return true;
         }
         if self.errno() == EPIPE {
@@ -40,26 +35,25 @@ impl System {
         self.set_errno(EPIPE);
     }
 
-    pub(crate) fn is_ok(&self, done: &io::Result<()>) -> bool {
-        match done {
-            Ok(()) => true,
+    // What a call gave; the reason is kept where it failed.
+    pub(crate) fn done<T>(&self, called: io::Result<T>) -> Option<T> {
+        match called {
+            Ok(given) => Some(given),
             Err(e) => {
-                self.failed(e);
-                false
+                self.failed(&e);
+                None
             }
         }
+    }
+
+    pub(crate) fn is_done(&self, called: io::Result<()>) -> bool {
+        self.done(called).is_some()
     }
 
     // Whether standard output can be written.
     pub fn is_output(&self) -> bool {
         let mut out = self.rt.stdout();
-        match out.write(b"") {
-            Ok(_) => true,
-            Err(e) => {
-                self.failed(&e);
-                false
-            }
-        }
+        self.done(out.write(b"")).is_some()
     }
 
     // Standard output takes nothing from here on.

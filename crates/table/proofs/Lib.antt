@@ -9,3 +9,4 @@ pub mod Entries
 pub mod WorkedCases
 pub mod Columns
 pub mod Labels
+pub mod Chunks

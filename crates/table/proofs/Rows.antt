@@ -11,7 +11,6 @@ use lib.ListN.{length, get_or, set, take, drop}
 use lib.Seq.{drop-drop, get_or-drop, get_or-take}
 use Rattle.octets.specs.Choice.{pick, require, within}
 use Rattle.octets.specs.Texts.{part, pieces, same, all_zero}
-use Rattle.octets.specs.Lists.{keep}
 use Rattle.octets.proofs.Choice.{first_passes, others-pass, passed}
 use Rattle.octets.specs.Numbers.{low64}
 use Rattle.octets.proofs.Pieces.{joined, join-pieces, length-piece, length-with, next-begins, part-take, piece-ends, piece-other, piece-with, pieces-at, pieces-with, with-same}
@@ -27,6 +26,9 @@ use Rattle.table.proofs.Widths.{fewer-rows, rows-order, split}
 pub width-least : (f : ℕ) → block_length ≤ row_length f
 unfolding row_length
 width-least f = omega arith
+
+pub width-some : (f : ℕ) → 0 < row_length f
+width-some f = omega (arith, width-least f)
 
 pub width-most : (f : ℕ) → f ≤ 2 → row_length f ≤ row_most
 unfolding row_length
@@ -154,12 +156,12 @@ unfoldable pub past : ℕ → Found → Found
 past i (row j) = row (i + j)
 past i nothing = nothing
 
-past-later : (i : ℕ) (f : Found) → past i (later f) ≡ past (i + 1) f
+pub past-later : (i : ℕ) (f : Found) → past i (later f) ≡ past (i + 1) f
 unfolding past later
 past-later i (row j) = let q : i + suc j ≡ i + 1 + j = omega arith in rw q
 past-later i nothing = refl
 
-past-none : (f : Found) → past 0 f ≡ f
+pub past-none : (f : Found) → past 0 f ≡ f
 unfolding past
 past-none (row j) = let q : 0 + j ≡ j = omega arith in rw q
 past-none nothing = refl
@@ -202,30 +204,6 @@ module _ (f : List ℕ → Bool) (w n : ℕ) (t : List ℕ) where
       (λ q. let p : suc k ≡ k + 1 = omega arith in
       let le : i ≤ k = omega (arith, eqb-false i (suc k) q) in
       rw p (search-on k (omega arith) (e k le (omega arith))) ∙ search-skip i k le (omega arith) (λ j a b. e j a (omega arith)))
-
--- HOW MANY PASS
-
-module _ (f : List ℕ → Bool) (w n : ℕ) (t : List ℕ) where
-  -- of the first n rows of w bytes, those from row i on
-  unfoldable pub kept_from : ℕ → ℕ
-  kept_from i = length (keep f (pieces w (n - i) (drop (w * i) t)))
-
-  pub kept-all : kept_from 0 ≡ length (keep f (pieces w n t))
-  unfolding kept_from
-  kept-all = let q : n - 0 ≡ n = omega arith in rw (q, mul-zero)
-
-  -- row i passes; it does not; no row is left
-  pub kept_here : (i : ℕ) → i < n → f (part t (w * i) w) ≡ true → kept_from i ≡ suc (kept_from (i + 1))
-  unfolding kept_from keep pick
-  kept_here i h e = rw (cut-row f w n t i h, e)
-
-  pub kept_on : (i : ℕ) → i < n → f (part t (w * i) w) ≡ false → kept_from i ≡ kept_from (i + 1)
-  unfolding kept_from keep pick
-  kept_on i h e = rw (cut-row f w n t i h, e)
-
-  pub kept-end : (i : ℕ) → n ≤ i → kept_from i ≡ 0
-  unfolding kept_from keep pieces
-  kept-end i h = let q : n - i ≡ 0 = omega arith in rw q
 
 -- A PART THAT IS LENT
 

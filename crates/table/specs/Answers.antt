@@ -1,13 +1,11 @@
 -- What the answers of the code say, in the paper's terms.
-use Rattle.std.specs.Prelude.{ℕ, ◌+◌, ◌*◌, List}
-use Rattle.table.specs.declared.RowFound.{RowFound}
-use Rattle.table.specs.declared.RowFound.TheVariants.{At, Nothing}
+use Rattle.std.specs.Prelude.{ℕ, ◌+◌, ◌*◌, List, Option, Some, None}
 use Rattle.table.specs.TheTable.{block_length, place_length, most_rows, Found, Table, row, nothing, row_length}
 
 -- The row that was found, or none.
-abbrev pub found : RowFound → Found
-found (At i) = row i
-found Nothing = nothing
+abbrev pub found : Option ℕ → Found
+found (Some i) = row i
+found None = nothing
 
 -- A table, from what is lent.
 abbrev pub lent : (form : ℕ) → (bytes : List ℕ) → Table
@@ -21,6 +19,6 @@ abbrev pub table_most : ℕ
 table_most = most_rows * row_most
 
 -- The byte behind the row that was found; 0 where none was.
-abbrev pub row_end : (form : ℕ) → RowFound → ℕ
-row_end form (At i) = row_length form * i + row_length form
-row_end form Nothing = 0
+abbrev pub row_end : (form : ℕ) → Option ℕ → ℕ
+row_end form (Some i) = row_length form * i + row_length form
+row_end form None = 0

@@ -108,9 +108,11 @@ fn column(s: &[u8], j: usize) -> Plain
     let mut b: u16 = 0;
     let mut at: usize = j;
     let mut k: usize = 0;
+
+    // An index loop: the place goes up by a row of 32, so that the loop has no multiplication.
     while k < 16 {
         b += a;
-        a += octets::half(s[at]);
+        a += u16::from(s[at]);
         at += 32;
         k += 1;
     }
@@ -137,24 +139,19 @@ pub fn sums_of(s: &[u8]) -> Sums
     let mut a: u16 = 0;
     let mut b: u16 = 0;
     let mut weight: u16 = 32;
-    let mut j: usize = 0;
-    while j < 32 {
+    for j in 0..32 {
         let c = column(s, j);
         let first = folded(c.first);
         let before = folded(c.before);
         a += first;
         b += folded(32 * before + weight * first);
         weight -= 1;
-        j += 1;
     }
-    let p = octets::half(s[SECOND_SUM]);
-    let q = octets::half(s[FIRST_SUM]);
+    let p = u16::from(s[SECOND_SUM]);
+    let q = u16::from(s[FIRST_SUM]);
     let first = (a + 510 - p - q) % 255;
     let second = (b + 1530 - 2 * first - 2 * p - q) % 255;
-    Sums {
-        first: first,
-        second: second,
-    }
+    Sums { first, second }
 }
 
 // THE ROWS OF A TABLE
@@ -197,13 +194,6 @@ pub fn number_for(t: &[u8], form: u32, op: u32) -> u32
     0
 }
 
-// The first row that passes a test, counted from 0.
-#[derive(Clone, Copy)]
-pub enum RowFound {
-    At(usize),
-    Nothing,
-}
-
 // Whether a row is found by the name. Nothing behind the name's bytes is read.
 fn has_name(r: &[u8], name: &[u8]) -> bool
     requires { 20 ≤ length r.now }
@@ -212,7 +202,7 @@ fn has_name(r: &[u8], name: &[u8]) -> bool
     if r[0] != 1 {
         return false;
     }
-    let n = octets::long(r[1]);
+    let n = usize::from(r[1]);
     if n < 1 {
         return false;
     }
@@ -231,7 +221,7 @@ fn is_row_of(r: &[u8], op: u32, name: &[u8]) -> bool
     requires { 20 ≤ length r.now }
     ensures { result ≡ is_row_of (record { operator = op; name = name.now }) r.now }
 {
-    if octets::wide(r[OPERATOR]) != op {
+    if u32::from(r[OPERATOR]) != op {
         return false;
     }
     has_name(r, name)
@@ -245,6 +235,8 @@ fn next_like(t: &[u8], form: usize, end: u64, from: usize) -> usize
 {
     let width = row_length(form);
     let mut at: usize = from;
+
+    // An index loop: the step is the width of a row, and the place itself is the answer.
     while at < t.len() {
         if octets::eight(t, at) == end {
             break;
@@ -278,8 +270,10 @@ fn rows_passed(t: &[u8], form: usize, op: u32, name: &[u8], i: usize) -> usize
     let operators = &t[behind..all];
     let width = row_length(form);
     let mut at: usize = next_like(t, form, end, width * i + (n - 6));
+
+    // An index loop: each place is the one that `next_like` finds.
     while at < t.len() {
-        if octets::wide(operators[at]) == op {
+        if u32::from(operators[at]) == op {
             break;
         }
         at = next_like(t, form, end, at + width);
@@ -287,23 +281,25 @@ fn rows_passed(t: &[u8], form: usize, op: u32, name: &[u8], i: usize) -> usize
     at / width
 }
 
-// A subscriber's row, sound or not.
-pub fn lookup(t: &[u8], form: usize, op: u32, name: &[u8]) -> RowFound
+// A subscriber's row, counted from 0, sound or not.
+pub fn lookup(t: &[u8], form: usize, op: u32, name: &[u8]) -> Option<usize>
     requires { table_number (lent form t.now) ≡ 0 }
     ensures { (found result ≡ lookup (lent form t.now) (record { operator = op; name = name.now })) × (row_end form result ≤ length t.now) }
 {
     let width = row_length(form);
     let mut n: usize = rows_passed(t, form, op, name, 0);
     let mut at: usize = width * n;
+
+    // An index loop: each row is the one behind those that `rows_passed` passes.
     while at < t.len() {
         let end = at + width;
         if is_row_of(&t[at..end], op, name) {
-            return RowFound::At(n);
+            return Some(n);
         }
         n = rows_passed(t, form, op, name, n + 1);
         at = width * n;
     }
-    RowFound::Nothing
+    None
 }
 
 // Whether a row is one of an operator's.
@@ -314,7 +310,7 @@ fn is_own(r: &[u8], op: u32) -> bool
     if r[0] != 1 {
         return false;
     }
-    octets::wide(r[OPERATOR]) == op
+    u32::from(r[OPERATOR]) == op
 }
 
 // How many rows are an operator's.
@@ -322,15 +318,11 @@ pub fn own_rows(t: &[u8], form: usize, op: u32) -> u32
     requires { table_number (lent form t.now) ≡ 0 }
     ensures { result ≡ length (own_rows op (lent form t.now)) }
 {
-    let width = row_length(form);
     let mut count: u32 = 0;
-    let mut at: usize = 0;
-    while at < t.len() {
-        let end = at + width;
-        if is_own(&t[at..end], op) {
+    for r in t.chunks_exact(row_length(form)) {
+        if is_own(r, op) {
             count += 1;
         }
-        at = end;
     }
     count
 }
@@ -346,21 +338,15 @@ fn zero_row(r: &[u8]) -> bool
     octets::all_zero(r)
 }
 
-// The first wholly zero row.
-pub fn first_zero_row(t: &[u8], form: usize) -> RowFound
+// The first wholly zero row, counted from 0.
+pub fn first_zero_row(t: &[u8], form: usize) -> Option<usize>
     requires { table_number (lent form t.now) ≡ 0 }
     ensures { (found result ≡ first_row all_zero (rows (lent form t.now))) × (row_end form result ≤ length t.now) }
 {
-    let width = row_length(form);
-    let mut i: usize = 0;
-    let mut at: usize = 0;
-    while at < t.len() {
-        let end = at + width;
-        if zero_row(&t[at..end]) {
-            return RowFound::At(i);
+    for (i, r) in t.chunks_exact(row_length(form)).enumerate() {
+        if zero_row(r) {
+            return Some(i);
         }
-        i += 1;
-        at = end;
     }
-    RowFound::Nothing
+    None
 }

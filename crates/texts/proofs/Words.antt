@@ -11,20 +11,6 @@ use Rattle.octets.specs.Texts.{part, put}
 use Rattle.octets.proofs.Lists.{by-test}
 use Rattle.octets.proofs.Texts.{length_part, put_then}
 
--- a word that fills its array
-pub put_whole : (d s : List ℕ) → length s ≡ length d → put d 0 s ≡ s
-unfolding put
-put_whole d s e =
-    let z : drop (0 + length s) d ≡ [] = drop_of_length-le d {i = 0 + length s} (omega (arith, e)) in
-    ap (λ (x : List ℕ). s ++ x) z ∙ append-nil s
-
--- a word that was read whole, and written
-pub put_word : (room : List ℕ) (at : ℕ) (s zero word : List ℕ) (from end k : ℕ) → length zero ≡ k → from + k ≤ length s → end ≡ from + k
-    → word ≡ put zero 0 (take (end - from) (drop from s)) → put room at word ≡ put room at (part s from k)
-put_word room at s zero word from end k l h e w =
-    let n : end - from ≡ k = omega (arith, e) in
-    ap (put room at) (rw n at w ∙ put_whole zero (part s from k) (length_part s from k h ∙ sym l))
-
 -- the word behind the j bytes from f on
 pub part-next : (d : List ℕ) (at : ℕ) (s : List ℕ) (f j k : ℕ) → at + j ≤ length d → f + j ≤ length s
     → put (put d at (part s f j)) (at + j) (part s (f + j) k) ≡ put d at (part s f (j + k))

@@ -5,35 +5,14 @@
 ghost use Rattle.std.specs.Prelude.{◌≡◌, ◌+◌, ◌≤◌, ◌<◌, length};
 ghost use Rattle.octets.specs.Texts.{part, put};
 
-// The 16 bytes of `src` from `from` on, written into `room` from `at` on.
-fn put_16(room: &mut [u8], at: usize, src: &[u8], from: usize)
-    requires { (from + 16 ≤ length src.now) × (at + 16 ≤ length room.old) }
-    ensures { room.new ≡ put room.old at (part src.now from 16) }
+// N bytes of `src` from `from` on, written into `room` from `at` on.
+fn put_word<const N: usize>(room: &mut [u8], at: usize, src: &[u8], from: usize)
+    requires { (from + N ≤ length src.now) × (at + N ≤ length room.old) }
+    ensures { room.new ≡ put room.old at (part src.now from N) }
 {
-    let mut word = [0u8; 16];
-    let end = from + 16;
-    octets::put_bytes(&mut word, 0, &src[from..end]);
-    octets::put_bytes(room, at, &word);
-}
-
-fn put_8(room: &mut [u8], at: usize, src: &[u8], from: usize)
-    requires { (from + 8 ≤ length src.now) × (at + 8 ≤ length room.old) }
-    ensures { room.new ≡ put room.old at (part src.now from 8) }
-{
-    let mut word = [0u8; 8];
-    let end = from + 8;
-    octets::put_bytes(&mut word, 0, &src[from..end]);
-    octets::put_bytes(room, at, &word);
-}
-
-fn put_4(room: &mut [u8], at: usize, src: &[u8], from: usize)
-    requires { (from + 4 ≤ length src.now) × (at + 4 ≤ length room.old) }
-    ensures { room.new ≡ put room.old at (part src.now from 4) }
-{
-    let mut word = [0u8; 4];
-    let end = from + 4;
-    octets::put_bytes(&mut word, 0, &src[from..end]);
-    octets::put_bytes(room, at, &word);
+    let mut word = [0u8; N];
+    word.copy_from_slice(&src[from..from + N]);
+    room[at..at + N].copy_from_slice(&word);
 }
 
 // A text of at most 16 bytes.
@@ -43,13 +22,13 @@ fn put_short(room: &mut [u8], at: usize, src: &[u8])
 {
     let n = src.len();
     if 8 <= n {
-        put_8(room, at, src, 0);
-        put_8(room, at + (n - 8), src, n - 8);
+        put_word::<8>(room, at, src, 0);
+        put_word::<8>(room, at + (n - 8), src, n - 8);
         return;
     }
     if 4 <= n {
-        put_4(room, at, src, 0);
-        put_4(room, at + (n - 4), src, n - 4);
+        put_word::<4>(room, at, src, 0);
+        put_word::<4>(room, at + (n - 4), src, n - 4);
         return;
     }
     octets::put_bytes(room, at, src);
@@ -62,14 +41,14 @@ fn put_medium(room: &mut [u8], at: usize, src: &[u8])
 {
     let n = src.len();
     if n <= 32 {
-        put_16(room, at, src, 0);
-        put_16(room, at + (n - 16), src, n - 16);
+        put_word::<16>(room, at, src, 0);
+        put_word::<16>(room, at + (n - 16), src, n - 16);
         return;
     }
-    put_16(room, at, src, 0);
-    put_16(room, at + 16, src, 16);
-    put_16(room, at + (n - 32), src, n - 32);
-    put_16(room, at + (n - 16), src, n - 16);
+    put_word::<16>(room, at, src, 0);
+    put_word::<16>(room, at + 16, src, 16);
+    put_word::<16>(room, at + (n - 32), src, n - 32);
+    put_word::<16>(room, at + (n - 16), src, n - 16);
 }
 
 // The bytes of `src` written into `room` from `at` on.
@@ -87,12 +66,10 @@ pub fn put_text(room: &mut [u8], at: usize, src: &[u8])
         return;
     }
     let last = n - 16;
-    let mut j: usize = 0;
-    while j < last {
-        put_16(room, at + j, src, j);
-        j += 16;
+    for j in (0..last).step_by(16) {
+        put_word::<16>(room, at + j, src, j);
     }
-    put_16(room, at + last, src, last);
+    put_word::<16>(room, at + last, src, last);
 }
 
 // The 64 bytes of `src` from `from` on, written into `room` from `at` on: four words, and no loop.
@@ -100,10 +77,10 @@ fn put_64(room: &mut [u8], at: usize, src: &[u8], from: usize)
     requires { (from + 64 ≤ length src.now) × (at + 64 ≤ length room.old) }
     ensures { room.new ≡ put room.old at (part src.now from 64) }
 {
-    put_16(room, at, src, from);
-    put_16(room, at + 16, src, from + 16);
-    put_16(room, at + 32, src, from + 32);
-    put_16(room, at + 48, src, from + 48);
+    put_word::<16>(room, at, src, from);
+    put_word::<16>(room, at + 16, src, from + 16);
+    put_word::<16>(room, at + 32, src, from + 32);
+    put_word::<16>(room, at + 48, src, from + 48);
 }
 
 // A text of at most 128 bytes: above 64 the first 64 and the last 64, and no loop.

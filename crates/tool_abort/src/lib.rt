@@ -2,10 +2,8 @@
 // table of form 2, which have the gateway's realm. They are known to be whole before anything is written.
 #![tactic(auto)]
 
-use abort::Written;
 use system::System;
 use tool_notice_line::Lengths;
-use tool_operator::Number;
 use tool_words::{number, say};
 
 // The files that are open, and the identifiers of the first request.
@@ -16,37 +14,18 @@ struct Desk {
     first: u32,
 }
 
-// How many notices were read, and how many requests written; `going` is false at the end of the file, `well` once something could not be read or written.
+// How many notices were read, and how many requests written.
 #[derive(Clone, Copy)]
 struct Done {
     notices: usize,
     requests: usize,
-    going: bool,
-    well: bool,
 }
 
-fn ended(d: Done, well: bool) -> Done {
-    Done {
-        notices: d.notices,
-        requests: d.requests,
-        going: false,
-        well,
-    }
-}
-
-fn more(n: usize) -> usize {
-    if n < 4294967296 {
-        return n + 1;
-    }
-    n
-}
+// Something could not be read or written.
+#[derive(Clone, Copy)]
+struct Broken;
 
 // ONE NOTICE
-
-// Both identifiers of a request. They are counted, and begin again at 0 behind the largest.
-fn identifier(first: u32, before: usize) -> u32 {
-    ((first as usize + before % 4294967296) % 4294967296) as u32
-}
 
 // The start of the line of a notice.
 fn begin(
@@ -98,30 +77,7 @@ fn tell_written(
     tool_files::print(sys, &out, f)
 }
 
-// The first n bytes of the room, written; why not is said of the file.
-fn put(sys: &System, fd: i32, path: &[u8], room: &[u8; abort::ROOM_LEAST], n: usize) -> bool {
-    let all: &[u8] = room;
-    if all.len() < n {
-        return false;
-    }
-    if sys.write_all(fd, &all[0..n]) {
-        return true;
-    }
-    tool_files::refuse_file(sys, path);
-    false
-}
-
-// What came of a notice, counted, if it could be said.
-fn counted(d: Done, requests: usize, said: bool) -> Done {
-    Done {
-        notices: more(d.notices),
-        requests,
-        going: said,
-        well: said,
-    }
-}
-
-// A request made of a notice, written and said.
+// A request made of a notice, written and said. Both its identifiers are counted, and begin again at 0 behind the largest.
 fn abort_one(
     sys: &System,
     desk: Desk,
@@ -130,30 +86,38 @@ fn abort_one(
     realm: &[u8],
     notice: &[u8; answers::NOTICE_LENGTH_2],
     d: Done,
-) -> Done {
+) -> Result<Done, Broken> {
     let mut room = [0u8; abort::ROOM_LEAST];
     let l = tool_notice_line::lengths_of(notice);
-    let id = identifier(desk.first, d.requests);
+    let id = desk.first.wrapping_add((d.requests % 4294967296) as u32);
     let w = abort::write(
         host, realm, notice, l.session, l.host, l.realm, id, id, &mut room,
     );
-    let k = more(d.notices);
+    let notices = d.notices.saturating_add(1);
     if w.number != 0 {
-        return counted(d, d.requests, tell_refused(sys, k, notice, l, w.number));
+        if tell_refused(sys, notices, notice, l, w.number) {
+            return Ok(Done { notices, ..d });
+        }
+        return Err(Broken);
     }
-    if !put(sys, desk.requests, path, &room, w.length) {
-        return ended(d, false);
+    let Some(request) = room.get(..w.length) else {
+        return Err(Broken);
+    };
+    if !tool_sheets::put(sys, desk.requests, path, request) {
+        return Err(Broken);
     }
-    counted(
-        d,
-        more(d.requests),
-        tell_written(sys, k, notice, l, id, w.length),
-    )
+    if !tell_written(sys, notices, notice, l, id, w.length) {
+        return Err(Broken);
+    }
+    Ok(Done {
+        notices,
+        requests: d.requests.saturating_add(1),
+    })
 }
 
 // ALL NOTICES
 
-// The next notice of the file.
+// The next notice of the file, if there is one.
 fn step(
     sys: &System,
     desk: Desk,
@@ -162,36 +126,39 @@ fn step(
     host: &[u8],
     realm: &[u8],
     d: Done,
-) -> Done {
+) -> Result<Option<Done>, Broken> {
     let mut notice = [0u8; answers::NOTICE_LENGTH_2];
     let got = tool_notices::read(sys, desk.notices, 2, &mut notice);
     if got == 0 {
-        return ended(d, true);
+        return Ok(None);
     }
     if got < answers::NOTICE_LENGTH_2 {
-        tool_notices::refuse_end(sys, from, 2, more(d.notices));
-        return ended(d, false);
+        tool_notices::refuse_end(sys, from, 2, d.notices.saturating_add(1));
+        return Err(Broken);
     }
-    abort_one(sys, desk, to, host, realm, &notice, d)
+    Ok(Some(abort_one(sys, desk, to, host, realm, &notice, d)?))
 }
 
-// A proved loop has to end, and nothing says that a file does, so the turns are counted down.
-fn follow(sys: &System, desk: Desk, from: &[u8], to: &[u8], host: &[u8], realm: &[u8]) -> Done {
+// A proved loop has to end, and nothing says that a file does, so the turns are counted.
+fn follow(
+    sys: &System,
+    desk: Desk,
+    from: &[u8],
+    to: &[u8],
+    host: &[u8],
+    realm: &[u8],
+) -> Result<Done, Broken> {
     let mut d = Done {
         notices: 0,
         requests: 0,
-        going: true,
-        well: true,
     };
-    let mut turns: usize = 4294967296;
-    while turns > 0 {
-        turns -= 1;
-        d = step(sys, desk, from, to, host, realm, d);
-        if !d.going {
-            return d;
-        }
+    for _ in 0..4294967296usize {
+        let Some(next) = step(sys, desk, from, to, host, realm, d)? else {
+            return Ok(d);
+        };
+        d = next;
     }
-    d
+    Ok(d)
 }
 
 fn summary(sys: &System, d: Done) {
@@ -204,10 +171,9 @@ fn summary(sys: &System, d: Done) {
 }
 
 fn abort_all(sys: &System, desk: Desk, from: &[u8], to: &[u8], host: &[u8], realm: &[u8]) {
-    let d = follow(sys, desk, from, to, host, realm);
-    if !d.well {
+    let Ok(d) = follow(sys, desk, from, to, host, realm) else {
         return;
-    }
+    };
     if tool_sheets::force_out(sys, desk.requests, to) {
         summary(sys, d);
     }
@@ -233,14 +199,14 @@ fn check_names(sys: &System, host: &[u8], realm: &[u8]) -> bool {
 // Whether the notices in an open file have realms; why not is said.
 fn check_form(sys: &System, fd: i32, path: &[u8], said: u32) -> bool {
     let form = tool_notices::form_of(sys, fd, path, said);
-    if form == 1 {
+    if form == Some(1) {
         tool_files::refuse_word(
             sys,
             path,
             b": notices of form 1: a request needs the gateway's realm, which only form 2 has",
         );
     }
-    form == 2
+    form == Some(2)
 }
 
 fn open_and_abort(
@@ -255,17 +221,15 @@ fn open_and_abort(
     if !check_names(sys, host, realm) {
         return;
     }
-    let notices = tool_files::open_plain(sys, from);
-    if notices < 0 {
+    let Some(notices) = tool_files::open_plain(sys, from) else {
         return;
-    }
+    };
     if !check_form(sys, notices, from, said) {
         return;
     }
-    let requests = tool_sheets::open_beside(sys, to, notices);
-    if requests < 0 {
+    let Some(requests) = tool_sheets::open_beside(sys, to, notices) else {
         return;
-    }
+    };
     let desk = Desk {
         notices,
         requests,
@@ -276,39 +240,20 @@ fn open_and_abort(
 
 // Whether word i, if it is there, is the first that says the identifiers or the first that says a form.
 fn is_word(sys: &System, i: usize) -> bool {
-    if sys.arg_count() <= i {
-        return true;
-    }
-    if tool_operator::find(sys, 6, b"first=") == i {
-        return true;
-    }
-    tool_operator::find(sys, 6, b"form=") == i
+    sys.arg_count() <= i
+        || tool_operator::find(sys, 6, b"first=") == Some(i)
+        || tool_operator::find(sys, 6, b"form=") == Some(i)
 }
 
 fn check_words(sys: &System) -> bool {
-    if is_word(sys, 6) {
-        if is_word(sys, 7) {
-            return true;
-        }
+    if is_word(sys, 6) && is_word(sys, 7) {
+        return true;
     }
     tool_files::refuse(
         sys,
         b"the last words may be first=N and form=1 or form=2, each once, and nothing else",
     );
     false
-}
-
-// The identifiers that word i says, 1 where there is no such word. One that says no number gets its line.
-fn first_of(sys: &System, i: usize) -> Number {
-    if i == 0 {
-        return Number::Is(1);
-    }
-    let said = tool_operator::number_behind(sys, i, 6);
-    let Number::Is(n) = said else {
-        tool_files::refuse(sys, b"behind first= stands a number, 0 to 99999999");
-        return Number::Nothing;
-    };
-    Number::Is(n)
 }
 
 // The four words, under what the others say.
@@ -338,11 +283,11 @@ pub fn run(sys: &System) {
         return;
     }
     let word = tool_form::word(sys, tool_operator::find(sys, 6, b"form="));
-    let Number::Is(form) = word else {
+    let Some(form) = word else {
         return;
     };
-    let said = first_of(sys, tool_operator::find(sys, 6, b"first="));
-    let Number::Is(first) = said else {
+    let said = tool_operator::first(sys, tool_operator::find(sys, 6, b"first="));
+    let Some(first) = said else {
         return;
     };
     run_under(sys, form, first);

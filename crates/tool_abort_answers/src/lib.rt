@@ -2,10 +2,6 @@
 // one is held against every request that has its identifiers.
 #![tactic(auto)]
 
-ghost use Rattle.std.specs.Prelude.{◌≤◌};
-ghost use Rattle.message.specs.CallsThatGetNoAnswer.{message_most};
-
-use message::Span;
 use reader::{Seen, Step};
 use system::System;
 use tool_streams::{Source, Way};
@@ -13,37 +9,23 @@ use tool_words::{number, say};
 
 // ONE REQUEST
 
-// Where the Session-Id of a request stands, as its first AVP; of no bytes where it does not.
-fn session_of(m: &[u8]) -> Span {
-    let step = reader::avp_at(m, message::HEADER_LENGTH);
-    let Step::One(s) = step else {
-        return Span { at: 0, len: 0 };
+// The Session-Id of a request, if that is its first AVP.
+fn session_of(m: &[u8]) -> Option<&[u8]> {
+    let Step::One(s) = reader::avp_at(m, message::HEADER_LENGTH) else {
+        return None;
     };
-    if 128 <= s.flags {
-        return Span { at: 0, len: 0 };
+    if 128 <= s.flags || s.code != 263 {
+        return None;
     }
-    if s.code != 263 {
-        return Span { at: 0, len: 0 };
-    }
-    Span {
-        at: s.value,
-        len: s.len,
-    }
+    m.get(s.value..)?.get(..s.len)
 }
 
 // The Session-Id of a request, said.
 fn say_session(out: &mut [u8; 4096], at: usize, m: &[u8]) -> usize {
-    let s = session_of(m);
-    let from = s.at;
-    let n = s.len;
-    if m.len() < from {
-        return at;
+    match session_of(m) {
+        Some(session) => tool_words::text(out, at, session),
+        None => at,
     }
-    if m.len() - from < n {
-        return at;
-    }
-    let end = from + n;
-    tool_words::text(out, at, &m[from..end])
 }
 
 // Whether an answer belongs to a request.
@@ -51,142 +33,76 @@ fn belongs(answer: &[u8], m: &[u8]) -> bool {
     if m.len() < message::HEADER_LENGTH {
         return false;
     }
-    let s = session_of(m);
-    let from = s.at;
-    let n = s.len;
-    if m.len() < from {
+    let Some(session) = session_of(m) else {
         return false;
-    }
-    if m.len() - from < n {
-        return false;
-    }
-    let end = from + n;
+    };
     let hop = octets::read32(m, 12);
-    abort::answered(answer, &m[from..end], hop, octets::read32(m, 16))
+    abort::answered(answer, session, hop, octets::read32(m, 16))
 }
 
-// How an answer stands to a request.
-const OTHER: u8 = 0;
+// How an answer stands to a request: it has other identifiers, or the same and is not its answer, or it is.
+#[derive(Clone, Copy, PartialEq, Eq)]
+enum How {
+    Other,
+    Alike,
+    Its,
+}
 
-const ALIKE: u8 = 1;
-
-const ITS: u8 = 2;
-
-fn compare(answer: &[u8], m: &[u8]) -> u8 {
-    if answer.len() < message::HEADER_LENGTH {
-        return OTHER;
+fn compare(answer: &[u8], m: &[u8]) -> How {
+    if answer.len() < message::HEADER_LENGTH || m.len() < message::HEADER_LENGTH {
+        return How::Other;
     }
-    if m.len() < message::HEADER_LENGTH {
-        return OTHER;
-    }
-    if !octets::same_bytes(&answer[12..20], &m[12..20]) {
-        return OTHER;
+    if answer[12..20] != m[12..20] {
+        return How::Other;
     }
     if belongs(answer, m) {
-        return ITS;
+        return How::Its;
     }
-    ALIKE
+    How::Alike
 }
 
 // ALL REQUESTS. They stand in a room, back to back.
 
-// The bytes of the request at a place of the room, 0 where there is none.
-fn length_at(all: &[u8], at: usize) -> usize
-    ensures { result ≤ message_most }
-{
-    if all.len() < at {
-        return 0;
+// The request at a place of the room, if there is one.
+fn request_at(all: &[u8], at: usize) -> Option<&[u8]> {
+    let rest = all.get(at..)?;
+    if rest.len() < message::HEADER_LENGTH {
+        return None;
     }
-    if all.len() - at < message::HEADER_LENGTH {
-        return 0;
+    let n = octets::read24(rest, 1);
+    if n == 0 || message::LENGTH_MOST < n {
+        return None;
     }
-    let n = octets::read24(all, at + 1);
-    if message::LENGTH_MOST < n {
-        return 0;
-    }
-    if all.len() - at < n {
-        return 0;
-    }
-    n
+    rest.get(..n)
 }
 
-// How an answer stands to the request of n bytes at a place.
-fn compare_at(all: &[u8], at: usize, n: usize, answer: &[u8]) -> u8 {
-    if all.len() < at {
-        return OTHER;
-    }
-    if all.len() - at < n {
-        return OTHER;
-    }
-    let end = at + n;
-    compare(answer, &all[at..end])
-}
-
-// The request that an answer belongs to: where it stands, and its number, counted from 1. If there is none, the number of one that has its identifiers,
-// 0 for none.
+// The request that an answer belongs to: where it stands, and its number, counted from 1.
 #[derive(Clone, Copy)]
 struct Match {
-    found: bool,
     at: usize,
     k: usize,
 }
 
-fn find(all: &[u8], answer: &[u8]) -> Match {
-    let mut alike: usize = 0;
+// The request that an answer belongs to. If there is none, the number of the last one that has its identifiers, if one has.
+fn find(all: &[u8], answer: &[u8]) -> Result<Match, Option<usize>> {
+    let mut alike = None;
     let mut at: usize = 0;
-    let mut k: usize = 1;
-    while k < 4294967296 {
-        let n = length_at(all, at);
-        if n == 0 {
-            return Match {
-                found: false,
-                at: 0,
-                k: alike,
-            };
+    for k in 1..4294967296usize {
+        let Some(m) = request_at(all, at) else {
+            return Err(alike);
+        };
+        match compare(answer, m) {
+            How::Its => {
+                return Ok(Match { at, k });
+            }
+            How::Alike => {
+                alike = Some(k);
+            }
+            How::Other => {}
         }
-        let how = compare_at(all, at, n, answer);
-        if how == ITS {
-            return Match { found: true, at, k };
-        }
-        if how == ALIKE {
-            alike = k;
-        }
-        at = sum(at, n);
-        k += 1;
+        at = at.saturating_add(m.len());
     }
-    Match {
-        found: false,
-        at: 0,
-        k: alike,
-    }
-}
-
-// The sum, where it is of a room's size.
-fn sum(a: usize, b: usize) -> usize {
-    if 4294967296 < a {
-        return a;
-    }
-    if message::LENGTH_MOST < b {
-        return a;
-    }
-    a + b
-}
-
-// Whether the n bytes at a place are a request to disconnect with its Session-Id first.
-fn is_request_at(all: &[u8], at: usize, n: usize) -> bool {
-    if all.len() < at {
-        return false;
-    }
-    if all.len() - at < n {
-        return false;
-    }
-    let end = at + n;
-    let m = &all[at..end];
-    if !tool_message_line::is_abort(m) {
-        return false;
-    }
-    let s = session_of(m);
-    s.at != 0
+    Err(alike)
 }
 
 fn refuse_request(sys: &System, path: &[u8], k: usize) {
@@ -204,58 +120,40 @@ fn refuse_request(sys: &System, path: &[u8], k: usize) {
     tool_files::mark(sys);
 }
 
-// Whether all are such requests; which is not is said.
+// Whether all are requests to disconnect with their Session-Id first; which is not is said.
 fn check_requests(sys: &System, path: &[u8], all: &[u8]) -> bool {
     let mut at: usize = 0;
-    let mut k: usize = 1;
-    while k < 4294967296 {
-        let n = length_at(all, at);
-        if n == 0 {
+    for k in 1..4294967296usize {
+        let Some(m) = request_at(all, at) else {
             return true;
-        }
-        if !is_request_at(all, at, n) {
+        };
+        if !tool_message_line::is_abort(m) || session_of(m).is_none() {
             refuse_request(sys, path, k);
             return false;
         }
-        at = sum(at, n);
-        k += 1;
+        at = at.saturating_add(m.len());
     }
     false
 }
 
 // A request that has its answer is marked in the room: its version is 0.
 fn mark(all: &mut [u8], at: usize) {
-    if at < all.len() {
-        all[at] = 0;
+    if let Some(version) = all.get_mut(at) {
+        *version = 0;
     }
 }
 
-fn is_marked(all: &[u8], at: usize) -> bool {
-    if at < all.len() {
-        return all[at] == 0;
-    }
-    false
-}
-
-// The Session-Id of the request of n bytes at a place.
-fn say_session_at(out: &mut [u8; 4096], at: usize, all: &[u8], from: usize, n: usize) -> usize {
-    if all.len() < from {
-        return at;
-    }
-    if all.len() - from < n {
-        return at;
-    }
-    let end = from + n;
-    say_session(out, at, &all[from..end])
+fn is_marked(m: &[u8]) -> bool {
+    m.first() == Some(&0)
 }
 
 // The line of request k where it has no answer; whether it could be said.
-fn tell_open(sys: &System, all: &[u8], at: usize, n: usize, k: usize) -> bool {
+fn tell_open(sys: &System, m: &[u8], k: usize) -> bool {
     let mut out = [0u8; 4096];
     let a = say(&mut out, 0, b"request ");
     let b = number(&mut out, a, k as u64);
     let c = say(&mut out, b, b", ");
-    let d = say_session_at(&mut out, c, all, at, n);
+    let d = say_session(&mut out, c, m);
     let e = say(&mut out, d, b": no answer\n");
     tool_files::print(sys, &out, e)
 }
@@ -269,47 +167,33 @@ struct Told {
     good: usize,
 }
 
-fn more(n: usize) -> usize {
-    if n < 4294967296 {
-        return n + 1;
+// The Result-Code that an AVP of the answer has. A code of 0 is none.
+fn result_in(answer: &[u8], s: Seen) -> Option<u32> {
+    if s.code != 268 || 128 <= s.flags {
+        return None;
     }
-    n
+    let value = answer.get(s.value..)?;
+    if value.len() < 4 {
+        return None;
+    }
+    let code = octets::read32(value, 0);
+    (code != 0).then_some(code)
 }
 
-// The Result-Code in the AVP at a place of the answer, 0 where that is another.
-fn result_in(answer: &[u8], s: Seen) -> u32 {
-    if s.code != 268 {
-        return 0;
-    }
-    if 128 <= s.flags {
-        return 0;
-    }
-    let from = s.value;
-    if answer.len() < from {
-        return 0;
-    }
-    if answer.len() - from < 4 {
-        return 0;
-    }
-    octets::read32(answer, from)
-}
-
-// The Result-Code of an answer, 0 where there is none. A message has at most 1,024 AVPs.
-fn result_of(answer: &[u8]) -> u32 {
+// The Result-Code of an answer. A message has at most 1,024 AVPs.
+fn result_of(answer: &[u8]) -> Option<u32> {
     let mut at: usize = message::HEADER_LENGTH;
-    let mut turns: usize = 1024;
-    while turns > 0 {
-        turns -= 1;
+    for _ in 0..1024 {
         let Step::One(s) = reader::avp_at(answer, at) else {
-            return 0;
+            return None;
         };
-        let n = result_in(answer, s);
-        if n != 0 {
-            return n;
+        let code = result_in(answer, s);
+        if code.is_some() {
+            return code;
         }
         at = s.next;
     }
-    0
+    None
 }
 
 // The request that an answer belongs to, and what it says.
@@ -317,29 +201,44 @@ fn say_found(out: &mut [u8; 4096], at: usize, all: &[u8], f: Match, answer: &[u8
     let a = say(out, at, b"the answer to request ");
     let b = number(out, a, f.k as u64);
     let c = say(out, b, b", ");
-    let d = say_session_at(out, c, all, f.at, length_at(all, f.at));
+    let d = match request_at(all, f.at) {
+        Some(m) => say_session(out, c, m),
+        None => c,
+    };
     let e = say(out, d, b": ");
-    let n = result_of(answer);
-    let g = number(out, e, n as u64);
+    let n = result_of(answer).unwrap_or(0);
+    let g = number(out, e, u64::from(n));
     let h = say(out, g, b" ");
     tool_names::result(out, h, n)
 }
 
 // What an answer is to the requests.
-fn say_match(out: &mut [u8; 4096], at: usize, all: &[u8], f: Match, answer: &[u8]) -> usize {
-    if f.found {
-        return say_found(out, at, all, f, answer);
+fn say_match(
+    out: &mut [u8; 4096],
+    at: usize,
+    all: &[u8],
+    f: Result<Match, Option<usize>>,
+    answer: &[u8],
+) -> usize {
+    match f {
+        Ok(found) => say_found(out, at, all, found, answer),
+        Err(None) => say(out, at, b"belongs to no request: none has its identifiers"),
+        Err(Some(k)) => {
+            let a = say(out, at, b"belongs to no request: request ");
+            let b = number(out, a, k as u64);
+            say(out, b, b" has its identifiers, but this is no answer to it")
+        }
     }
-    if f.k == 0 {
-        return say(out, at, b"belongs to no request: none has its identifiers");
-    }
-    let a = say(out, at, b"belongs to no request: request ");
-    let b = number(out, a, f.k as u64);
-    say(out, b, b" has its identifiers, but this is no answer to it")
 }
 
 // The line of answer k; whether it could be said.
-fn tell(sys: &System, k: usize, all: &[u8], f: Match, answer: &[u8]) -> bool {
+fn tell(
+    sys: &System,
+    k: usize,
+    all: &[u8],
+    f: Result<Match, Option<usize>>,
+    answer: &[u8],
+) -> bool {
     let mut out = [0u8; 4096];
     let a = number(&mut out, 0, k as u64);
     let b = say(&mut out, a, b". ");
@@ -357,27 +256,27 @@ fn hold(sys: &System, all: &mut [u8], answer: &[u8], way: Way, good: usize) -> T
             good,
         };
     }
-    if f.found {
-        mark(all, f.at);
-        return Told {
-            way,
-            good: more(good),
-        };
+    match f {
+        Ok(found) => {
+            mark(all, found.at);
+            Told {
+                way,
+                good: good.saturating_add(1),
+            }
+        }
+        Err(_) => Told { way, good },
     }
-    Told { way, good }
 }
 
 // The first n bytes of the room as the next answer.
 fn take(sys: &System, all: &mut [u8], room: &[u8; 8192], way: Way, good: usize) -> Told {
-    let text: &[u8] = room;
-    let n = way.last;
-    if text.len() < n {
-        return Told {
+    match room.get(..way.last) {
+        Some(answer) => hold(sys, all, answer, way, good),
+        None => Told {
             way: tool_streams::over(way, false),
             good,
-        };
+        },
     }
-    hold(sys, all, &text[0..n], way, good)
 }
 
 fn step(sys: &System, fd: i32, path: &[u8], all: &mut [u8], t: Told) -> Told {
@@ -390,15 +289,13 @@ fn step(sys: &System, fd: i32, path: &[u8], all: &mut [u8], t: Told) -> Told {
     take(sys, all, &room, way, t.good)
 }
 
-// A proved loop has to end, and nothing says that a file does, so the turns are counted down.
+// A proved loop has to end, and nothing says that a file does, so the turns are counted.
 fn follow(sys: &System, fd: i32, path: &[u8], all: &mut [u8]) -> Told {
     let mut t = Told {
         way: tool_streams::start(),
         good: 0,
     };
-    let mut turns: usize = 4294967296;
-    while turns > 0 {
-        turns -= 1;
+    for _ in 0..4294967296usize {
         t = step(sys, fd, path, all, t);
         let way = t.way;
         if way.last == 0 {
@@ -420,21 +317,18 @@ struct Left {
 fn list_open(sys: &System, all: &[u8]) -> Left {
     let mut without: usize = 0;
     let mut at: usize = 0;
-    let mut k: usize = 1;
-    while k < 4294967296 {
-        let n = length_at(all, at);
-        if n == 0 {
+    for k in 1..4294967296usize {
+        let Some(m) = request_at(all, at) else {
             return Left {
                 requests: k - 1,
                 without,
             };
+        };
+        if !is_marked(m) {
+            tell_open(sys, m, k);
+            without = without.saturating_add(1);
         }
-        if !is_marked(all, at) {
-            tell_open(sys, all, at, n, k);
-            without = more(without);
-        }
-        at = sum(at, n);
-        k += 1;
+        at = at.saturating_add(m.len());
     }
     Left {
         requests: 0,
@@ -471,49 +365,37 @@ fn finish(sys: &System, all: &[u8], t: Told) {
 
 // THE COMMAND
 
-// The requests of a file put at the start of the room: how many bytes, 0 where they can not be followed, which is then said.
-fn load(sys: &System, path: &[u8], room: &mut [u8]) -> usize {
-    let fd = tool_files::open_plain(sys, path);
-    if fd < 0 {
-        return 0;
-    }
-    if tool_inputs::count(sys, Source { fd, hex: false }, path) < 1 {
-        return 0;
-    }
+// The requests of a file, read to the room; that they can not be followed is said.
+fn load<'a>(sys: &System, path: &[u8], room: &'a mut [u8]) -> Option<&'a mut [u8]> {
+    let Some(fd) = tool_files::open_plain(sys, path) else {
+        return None;
+    };
+    tool_inputs::count(sys, Source { fd, hex: false }, path)?;
     if !sys.seek_to(fd, 0) {
         tool_files::refuse_file(sys, path);
-        return 0;
+        return None;
     }
     let n = sys.read_full(fd, room);
     sys.close(fd);
-    if n < room.len() {
-        return n;
+    if room.len() <= n {
+        tool_files::refuse_word(sys, path, b": too long for the room that the program has");
+        return None;
     }
-    tool_files::refuse_word(sys, path, b": too long for the room that the program has");
-    0
+    if n == 0 {
+        return None;
+    }
+    room.get_mut(..n)
 }
 
 fn answers_to(sys: &System, path: &[u8], answers: &[u8], all: &mut [u8]) {
     if !check_requests(sys, path, all) {
         return;
     }
-    let fd = tool_files::open_plain(sys, answers);
-    if fd < 0 {
+    let Some(fd) = tool_files::open_plain(sys, answers) else {
         return;
-    }
+    };
     let t = follow(sys, fd, answers, all);
     finish(sys, all, t);
-}
-
-fn load_and_hold(sys: &System, path: &[u8], answers: &[u8], room: &mut [u8]) {
-    let n = load(sys, path, room);
-    if n == 0 {
-        return;
-    }
-    if room.len() < n {
-        return;
-    }
-    answers_to(sys, path, answers, &mut room[0..n]);
 }
 
 // REQUESTS ANSWERS.
@@ -522,5 +404,7 @@ pub fn run(sys: &System, room: &mut [u8]) {
     let mut answers = io::buffer();
     let a = sys.arg(2, &mut requests);
     let b = sys.arg(3, &mut answers);
-    load_and_hold(sys, &requests[..a], &answers[..b], room);
+    if let Some(all) = load(sys, &requests[..a], room) {
+        answers_to(sys, &requests[..a], &answers[..b], all);
+    }
 }

@@ -31,16 +31,18 @@ fn count(out: &mut [u8; 4096], at: usize, code: u32, value: &[u8]) -> usize {
     }
     let n = octets::read32(value, 0);
     let a = say(out, at, b" ");
-    let b = number(out, a, n as u64);
-    if code == 268 {
-        let c = say(out, b, b" ");
-        return tool_names::result(out, c, n);
+    let b = number(out, a, u64::from(n));
+    match code {
+        268 => {
+            let c = say(out, b, b" ");
+            tool_names::result(out, c, n)
+        }
+        298 => {
+            let c = say(out, b, b" ");
+            tool_names::experimental(out, c, n)
+        }
+        _ => b,
     }
-    if code == 298 {
-        let c = say(out, b, b" ");
-        return tool_names::experimental(out, c, n);
-    }
-    b
 }
 
 // A value by its form. The AVPs of a group have lines of their own.
@@ -55,34 +57,29 @@ fn value(out: &mut [u8; 4096], at: usize, form: Form, code: u32, part: &[u8]) ->
 
 // The flags of an AVP.
 fn flags(out: &mut [u8; 4096], at: usize, x: u8) -> usize {
-    match x / 32 {
-        0 => say(out, at, b":"),
-        1 => say(out, at, b" (P):"),
-        2 => say(out, at, b" (M):"),
-        3 => say(out, at, b" (M P):"),
-        4 => say(out, at, b" (V):"),
-        5 => say(out, at, b" (V P):"),
-        6 => say(out, at, b" (V M):"),
-        _ => say(out, at, b" (V M P):"),
-    }
+    let letters: &[u8] = match x / 32 {
+        0 => b":",
+        1 => b" (P):",
+        2 => b" (M):",
+        3 => b" (M P):",
+        4 => b" (V):",
+        5 => b" (V P):",
+        6 => b" (V M):",
+        _ => b" (V M P):",
+    };
+    say(out, at, letters)
 }
 
 // The line of an AVP, behind `margin`.
 pub fn avp(out: &mut [u8; 4096], margin: &[u8], m: &[u8], s: Seen) -> usize {
-    let from = s.value;
-    let n = s.len;
-    if m.len() < from {
+    let Some(part) = m.get(s.value..s.value.saturating_add(s.len)) else {
         return 0;
-    }
-    if m.len() - from < n {
-        return 0;
-    }
-    let end = from + n;
+    };
     let a = say(out, 0, margin);
     let b = tool_avps::name(out, a, s.code, s.flags, s.vendor);
     let c = flags(out, b, s.flags);
     let form = tool_avps::form_of(s.code, s.flags, s.vendor);
-    let d = value(out, c, form, s.code, &m[from..end]);
+    let d = value(out, c, form, s.code, part);
     say(out, d, b"\n")
 }
 
@@ -102,26 +99,17 @@ pub fn unknown(out: &mut [u8; 4096], margin: &[u8], s: Seen) -> usize {
 
 // Whether an AVP is a group, whose AVPs have lines of their own.
 pub fn is_group(s: Seen) -> bool {
-    let form = tool_avps::form_of(s.code, s.flags, s.vendor);
-    match form {
-        Form::Group => true,
-        Form::Bytes => false,
-        Form::Text => false,
-        Form::Number => false,
-    }
+    tool_avps::form_of(s.code, s.flags, s.vendor) == Form::Group
 }
 
 fn why(out: &mut [u8; 4096], at: usize, f: Fault) -> usize {
-    match f {
-        Fault::Few => say(out, at, b"fewer than 8 bytes are left, 5014"),
-        Fault::Bits => say(out, at, b"a reserved bit of the flags is set, 3009"),
-        Fault::Short => say(
-            out,
-            at,
-            b"the length is under that of the AVP's own header, 5014",
-        ),
-        Fault::Past => say(out, at, b"the AVP would end past the message, 5014"),
-    }
+    let reason: &[u8] = match f {
+        Fault::Few => b"fewer than 8 bytes are left, 5014",
+        Fault::Bits => b"a reserved bit of the flags is set, 3009",
+        Fault::Short => b"the length is under that of the AVP's own header, 5014",
+        Fault::Past => b"the AVP would end past the message, 5014",
+    };
+    say(out, at, reason)
 }
 
 // The line of the test that the AVP at a byte of the message fails.

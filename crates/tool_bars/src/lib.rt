@@ -32,17 +32,8 @@ fn short_part(v: u64, most: u64) -> u64 {
 // The most that was opened or cut in an hour.
 fn most_of(report: &[u64; 96]) -> u64 {
     let mut most: u64 = 0;
-    let mut hour: usize = 0;
-    while hour < 24 {
-        let a = report[4 * hour];
-        let b = report[4 * hour + 1];
-        if most < a {
-            most = a;
-        }
-        if most < b {
-            most = b;
-        }
-        hour += 1;
+    for hour in 0..24 {
+        most = most.max(report[4 * hour]).max(report[4 * hour + 1]);
     }
     most
 }
@@ -52,23 +43,15 @@ fn most_of(report: &[u64; 96]) -> u64 {
 // n times the same sign, at most 60.
 fn signs(out: &mut [u8; 4096], at: usize, sign: &[u8], n: u64) -> usize {
     let mut a = at;
-    let mut left: u64 = n;
-    if left > 60 {
-        left = 60;
-    }
-    while left > 0 {
+    for _ in 0..n.min(60) {
         a = say(out, a, sign);
-        left -= 1;
     }
     a
 }
 
 fn two_digits(out: &mut [u8; 4096], at: usize, n: usize) -> usize {
-    if n < 10 {
-        let a = say(out, at, b"0");
-        return number(out, a, n as u64);
-    }
-    number(out, at, n as u64)
+    let a = if n < 10 { say(out, at, b"0") } else { at };
+    number(out, a, n as u64)
 }
 
 // The bar of an hour: cuts as x, the openings that cut nothing as #.
@@ -128,12 +111,10 @@ fn write_rate(sys: &System, report: &[u64; 96]) -> bool {
 // All hours, and the rate; whether it could be said.
 pub fn show(sys: &System, report: &[u64; 96]) -> bool {
     let most = most_of(report);
-    let mut hour: usize = 0;
-    while hour < 24 {
+    for hour in 0..24 {
         if !write_line(sys, report, hour, most) {
             return false;
         }
-        hour += 1;
     }
     write_rate(sys, report)
 }
@@ -224,12 +205,10 @@ pub fn draw(sys: &System, report: &[u64; 96]) -> bool {
     if !draw_frame(sys, most) {
         return false;
     }
-    let mut hour: usize = 0;
-    while hour < 24 {
+    for hour in 0..24 {
         if !draw_hour(sys, report, hour, most) {
             return false;
         }
-        hour += 1;
     }
     tool_files::put(sys, b"</svg>\n")
 }

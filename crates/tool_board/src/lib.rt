@@ -2,7 +2,6 @@
 #![tactic(auto)]
 
 use system::System;
-use tool_operator::Number;
 use tool_screens::Entry;
 use tool_streams::{Source, Way};
 
@@ -41,23 +40,6 @@ fn source(file: i32) -> Source {
     }
 }
 
-// The message of n bytes in the room.
-fn take_message(
-    sys: &System,
-    k: usize,
-    form: u32,
-    table: &mut [u8],
-    screens: &mut [Entry],
-    room: &[u8; 8192],
-    n: usize,
-) -> bool {
-    let all: &[u8] = room;
-    if all.len() < n {
-        return false;
-    }
-    serve_message(sys, k, form, table, screens, &all[0..n])
-}
-
 // The next message of the file.
 fn step(
     sys: &System,
@@ -73,13 +55,16 @@ fn step(
     if v.last == 0 {
         return v;
     }
-    if take_message(sys, v.messages, form, table, screens, &room, v.last) {
+    let Some(m) = room.get(..v.last) else {
+        return tool_streams::over(v, false);
+    };
+    if serve_message(sys, v.messages, form, table, screens, m) {
         return v;
     }
     tool_streams::over(v, false)
 }
 
-// All messages; whether the file was followed to its end. A proved loop has to end, so the turns are counted down.
+// All messages; whether the file was followed to its end. A proved loop has to end, so the turns are counted.
 fn follow(
     sys: &System,
     fd: i32,
@@ -89,9 +74,7 @@ fn follow(
     screens: &mut [Entry],
 ) -> bool {
     let mut w = tool_streams::start();
-    let mut turns: usize = 4294967296;
-    while turns > 0 {
-        turns -= 1;
+    for _ in 0..4294967296usize {
         w = step(sys, fd, requests, form, table, screens, w);
         if w.last == 0 {
             return w.well;
@@ -107,10 +90,9 @@ fn open_and_follow(
     table: &mut [u8],
     screens: &mut [Entry],
 ) -> bool {
-    let fd = tool_files::open_plain(sys, requests);
-    if fd < 0 {
+    let Some(fd) = tool_files::open_plain(sys, requests) else {
         return false;
-    }
+    };
     let done = follow(sys, fd, requests, form, table, screens);
     sys.close(fd);
     done
@@ -131,12 +113,11 @@ fn feed_and_draw(
     }
 }
 
-// The screens of a file: how many they are, 0 where they make no board, which is said.
-fn read_screens(sys: &System, path: &[u8], screens: &mut [Entry]) -> usize {
-    let fd = tool_files::open_plain(sys, path);
-    if fd < 0 {
-        return 0;
-    }
+// The screens of a file: how many they are, if they make a board; why not is said.
+fn read_screens(sys: &System, path: &[u8], screens: &mut [Entry]) -> Option<usize> {
+    let Some(fd) = tool_files::open_plain(sys, path) else {
+        return None;
+    };
     let n = tool_screens::read(sys, fd, path, screens);
     sys.close(fd);
     n
@@ -144,15 +125,13 @@ fn read_screens(sys: &System, path: &[u8], screens: &mut [Entry]) -> usize {
 
 // The screens, with room for one more than a board may have, so that too many are told.
 fn with_screens(sys: &System, path: &[u8], requests: &[u8], form: u32, table: &mut [u8]) {
-    let mut screens = [[0u8; tool_screens::ENTRY_LENGTH]; 65];
-    let n = read_screens(sys, path, &mut screens);
-    if n == 0 {
+    let mut room = [[0u8; tool_screens::ENTRY_LENGTH]; 65];
+    let Some(n) = read_screens(sys, path, &mut room) else {
         return;
+    };
+    if let Some(screens) = room.get_mut(..n) {
+        feed_and_draw(sys, requests, form, table, screens);
     }
-    if n > 65 {
-        return;
-    }
-    feed_and_draw(sys, requests, form, table, &mut screens[0..n]);
 }
 
 fn with_table(
@@ -163,21 +142,18 @@ fn with_table(
     requests: &[u8],
     table: &mut [u8],
 ) {
-    let found = tool_form::read(sys, from, said, table);
-    let n = found.length;
-    if n == 0 {
+    let Some(found) = tool_form::read(sys, from, said, table) else {
         return;
+    };
+    if let Some(rows) = table.get_mut(..found.length) {
+        with_screens(sys, path, requests, found.form, rows);
     }
-    if table.len() < n {
-        return;
-    }
-    with_screens(sys, path, requests, found.form, &mut table[0..n]);
 }
 
 // SCREENS TABLE REQUESTS [form=F]. The table is read, and stays as it is.
 pub fn run(sys: &System, table: &mut [u8]) {
     let said = tool_form::only(sys, 5);
-    let Number::Is(form) = said else {
+    let Some(form) = said else {
         return;
     };
     let mut path = io::buffer();

@@ -10,26 +10,20 @@ use tool_words::say;
 fn request(room: &mut [u8; 4100], what: u8, session: &[u8; 1], label: &[u8]) -> usize
     requires { length label.now ≤ 8192 }
 {
-    if what == b'o' {
-        return opening(room, session, b"001010123456789", label);
+    match what {
+        b'o' => opening(room, session, b"001010123456789", label),
+        b'v' => visiting(room, session, b"001010123456789", label),
+        b'u' => opening(room, session, b"001010999999999", label),
+        _ => ending(room, session, b"001010123456789", label),
     }
-    if what == b'v' {
-        return visiting(room, session, b"001010123456789", label);
-    }
-    if what == b'u' {
-        return opening(room, session, b"001010999999999", label);
-    }
-    ending(room, session, b"001010123456789", label)
 }
 
 fn labelled(room: &mut [u8; 4100], what: u8, session: &[u8; 1], label: u8) -> usize {
-    if label == b'y' {
-        return request(room, what, session, b"yard");
+    match label {
+        b'y' => request(room, what, session, b"yard"),
+        b'B' => request(room, what, session, b"Board"),
+        _ => request(room, what, session, b"board"),
     }
-    if label == b'B' {
-        return request(room, what, session, b"Board");
-    }
-    request(room, what, session, b"board")
 }
 
 // A Session-Id of 128 or of 129 letters.
@@ -48,10 +42,7 @@ fn long_session(room: &mut [u8; 4100], which: u8) -> usize {
 
 // A request made as long as the room.
 fn filled(room: &mut [u8], session: &[u8; 1]) -> usize {
-    if room.len() < message::HEADER_LENGTH {
-        return 0;
-    }
-    if 4100 < room.len() {
+    if room.len() < message::HEADER_LENGTH || 4100 < room.len() {
         return 0;
     }
     let n = opening(room, session, b"001010123456789", b"board");
@@ -59,56 +50,44 @@ fn filled(room: &mut [u8], session: &[u8; 1]) -> usize {
 }
 
 // A message of 4096 or of 4100 bytes.
-fn long_message(room: &mut [u8], which: u8) -> usize {
+fn long_message(room: &mut [u8; 4100], which: u8) -> usize {
     if which == b'6' {
-        if room.len() < message::LENGTH_MOST {
-            return 0;
-        }
         return filled(&mut room[0..message::LENGTH_MOST], b"h");
     }
-    filled(room, b"i")
+    filled(&mut room[..], b"i")
 }
 
 // The request of a step in the room: its length.
 pub fn build(room: &mut [u8; 4100], what: u8, who: u8, label: u8) -> usize {
-    if what == b'l' {
-        return long_session(room, who);
+    match what {
+        b'l' => long_session(room, who),
+        b'm' => long_message(room, who),
+        b'b' => {
+            put_header(room, message::HEADER_LENGTH, 265);
+            message::HEADER_LENGTH
+        }
+        _ => labelled(room, what, &[who], label),
     }
-    if what == b'm' {
-        return long_message(room, who);
-    }
-    if what == b'b' {
-        put_header(room, message::HEADER_LENGTH, 265);
-        return message::HEADER_LENGTH;
-    }
-    let session = [who];
-    labelled(room, what, &session, label)
 }
 
 fn say_label(out: &mut [u8; 4096], at: usize, label: u8) -> usize {
-    if label == b'y' {
-        return say(out, at, b" on yard");
-    }
-    if label == b'B' {
-        return say(out, at, b" on Board");
-    }
-    say(out, at, b" on board")
+    let words: &[u8] = match label {
+        b'y' => b" on yard",
+        b'B' => b" on Board",
+        _ => b" on board",
+    };
+    say(out, at, words)
 }
 
 fn say_size(out: &mut [u8; 4096], which: u8) -> usize {
-    if which == b'8' {
-        return say(out, 0, b"  a Session-Id of 128 bytes");
-    }
-    if which == b'9' {
-        return say(out, 0, b"  a Session-Id of 129 bytes");
-    }
-    if which == b'6' {
-        return say(out, 0, b"  a message of 4096 bytes");
-    }
-    if which == b'0' {
-        return say(out, 0, b"  a message of 4100 bytes");
-    }
-    say(out, 0, b"  a bare request 265")
+    let words: &[u8] = match which {
+        b'8' => b"  a Session-Id of 128 bytes",
+        b'9' => b"  a Session-Id of 129 bytes",
+        b'6' => b"  a message of 4096 bytes",
+        b'0' => b"  a message of 4100 bytes",
+        _ => b"  a bare request 265",
+    };
+    say(out, 0, words)
 }
 
 fn say_call(out: &mut [u8; 4096], what: u8, session: &[u8; 1], label: u8) -> usize {
@@ -120,24 +99,16 @@ fn say_call(out: &mut [u8; 4096], what: u8, session: &[u8; 1], label: u8) -> usi
     let a = say(out, 0, b"  open ");
     let b = say(out, a, session);
     let c = say_label(out, b, label);
-    if what == b'v' {
-        return say(out, c, b" from a visited network");
+    match what {
+        b'v' => say(out, c, b" from a visited network"),
+        b'u' => say(out, c, b" for 001010999999999"),
+        _ => c,
     }
-    if what == b'u' {
-        return say(out, c, b" for 001010999999999");
-    }
-    c
 }
 
 // Whether a step is about a size.
 pub fn is_sized(what: u8) -> bool {
-    if what == b'l' {
-        return true;
-    }
-    if what == b'm' {
-        return true;
-    }
-    what == b'b'
+    matches!(what, b'l' | b'm' | b'b')
 }
 
 // What a step asks.
@@ -145,6 +116,5 @@ pub fn asked(out: &mut [u8; 4096], what: u8, who: u8, label: u8) -> usize {
     if is_sized(what) {
         return say_size(out, who);
     }
-    let session = [who];
-    say_call(out, what, &session, label)
+    say_call(out, what, &[who], label)
 }

@@ -10,22 +10,15 @@ use tool_words::{number, octet, say};
 fn sign(i: usize) -> u8 {
     let signs =
         b"#01+..oab#02obb#03?..ocb!..#04odb<..+..oabobbocb#05obb#06tcbtab#07veyvebveBoeBteB#08s..#09ofbr..#10ugbr..#11l8.l9.m6.m0.b..";
-    if i < 123 {
-        return signs[i];
-    }
-    0
+    signs.get(i).copied().unwrap_or(0)
 }
 
 // The heading of a case, by its two digits.
 fn heading(out: &mut [u8; 4096], tens: u8, ones: u8) -> usize {
-    let one = [ones];
     let two = [tens, ones];
+    let digits = two.strip_prefix(b"0").unwrap_or(&two);
     let a = say(out, 0, b"case ");
-    if tens == b'0' {
-        let b = say(out, a, &one);
-        return say(out, b, b"\n");
-    }
-    let b = say(out, a, &two);
+    let b = say(out, a, digits);
     say(out, b, b"\n")
 }
 
@@ -49,7 +42,7 @@ fn seen(out: &mut [u8; 4096]) -> usize {
 
 fn set(out: &mut [u8; 4096], at: usize, what: &[u8], n: u32) -> usize {
     let a = say(out, at, what);
-    let b = number(out, a, n as u64);
+    let b = number(out, a, u64::from(n));
     say(out, b, b"\n")
 }
 
@@ -101,11 +94,7 @@ fn both_sums(out: &mut [u8; 4096]) -> usize {
     let mut block = [0u8; table::BLOCK_LENGTH];
     let a = say(out, 0, b"  the sums of a zero block: ");
     let b = sums(out, a, &block);
-    block[505] = b'a';
-    block[506] = b'b';
-    block[507] = b'c';
-    block[508] = b'd';
-    block[509] = b'e';
+    block[505..510].copy_from_slice(b"abcde");
     let c = say(out, b, b"  the sums of \"abcde\": ");
     sums(out, c, &block)
 }
@@ -134,11 +123,11 @@ fn send(
     out: &mut [u8; 4096],
     at: usize,
 ) -> usize {
-    if room.len() < n {
+    let Some(m) = room.get(..n) else {
         return at;
-    }
-    let why = tool_reply_line::why(table, &room[0..n], true, answer, notice);
-    let o = tool_reply_line::call_server(table, &room[0..n], true, answer, notice);
+    };
+    let why = tool_reply_line::why(table, m, true, answer, notice);
+    let o = tool_reply_line::call_server(table, m, true, answer, notice);
     let a = say(out, at, b": ");
     let b = tool_reply_line::outcome(out, a, 1, o, why, notice);
     say(out, b, b"\n")
@@ -159,29 +148,19 @@ pub fn step(
     let what = sign(3 * k);
     let who = sign(3 * k + 1);
     let label = sign(3 * k + 2);
-    if what == b'#' {
-        return heading(out, who, label);
+    match what {
+        b'#' => heading(out, who, label),
+        b'<' => say(out, 0, b"cases 1 to 3 again\n"),
+        b'?' => watch(out),
+        b'!' => seen(out),
+        b'+' => fresh(table, out),
+        b's' => both_sums(out),
+        b'r' => result(out, answer),
+        _ => {
+            let n = tool_case_requests::build(room, what, who, label);
+            let a = tool_case_requests::asked(out, what, who, label);
+            let b = send(table, room, n, answer, notice, out, a);
+            line(out, b, what, table)
+        }
     }
-    if what == b'<' {
-        return say(out, 0, b"cases 1 to 3 again\n");
-    }
-    if what == b'?' {
-        return watch(out);
-    }
-    if what == b'!' {
-        return seen(out);
-    }
-    if what == b'+' {
-        return fresh(table, out);
-    }
-    if what == b's' {
-        return both_sums(out);
-    }
-    if what == b'r' {
-        return result(out, answer);
-    }
-    let n = tool_case_requests::build(room, what, who, label);
-    let a = tool_case_requests::asked(out, what, who, label);
-    let b = send(table, room, n, answer, notice, out, a);
-    line(out, b, what, table)
 }

@@ -4,190 +4,131 @@
 use decision::Outcome;
 use message::Kind;
 use system::System;
-use tool_files::Said;
-use tool_lines::Line;
+use tool_lines::TooLong;
 use tool_words::{number, say};
 
 // WHAT A LINE SAYS
 
 // What the lines of a file are.
-pub const CODES: u8 = 1;
+#[derive(Clone, Copy, PartialEq, Eq)]
+pub enum Lines {
+    Codes,
+    Wags,
+}
 
-pub const WAGS: u8 = 2;
-
-// What stands next in the file: a line with a meaning, one without, or nothing more.
-#[derive(Clone, Copy)]
-enum Next {
-    Is(usize),
+// Why the next line of a file says nothing: it has no meaning, or is not there.
+#[derive(Clone, Copy, PartialEq, Eq)]
+enum Fault {
     Wrong,
     End,
 }
 
-// The code that a text says, 1 to 9,999; 0 where it says none.
-fn plain(text: &[u8]) -> usize {
-    let said = tool_files::number(text);
-    let Said::Number(n) = said else {
-        return 0;
-    };
-    if 9999 < n {
-        return 0;
-    }
-    n
+// The code that a text says, 1 to 9,999.
+fn plain(text: &[u8]) -> Option<usize> {
+    tool_files::number(text).filter(|n| (1..=9999).contains(n))
 }
 
 // The same, with an x in front where the code is that of an Experimental-Result, which counts from 10,000 on: some numbers are codes of both.
-fn code(text: &[u8]) -> usize {
-    let n = text.len();
-    if n < 2 {
-        return plain(text);
+fn code(text: &[u8]) -> Option<usize> {
+    match text.strip_prefix(b"x") {
+        Some(rest) => plain(rest)?.checked_add(10000),
+        None => plain(text),
     }
-    if text[0] != b'x' {
-        return plain(text);
-    }
-    let k = plain(&text[1..n]);
-    if k < 1 {
-        return 0;
-    }
-    if 9999 < k {
-        return 0;
-    }
-    10000 + k
 }
 
 // What the gateway says.
-pub const YES: usize = 1;
-
-pub const NO: usize = 2;
-
-fn word(text: &[u8]) -> usize {
-    if octets::same_bytes(text, b"yes") {
-        return YES;
+fn wag(text: &[u8]) -> Option<bool> {
+    match text {
+        b"yes" => Some(true),
+        b"no" => Some(false),
+        _ => None,
     }
-    if octets::same_bytes(text, b"no") {
-        return NO;
-    }
-    0
 }
 
-fn meaning(kind: u8, text: &[u8]) -> Next {
-    if kind == CODES {
-        let n = code(text);
-        if n < 1 {
-            return Next::Wrong;
-        }
-        return Next::Is(n);
+// The next line, read to the room.
+fn read<'a>(sys: &System, fd: i32, room: &'a mut [u8; 64]) -> Result<&'a [u8], Fault> {
+    match tool_lines::read(sys, fd, room) {
+        Ok(None) => Err(Fault::End),
+        Err(TooLong) => Err(Fault::Wrong),
+        Ok(Some(n)) => room.get(..n).ok_or(Fault::Wrong),
     }
-    let n = word(text);
-    if n < 1 {
-        return Next::Wrong;
-    }
-    Next::Is(n)
 }
 
-fn read(sys: &System, fd: i32, kind: u8) -> Next {
+// The code on the next line, if there is one.
+pub fn take_code(sys: &System, fd: i32) -> Option<usize> {
     let mut room = [0u8; 64];
-    let line = tool_lines::read(sys, fd, &mut room);
-    match line {
-        Line::End => Next::End,
-        Line::Long => Next::Wrong,
-        Line::Text(n) => {
-            let all: &[u8] = &room;
-            if all.len() < n {
-                return Next::Wrong;
-            }
-            meaning(kind, &all[0..n])
-        }
-    }
+    code(read(sys, fd, &mut room).ok()?)
 }
 
-// What the next line says, 0 where there is no file, or nothing more in it.
-pub fn take(sys: &System, fd: i32, kind: u8) -> usize {
-    if fd < 0 {
-        return 0;
-    }
-    let found = read(sys, fd, kind);
-    match found {
-        Next::Is(n) => n,
-        Next::Wrong => 0,
-        Next::End => 0,
-    }
+// What the gateway says on the next line, if it says something.
+pub fn take_wag(sys: &System, fd: i32) -> Option<bool> {
+    let mut room = [0u8; 64];
+    wag(read(sys, fd, &mut room).ok()?)
 }
 
 // A FILE AS A WHOLE
 
-fn wanted(out: &mut [u8; 4096], at: usize, kind: u8) -> usize {
-    if kind == CODES {
-        return say(
-            out,
-            at,
-            b" is no code: 2001, x5001 for an Experimental-Result, 6 for a number without an answer\n",
-        );
-    }
-    say(out, at, b" is neither yes nor no\n")
+// Whether a line says what the lines of its file are to say.
+fn check_text(lines: Lines, text: &[u8]) -> Result<(), Fault> {
+    let is_right = match lines {
+        Lines::Codes => code(text).is_some(),
+        Lines::Wags => wag(text).is_some(),
+    };
+    if is_right { Ok(()) } else { Err(Fault::Wrong) }
+}
+
+// Whether the next line is there and says something.
+fn check_next(sys: &System, fd: i32, lines: Lines) -> Result<(), Fault> {
+    let mut room = [0u8; 64];
+    check_text(lines, read(sys, fd, &mut room)?)
 }
 
 // What is wrong at line k.
-fn refuse(sys: &System, path: &[u8], k: usize, kind: u8, short: bool) {
+fn refuse(sys: &System, path: &[u8], k: usize, lines: Lines, fault: Fault) {
     let mut out = [0u8; 4096];
     let a = say(&mut out, 0, b"play: ");
     let b = tool_words::text(&mut out, a, path);
     let c = say(&mut out, b, b": line ");
     let d = number(&mut out, c, k as u64);
-    if short {
-        let e = say(
-            &mut out,
-            d,
-            b" is not there, and each message has to have one\n",
-        );
-        tool_files::note(sys, &out, e);
-        tool_files::mark(sys);
-        return;
-    }
-    let e = wanted(&mut out, d, kind);
+    let what: &[u8] = match (fault, lines) {
+        (Fault::End, _) => b" is not there, and each message has to have one\n",
+        (Fault::Wrong, Lines::Codes) => {
+            b" is no code: 2001, x5001 for an Experimental-Result, 6 for a number without an answer\n"
+        }
+        (Fault::Wrong, Lines::Wags) => b" is neither yes nor no\n",
+    };
+    let e = say(&mut out, d, what);
     tool_files::note(sys, &out, e);
     tool_files::mark(sys);
 }
 
 // Whether line k is there and says something; why not is said.
-fn check_line(sys: &System, fd: i32, path: &[u8], k: usize, kind: u8) -> bool {
-    let found = read(sys, fd, kind);
-    match found {
-        Next::Is(_) => true,
-        Next::Wrong => {
-            refuse(sys, path, k, kind, false);
-            false
-        }
-        Next::End => {
-            refuse(sys, path, k, kind, true);
-            false
-        }
+fn check_line(sys: &System, fd: i32, path: &[u8], k: usize, lines: Lines) -> bool {
+    let found = check_next(sys, fd, lines);
+    if let Err(fault) = found {
+        refuse(sys, path, k, lines, fault);
     }
+    found.is_ok()
 }
 
 // Whether nothing is left of the file; if something is, that is said.
 fn check_end(sys: &System, fd: i32, path: &[u8]) -> bool {
     let mut room = [0u8; 64];
-    let line = tool_lines::read(sys, fd, &mut room);
-    let Line::End = line else {
-        tool_files::refuse_word(sys, path, b": it has more lines than there are messages");
-        return false;
-    };
-    true
+    if matches!(tool_lines::read(sys, fd, &mut room), Ok(None)) {
+        return true;
+    }
+    tool_files::refuse_word(sys, path, b": it has more lines than there are messages");
+    false
 }
 
 // Whether the file has a line for each of so many messages, and no more. It is then at its start again.
-pub fn check_lines(sys: &System, fd: i32, path: &[u8], kind: u8, all: usize) -> bool {
-    let mut left = all;
-    while left > 0 {
-        if !check_line(sys, fd, path, all - left + 1, kind) {
+pub fn check_lines(sys: &System, fd: i32, path: &[u8], lines: Lines, all: usize) -> bool {
+    for i in 0..all {
+        if !check_line(sys, fd, path, i + 1, lines) {
             return false;
         }
-        left -= 1;
     }
-    if !check_end(sys, fd, path) {
-        return false;
-    }
-    sys.seek_to(fd, 0)
+    check_end(sys, fd, path) && sys.seek_to(fd, 0)
 }
 
 // WHAT CAME OF A MESSAGE
@@ -197,23 +138,14 @@ fn got(o: Outcome) -> usize {
     let kind = o.kind;
     let n = o.code as usize;
     match kind {
-        Kind::NoAnswer => n,
-        Kind::Plain => n,
-        Kind::Experimental => {
-            if 9999 < n {
-                return n;
-            }
-            10000 + n
-        }
+        Kind::Experimental if n <= 9999 => 10000 + n,
+        _ => n,
     }
 }
 
 // Whether it is what was expected, if anything was.
-pub fn is_expected(o: Outcome, expected: usize) -> bool {
-    if expected == 0 {
-        return true;
-    }
-    got(o) == expected
+pub fn is_expected(o: Outcome, expected: Option<usize>) -> bool {
+    expected.is_none_or(|code| got(o) == code)
 }
 
 // A code as the file has it.

@@ -1,12 +1,11 @@
 // Where a row is unsound: the first block, entry or place at which the clause fails, in words; and the row that hides another.
 #![tactic(auto)]
 
-ghost use Rattle.std.specs.Prelude.{◌≡◌, true, ◌≤◌, length};
+ghost use Rattle.std.specs.Prelude.{ℕ, ◌≡◌, true, ◌≤◌, length, IfSome};
 ghost use Rattle.table.specs.Soundness.{is_row};
 ghost use Rattle.table.specs.TheTable.{block_length};
 
 use clauses::Clause;
-use table::RowFound;
 use tool_words::{number, say};
 
 // ENTRIES, counted from 1
@@ -16,7 +15,7 @@ fn is_entry_bent(row: &[u8], e: usize) -> bool
     requires { (block_length ≤ length row.now) × (1 ≤ e) × (e ≤ 4) }
 {
     let bytes = row::entry(row::entries_room(row), e - 1);
-    if octets::long(row::entry_count(row)) < e {
+    if usize::from(row::entry_count(row)) < e {
         return !octets::all_zero(bytes);
     }
     let mut room = [0u8; 416];
@@ -42,15 +41,13 @@ fn are_alike(row: &[u8], e: usize, f: usize) -> bool
 fn is_label_repeated(row: &[u8], e: usize) -> bool
     requires { (block_length ≤ length row.now) × (1 ≤ e) × (e ≤ 4) }
 {
-    if octets::long(row::entry_count(row)) < e {
+    if usize::from(row::entry_count(row)) < e {
         return false;
     }
-    let mut f: usize = 1;
-    while f < e {
+    for f in 1..e {
         if are_alike(row, e, f) {
             return true;
         }
-        f += 1;
     }
     false
 }
@@ -60,7 +57,7 @@ fn is_over_limit(row: &[u8], e: usize) -> bool
     requires { (is_row row.now ≡ true) × (block_length ≤ length row.now) × (1 ≤ e) × (e ≤ 4) }
 {
     let limit = row::limit(row::entries_room(row), e - 1);
-    octets::long(limit) < tool_row_lines::standing(row, e)
+    usize::from(limit) < tool_row_lines::standing(row, e)
 }
 
 // PLACES, counted from 1
@@ -89,12 +86,10 @@ fn is_session_repeated(row: &[u8], k: usize) -> bool
     if !is_in_use(row, k) {
         return false;
     }
-    let mut j: usize = 1;
-    while j < k {
+    for j in 1..k {
         if are_one_session(row, j, k) {
             return true;
         }
-        j += 1;
     }
     false
 }
@@ -103,19 +98,13 @@ fn is_session_repeated(row: &[u8], k: usize) -> bool
 fn are_one_session(row: &[u8], j: usize, k: usize) -> bool
     requires { (is_row row.now ≡ true) × (block_length ≤ length row.now) × (1 ≤ j) × (j ≤ 8) × (1 ≤ k) × (k ≤ 8) }
 {
-    if !is_in_use(row, j) {
-        return false;
-    }
-    octets::same_bytes(row::session(row, j), row::session(row, k))
+    is_in_use(row, j) && row::session(row, j) == row::session(row, k)
 }
 
 fn is_entry_missing(row: &[u8], k: usize) -> bool
     requires { (is_row row.now ≡ true) × (block_length ≤ length row.now) × (1 ≤ k) × (k ≤ 8) }
 {
-    if !is_in_use(row, k) {
-        return false;
-    }
-    !blocks::is_within(1, row::entry_count(row), row::entry_of(row, k))
+    is_in_use(row, k) && !blocks::is_within(1, row::entry_count(row), row::entry_of(row, k))
 }
 
 fn is_mark_wrong(row: &[u8], k: usize) -> bool
@@ -131,10 +120,7 @@ fn is_mark_wrong(row: &[u8], k: usize) -> bool
 fn is_order_wrong(row: &[u8], k: usize) -> bool
     requires { (is_row row.now ≡ true) × (block_length ≤ length row.now) × (1 ≤ k) × (k ≤ 8) }
 {
-    if !is_in_use(row, k) {
-        return false;
-    }
-    !clauses::policies_in_order(row, k)
+    is_in_use(row, k) && !clauses::policies_in_order(row, k)
 }
 
 // THE FIRST OF THEM
@@ -166,33 +152,29 @@ fn is_broken_place(row: &[u8], broken: Clause, k: usize) -> bool
     }
 }
 
-// The first entry at which it fails, 0 for none.
-fn first_entry(row: &[u8], broken: Clause) -> usize
+// The first entry at which it fails, if there is one.
+fn first_entry(row: &[u8], broken: Clause) -> Option<usize>
     requires { (is_row row.now ≡ true) × (block_length ≤ length row.now) }
 {
-    let mut e: usize = 1;
-    while e < 5 {
+    for e in 1..5 {
         if is_broken_entry(row, broken, e) {
-            return e;
+            return Some(e);
         }
-        e += 1;
     }
-    0
+    None
 }
 
-// The first place at which it fails, 0 for none.
-fn first_place(row: &[u8], broken: Clause) -> usize
+// The first place at which it fails, if there is one.
+fn first_place(row: &[u8], broken: Clause) -> Option<usize>
     requires { (is_row row.now ≡ true) × (block_length ≤ length row.now) }
-    ensures { result ≤ 8 }
+    ensures { IfSome result (λ (k : ℕ). (1 ≤ k) × (k ≤ 8)) }
 {
-    let mut k: usize = 1;
-    while k < 9 {
+    for k in 1..9 {
         if is_broken_place(row, broken, k) {
-            return k;
+            return Some(k);
         }
-        k += 1;
     }
-    0
+    None
 }
 
 // IN WORDS
@@ -206,18 +188,17 @@ fn thing(out: &mut [u8; 4096], at: usize, name: &[u8], k: usize, wrong: &[u8]) -
 
 // One of the two blocks that a place has in form 2.
 fn block(out: &mut [u8; 4096], at: usize, k: usize, is_first: bool) -> usize {
-    if is_first {
-        return thing(out, at, b"the first block of place ", k, b"");
-    }
-    thing(out, at, b"the second block of place ", k, b"")
+    let name: &[u8] = if is_first {
+        b"the first block of place "
+    } else {
+        b"the second block of place "
+    };
+    thing(out, at, name, k, b"")
 }
 
 fn place_form(out: &mut [u8; 4096], at: usize, row: &[u8], k: usize) -> usize
-    requires { (is_row row.now ≡ true) × (block_length ≤ length row.now) × (k ≤ 8) }
+    requires { (is_row row.now ≡ true) × (block_length ≤ length row.now) × (1 ≤ k) × (k ≤ 8) }
 {
-    if k < 1 {
-        return at;
-    }
     if row.len() == table::row_length(1) {
         return thing(out, at, b"place ", k, b" has not its form\n");
     }
@@ -239,16 +220,13 @@ fn place_sums(out: &mut [u8; 4096], at: usize, row: &[u8], k: usize) -> usize
 }
 
 // The sums of block 0 are tested first.
-fn sums(out: &mut [u8; 4096], at: usize, row: &[u8], k: usize) -> usize
-    requires { (is_row row.now ≡ true) × (block_length ≤ length row.now) × (k ≤ 8) }
+fn sums(out: &mut [u8; 4096], at: usize, row: &[u8], k: Option<usize>) -> usize
+    requires { (is_row row.now ≡ true) × (block_length ≤ length row.now) × IfSome k (λ (j : ℕ). (1 ≤ j) × (j ≤ 8)) }
 {
-    if k < 1 {
-        return say(out, at, b"the sums of block 0 do not agree\n");
+    match k {
+        Some(k) if blocks::block_sums_agree(row::head(row)) => place_sums(out, at, row, k),
+        _ => say(out, at, b"the sums of block 0 do not agree\n"),
     }
-    if blocks::block_sums_agree(row::head(row)) {
-        return place_sums(out, at, row, k);
-    }
-    say(out, at, b"the sums of block 0 do not agree\n")
 }
 
 // The order line as it stands, and the places in use.
@@ -277,7 +255,6 @@ fn entries(out: &mut [u8; 4096], at: usize, broken: Clause, e: usize) -> usize {
             e,
             b" has the label of an entry before it\n",
         ),
-        Clause::Limits => say(out, at, b"the limits of its entries sum to over 8\n"),
         Clause::OverLimit => thing(
             out,
             at,
@@ -325,15 +302,19 @@ fn accesses(out: &mut [u8; 4096], at: usize, broken: Clause, k: usize) -> usize 
 }
 
 // What is wrong with the row as a whole, or with the form of a block.
-fn whole(out: &mut [u8; 4096], at: usize, row: &[u8], broken: Clause, k: usize) -> usize
-    requires { (is_row row.now ≡ true) × (block_length ≤ length row.now) × (k ≤ 8) }
+fn whole(out: &mut [u8; 4096], at: usize, row: &[u8], broken: Clause, k: Option<usize>) -> usize
+    requires { (is_row row.now ≡ true) × (block_length ≤ length row.now) × IfSome k (λ (j : ℕ). (1 ≤ j) × (j ≤ 8)) }
 {
     match broken {
         Clause::NoClause => say(out, at, b"no clause is broken\n"),
         Clause::HeadForm => say(out, at, b"block 0 has not its form\n"),
-        Clause::PlaceForm => place_form(out, at, row, k),
+        Clause::PlaceForm => match k {
+            Some(k) => place_form(out, at, row, k),
+            None => at,
+        },
         Clause::Sums => sums(out, at, row, k),
         Clause::Line => line(out, at, row),
+        Clause::Limits => say(out, at, b"the limits of its entries sum to over 8\n"),
         _ => at,
     }
 }
@@ -345,28 +326,34 @@ pub fn reason(out: &mut [u8; 4096], at: usize, row: &[u8], broken: Clause) -> us
     let e = first_entry(row, broken);
     let k = first_place(row, broken);
     let a = whole(out, at, row, broken, k);
-    let b = entries(out, a, broken, e);
-    accesses(out, b, broken, k)
+    let b = match e {
+        Some(e) => entries(out, a, broken, e),
+        None => a,
+    };
+    match k {
+        Some(k) => accesses(out, b, broken, k),
+        None => b,
+    }
 }
 
 // HIDDEN ROWS
 
 // The row that a lookup of the operator and the name in `row` finds.
-fn found_by(table: &[u8], form: u32, row: &[u8]) -> RowFound
+fn found_by(table: &[u8], form: u32, row: &[u8]) -> Option<usize>
     requires { block_length ≤ length row.now }
 {
     if table::table_number(table, form) != 0 {
-        return RowFound::Nothing;
+        return None;
     }
-    let n = octets::long(row[1]);
+    let n = usize::from(row[1]);
     if table::NAME_MOST < n {
-        return RowFound::Nothing;
+        return None;
     }
     let end = table::NAME + n;
     table::lookup(
         table,
         form as usize,
-        octets::wide(row[table::OPERATOR]),
+        u32::from(row[table::OPERATOR]),
         &row[table::NAME..end],
     )
 }
@@ -382,14 +369,10 @@ pub fn hidden(out: &mut [u8; 4096], table: &[u8], form: u32, i: usize, row: &[u8
             b"  NO LOOKUP FINDS THIS ROW: its operator is over 15\n",
         );
     }
-    let found = found_by(table, form, row);
-    let RowFound::At(j) = found else {
+    let Some(j) = found_by(table, form, row) else {
         return 0;
     };
-    if i <= j {
-        return 0;
-    }
-    if table::MOST_ROWS < j {
+    if i <= j || table::MOST_ROWS < j {
         return 0;
     }
     thing(

@@ -3,7 +3,7 @@
 
 use decision::Outcome;
 use effects::Cut;
-use message::{Asked, Kind, Span, Told};
+use message::{Asked, Kind, Span};
 use screen::Event;
 use system::System;
 use tool_screens::Entry;
@@ -45,17 +45,14 @@ fn kind_of(kind: Kind) -> u32 {
 }
 
 fn place_of(n: usize) -> u32 {
-    if n < 256 {
-        return n as u32;
-    }
-    255
+    n.min(255) as u32
 }
 
 // How many bytes the Session-Id of the cut access has, 0 without a cut.
-fn cut_of(cut: Cut) -> usize {
+fn cut_of(cut: Option<Cut>) -> usize {
     match cut {
-        Cut::NoCut => 0,
-        Cut::Lengths(session, _, _) => session,
+        None => 0,
+        Some(cut) => cut.session,
     }
 }
 
@@ -68,38 +65,17 @@ fn tell(sys: &System, k: usize, quiet: bool, before: Entry, now: Entry) -> bool 
     tool_screens::tell_moved(sys, k, before, now)
 }
 
-fn feed_request(
+// What a message tells the screen of a Session-Id.
+fn feed_event(
     sys: &System,
     k: usize,
     quiet: bool,
     screens: &mut [Entry],
-    which: u32,
     session: &[u8],
+    event: Event,
 ) -> bool {
     let before = tool_screens::entry(screens, session);
-    tool_screens::feed(screens, session, screen::request_says(which));
-    tell(sys, k, quiet, before, tool_screens::entry(screens, session))
-}
-
-fn feed_result(
-    sys: &System,
-    k: usize,
-    quiet: bool,
-    screens: &mut [Entry],
-    which: u32,
-    session: &[u8],
-    o: Outcome,
-) -> bool {
-    let before = tool_screens::entry(screens, session);
-    let kind = o.kind;
-    let event = screen::result_says(which, o.code, kind_of(kind), place_of(o.place));
     tool_screens::feed(screens, session, event);
-    tell(sys, k, quiet, before, tool_screens::entry(screens, session))
-}
-
-fn feed_notice(sys: &System, k: usize, quiet: bool, screens: &mut [Entry], session: &[u8]) -> bool {
-    let before = tool_screens::entry(screens, session);
-    tool_screens::feed(screens, session, Event::Cuts);
     tell(sys, k, quiet, before, tool_screens::entry(screens, session))
 }
 
@@ -115,10 +91,10 @@ fn feed_cut(
     if n == 0 {
         return true;
     }
-    if notice.len() < n {
-        return true;
+    match notice.get(..n) {
+        Some(session) => feed_event(sys, k, quiet, screens, session, Event::Cuts),
+        None => true,
     }
-    feed_notice(sys, k, quiet, screens, &notice[0..n])
 }
 
 // A request about that Session-Id, with what came of it.
@@ -132,10 +108,13 @@ fn feed_all(
     o: Outcome,
     notice: &[u8],
 ) -> bool {
-    if !feed_request(sys, k, quiet, screens, which, session) {
+    let asked = screen::request_says(which);
+    if !feed_event(sys, k, quiet, screens, session, asked) {
         return false;
     }
-    if !feed_result(sys, k, quiet, screens, which, session, o) {
+    let kind = o.kind;
+    let result = screen::result_says(which, o.code, kind_of(kind), place_of(o.place));
+    if !feed_event(sys, k, quiet, screens, session, result) {
         return false;
     }
     let cut = o.cut;
@@ -154,24 +133,13 @@ fn feed_about(
     notice: &[u8],
 ) -> bool {
     let span = a.session;
-    let from = span.at;
-    let n = span.len;
-    if m.len() < from {
+    let Some(rest) = m.get(span.at..) else {
         return true;
-    }
-    if m.len() - from < n {
+    };
+    let Some(session) = rest.get(..span.len) else {
         return true;
-    }
-    feed_all(
-        sys,
-        k,
-        quiet,
-        screens,
-        a.which,
-        &m[from..from + n],
-        o,
-        notice,
-    )
+    };
+    feed_all(sys, k, quiet, screens, a.which, session, o, notice)
 }
 
 // Message k, handled on a table of that form, fed to a board, if it has screens. A message that is no whole request is refused by the server as it is read, and
@@ -186,16 +154,12 @@ pub fn feed(
     o: Outcome,
     notice: &[u8],
 ) -> bool {
-    if screens.len() == 0 {
-        return true;
-    }
-    if m.len() < message::HEADER_LENGTH {
+    if screens.is_empty() || m.len() < message::HEADER_LENGTH {
         return true;
     }
     let heard = request::read(m, tool_request_line::most_policies(form));
-    let told = heard.told;
-    let Told::Request(_, asked) = told else {
+    let Ok(q) = heard.told else {
         return true;
     };
-    feed_about(sys, k, quiet, screens, m, about_of(asked), o, notice)
+    feed_about(sys, k, quiet, screens, m, about_of(q.asked), o, notice)
 }

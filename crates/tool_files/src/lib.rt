@@ -24,9 +24,8 @@ pub fn check_mark(sys: &System) -> bool {
 
 // The first n bytes of a line of words, to standard error.
 pub fn note(sys: &System, out: &[u8; 4096], n: usize) {
-    let line: &[u8] = out;
-    if n <= line.len() {
-        sys.write_all(STDERR_FILENO, &line[0..n]);
+    if let Some(line) = out.get(..n) {
+        sys.write_all(STDERR_FILENO, line);
     }
 }
 
@@ -63,17 +62,12 @@ pub fn refuse_file(sys: &System, path: &[u8]) {
 
 // STANDARD OUTPUT
 
-// Something that can not be written, in the place of the lowest descriptor that is closed.
-fn stand_in(sys: &System) {
-    sys.stand_in();
-}
-
 // Whether standard output can be written at all. The three descriptors are open from here on, so that no file gets the number of one of them,
 // and with it the lines that are meant for it.
 pub fn open_output(sys: &System) -> bool {
-    stand_in(sys);
-    stand_in(sys);
-    stand_in(sys);
+    for _ in 0..3 {
+        sys.stand_in();
+    }
     if !sys.is_output() {
         refuse_file(sys, b"standard output");
         return false;
@@ -84,15 +78,14 @@ pub fn open_output(sys: &System) -> bool {
 // Standard output failed. That is said once: from then on it takes nothing, which no other reason looks like. Where nobody reads it any more nothing is
 // said, and the script's status is the one of a program that is ended for that.
 fn unheard(sys: &System) {
-    if sys.errno() == system::EBADF {
-        return;
+    match sys.errno() {
+        system::EBADF => {}
+        system::EPIPE => sys.unread(),
+        _ => {
+            refuse_file(sys, b"standard output");
+            sys.shut_output();
+        }
     }
-    if sys.errno() == system::EPIPE {
-        sys.unread();
-        return;
-    }
-    refuse_file(sys, b"standard output");
-    sys.shut_output();
 }
 
 // A text to standard output; whether it is written. Why not is said.
@@ -106,11 +99,10 @@ pub fn put(sys: &System, text: &[u8]) -> bool {
 
 // The first n bytes of a line of words, likewise.
 pub fn print(sys: &System, out: &[u8; 4096], n: usize) -> bool {
-    let line: &[u8] = out;
-    if line.len() < n {
+    let Some(line) = out.get(..n) else {
         return false;
-    }
-    put(sys, &line[0..n])
+    };
+    put(sys, line)
 }
 
 // A word and what is said of it, likewise.
@@ -130,41 +122,22 @@ pub fn say_word(sys: &System, word: &[u8], what: &[u8]) -> bool {
 
 // Whether a word begins so.
 pub fn is_begun(word: &[u8], start: &[u8]) -> bool {
-    let n = start.len();
-    if word.len() < n {
-        return false;
-    }
-    octets::same_bytes(&word[0..n], start)
-}
-
-#[derive(Clone, Copy)]
-pub enum Said {
-    Number(usize),
-    Nothing,
+    word.starts_with(start)
 }
 
 // The number that a text of decimal digits says, up to 99,999,999.
-pub fn number(text: &[u8]) -> Said {
-    if text.len() < 1 {
-        return Said::Nothing;
+pub fn number(text: &[u8]) -> Option<usize> {
+    if text.is_empty() {
+        return None;
     }
     let mut n: usize = 0;
-    let mut i: usize = 0;
-    while i < text.len() {
-        let x = octets::long(text[i]);
-        if x < 48 {
-            return Said::Nothing;
+    for &x in text {
+        if !x.is_ascii_digit() || 9999999 < n {
+            return None;
         }
-        if 57 < x {
-            return Said::Nothing;
-        }
-        if 9999999 < n {
-            return Said::Nothing;
-        }
-        n = 10 * n + (x - 48);
-        i += 1;
+        n = 10 * n + usize::from(x - b'0');
     }
-    Said::Number(n)
+    Some(n)
 }
 
 // FILES
@@ -184,24 +157,23 @@ pub fn check_plain(sys: &System, fd: i32, path: &[u8]) -> bool {
 }
 
 // A file opened to be read. Where it may be, it is opened for writing too: a pipe by name is otherwise waited for until somebody writes to it.
-fn open(sys: &System, path: &[u8]) -> i32 {
+fn open(sys: &System, path: &[u8]) -> Option<i32> {
     let fd = sys.open_update(path);
-    if 0 <= fd {
+    if fd.is_some() {
         return fd;
     }
     sys.open_read(path)
 }
 
-// A plain file opened to be read, or -1, which is then said.
-pub fn open_plain(sys: &System, path: &[u8]) -> i32 {
-    let fd = open(sys, path);
-    if fd < 0 {
+// A plain file opened to be read; where there is none, that is said.
+pub fn open_plain(sys: &System, path: &[u8]) -> Option<i32> {
+    let Some(fd) = open(sys, path) else {
         refuse_file(sys, path);
-        return -1;
-    }
+        return None;
+    };
     if check_plain(sys, fd, path) {
-        return fd;
+        return Some(fd);
     }
     sys.close(fd);
-    -1
+    None
 }

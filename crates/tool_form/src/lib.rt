@@ -8,7 +8,6 @@ ghost use Rattle.table.specs.TheTable.{most_rows};
 ghost use Rattle.table.specs.Answers.{row_most, table_most};
 
 use system::System;
-use tool_operator::Number;
 use tool_words::{number, say};
 
 // The most rows of a table.
@@ -20,54 +19,49 @@ pub const MOST: usize = table::MOST_ROWS * table::ROW_LENGTH_2;
 // THE WORD
 
 // What word i says, 0 where there is no such word. One that says no form gets its line.
-pub fn word(sys: &System, i: usize) -> Number {
-    if i == 0 {
-        return Number::Is(0);
-    }
+pub fn word(sys: &System, i: Option<usize>) -> Option<u32> {
+    let Some(i) = i else {
+        return Some(0);
+    };
     let mut room = io::buffer();
     let n = sys.arg(i, &mut room);
-    if octets::same_bytes(&room[..n], b"form=1") {
-        return Number::Is(1);
+    match &room[..n] {
+        b"form=1" => Some(1),
+        b"form=2" => Some(2),
+        word => {
+            tool_files::refuse_word(sys, word, b": no form: a table has form=1 or form=2");
+            None
+        }
     }
-    if octets::same_bytes(&room[..n], b"form=2") {
-        return Number::Is(2);
-    }
-    tool_files::refuse_word(sys, &room[..n], b": no form: a table has form=1 or form=2");
-    Number::Nothing
 }
 
 // The same of a command that takes no other word at that place.
-pub fn only(sys: &System, i: usize) -> Number {
+pub fn only(sys: &System, i: usize) -> Option<u32> {
     if sys.arg_count() <= i {
-        return Number::Is(0);
+        return Some(0);
     }
-    if tool_operator::find(sys, i, b"form=") == i {
-        return word(sys, i);
+    let found = tool_operator::find(sys, i, b"form=");
+    if found == Some(i) {
+        return word(sys, found);
     }
     tool_files::refuse(
         sys,
         b"the last word may be form=1 or form=2, and nothing else",
     );
-    Number::Nothing
+    None
 }
 
 // Whether word i, if it is there, is the first from `first` on that says an operator, or the first that says a form.
 fn is_of_both(sys: &System, first: usize, i: usize) -> bool {
-    if sys.arg_count() <= i {
-        return true;
-    }
-    if tool_operator::find(sys, first, b"operator=") == i {
-        return true;
-    }
-    tool_operator::find(sys, first, b"form=") == i
+    sys.arg_count() <= i
+        || tool_operator::find(sys, first, b"operator=") == Some(i)
+        || tool_operator::find(sys, first, b"form=") == Some(i)
 }
 
 // Whether the two last words, as far as they are there, say an operator and a form; why not is said.
 pub fn check_both(sys: &System, first: usize, second: usize) -> bool {
-    if is_of_both(sys, first, first) {
-        if is_of_both(sys, first, second) {
-            return true;
-        }
+    if is_of_both(sys, first, first) && is_of_both(sys, first, second) {
+        return true;
     }
     tool_files::refuse(
         sys,
@@ -123,54 +117,46 @@ fn refuse_both(sys: &System, path: &[u8], n: usize) {
 
 // The line that a failure gets: the word that is meant, and the first n bytes of what is said of it.
 fn refuse_line(sys: &System, word: &[u8], out: &[u8; 4096], n: usize) {
-    let line: &[u8] = out;
-    if n <= line.len() {
-        tool_files::refuse_word(sys, word, &line[0..n]);
+    if let Some(line) = out.get(..n) {
+        tool_files::refuse_word(sys, word, line);
     }
 }
 
-// The form that was said, 0 where the bytes are no table of it, which is then said.
-fn as_said(sys: &System, path: &[u8], bytes: &[u8], said: u32) -> u32 {
+// The form that was said, if the bytes are a table of it; if not, that is said.
+fn as_said(sys: &System, path: &[u8], bytes: &[u8], said: u32) -> Option<u32> {
     if fits(bytes, said) {
-        return said;
+        return Some(said);
     }
-    if said == 2 {
-        tool_files::refuse_word(
-            sys,
-            path,
-            b": no table of form 2: its length is not that of 1 to 1,024 rows of 8,704 bytes",
-        );
-        return 0;
-    }
-    tool_files::refuse_word(
-        sys,
-        path,
-        b": no table of form 1: its length is not that of 1 to 1,024 rows of 4,608 bytes",
-    );
-    0
+    let what: &[u8] = if said == 2 {
+        b": no table of form 2: its length is not that of 1 to 1,024 rows of 8,704 bytes"
+    } else {
+        b": no table of form 1: its length is not that of 1 to 1,024 rows of 4,608 bytes"
+    };
+    tool_files::refuse_word(sys, path, what);
+    None
 }
 
-// The form that the length tells, 0 where it tells none, which is then said.
-fn as_told(sys: &System, path: &[u8], bytes: &[u8]) -> u32 {
-    if fits(bytes, 1) {
-        if fits(bytes, 2) {
+// The form that the length tells; where it tells none, that is said.
+fn as_told(sys: &System, path: &[u8], bytes: &[u8]) -> Option<u32> {
+    match (fits(bytes, 1), fits(bytes, 2)) {
+        (true, false) => Some(1),
+        (false, true) => Some(2),
+        (true, true) => {
             refuse_both(sys, path, bytes.len());
-            return 0;
+            None
         }
-        return 1;
+        (false, false) => {
+            tool_files::refuse_word(
+                sys,
+                path,
+                b": no table: its length is not that of 1 to 1,024 rows of 4,608 bytes, form 1, or of 8,704, form 2",
+            );
+            None
+        }
     }
-    if fits(bytes, 2) {
-        return 2;
-    }
-    tool_files::refuse_word(
-        sys,
-        path,
-        b": no table: its length is not that of 1 to 1,024 rows of 4,608 bytes, form 1, or of 8,704, form 2",
-    );
-    0
 }
 
-fn form_of(sys: &System, path: &[u8], bytes: &[u8], said: u32) -> u32 {
+fn form_of(sys: &System, path: &[u8], bytes: &[u8], said: u32) -> Option<u32> {
     if said == 0 {
         return as_told(sys, path, bytes);
     }
@@ -179,15 +165,11 @@ fn form_of(sys: &System, path: &[u8], bytes: &[u8], said: u32) -> u32 {
 
 // READING
 
-// A table as it was read: its form, and how many bytes it has; 0 and 0 where there is none.
+// A table as it was read: its form, and how many bytes it has.
 #[derive(Clone, Copy)]
 pub struct Found {
     pub form: u32,
     pub length: usize,
-}
-
-fn nothing() -> Found {
-    Found { form: 0, length: 0 }
 }
 
 // Whether the program has room for so many bytes, and one more by which a longer file is told; if not, that is said.
@@ -211,25 +193,19 @@ pub fn check_room(sys: &System, word: &[u8], n: usize, room: &[u8]) -> bool {
     false
 }
 
-// The table in an open file, put at the start of the room; nothing where there is none, which is then said. What was said of its form is 0 for nothing.
-pub fn fill(sys: &System, fd: i32, path: &[u8], said: u32, room: &mut [u8]) -> Found {
+// The table in an open file, put at the start of the room; where there is none, that is said. What was said of its form is 0 for nothing.
+pub fn fill(sys: &System, fd: i32, path: &[u8], said: u32, room: &mut [u8]) -> Option<Found> {
     let n = sys.read_full(fd, room);
     if !check_room(sys, path, n, room) {
-        return nothing();
+        return None;
     }
-    let form = form_of(sys, path, &room[..n], said);
-    if form == 0 {
-        return nothing();
-    }
-    Found { form, length: n }
+    let form = form_of(sys, path, &room[..n], said)?;
+    Some(Found { form, length: n })
 }
 
 // The same of the file at a path.
-pub fn read(sys: &System, path: &[u8], said: u32, room: &mut [u8]) -> Found {
-    let fd = tool_files::open_plain(sys, path);
-    if fd < 0 {
-        return nothing();
-    }
+pub fn read(sys: &System, path: &[u8], said: u32, room: &mut [u8]) -> Option<Found> {
+    let fd = tool_files::open_plain(sys, path)?;
     let found = fill(sys, fd, path, said, room);
     sys.close(fd);
     found

@@ -6,9 +6,10 @@
 use system::System;
 use tool_hold::Held;
 use tool_inputs::Inputs;
-use tool_operator::Number;
+use tool_options::Kind;
 use tool_page::Desk;
 use tool_screens::Entry;
+use tool_serve::Paths;
 use tool_sheets::Sheets;
 use tool_totals::Totals;
 
@@ -28,15 +29,12 @@ fn check_codes(sys: &System, t: Totals) -> bool {
 
 // The board, if it has screens; whether it could be drawn.
 fn draw(sys: &System, screens: &[Entry]) -> bool {
-    if screens.len() == 0 {
-        return true;
-    }
-    tool_screens::draw(sys, screens)
+    screens.is_empty() || tool_screens::draw(sys, screens)
 }
 
 // What was done, said, and the table replaced if all is as it should be.
 fn finish(sys: &System, d: Desk, path: &[u8], screens: &[Entry], t: Totals) {
-    if !tool_totals::summary(sys, t, d.only != 0, 0 <= d.codes) {
+    if !tool_totals::summary(sys, t, d.only.is_some(), d.codes.is_some()) {
         return;
     }
     if !draw(sys, screens) {
@@ -53,21 +51,18 @@ fn serve(
     d: Desk,
     h: Held,
     path: &[u8],
-    requests: &[u8],
-    answers: &[u8],
-    notices: &[u8],
+    paths: Paths,
     table: &mut [u8],
     screens: &mut [Entry],
     all: usize,
 ) {
-    let t = tool_serve::serve_all(sys, d, requests, answers, notices, table, screens, all);
-    if !t.whole {
+    let Some(t) = tool_serve::serve_all(sys, d, paths, table, screens, all) else {
+        return;
+    };
+    if !tool_sheets::force_out(sys, d.answers, paths.answers) {
         return;
     }
-    if !tool_sheets::force_out(sys, d.answers, answers) {
-        return;
-    }
-    if !tool_sheets::force_out(sys, d.notices, notices) {
+    if !tool_sheets::force_out(sys, d.notices, paths.notices) {
         return;
     }
     if tool_hold::write_new(sys, path, h, table) {
@@ -77,7 +72,7 @@ fn serve(
 
 // What lies ready once every file is open.
 fn desk(sys: &System, i: Inputs, s: Sheets, form: u32, op: u32) -> Desk {
-    let gateway = tool_options::find(sys, tool_options::WAG);
+    let gateway = tool_options::find(sys, Kind::Wag);
     Desk {
         requests: i.requests,
         answers: s.answers,
@@ -85,13 +80,13 @@ fn desk(sys: &System, i: Inputs, s: Sheets, form: u32, op: u32) -> Desk {
         wags: i.wags,
         codes: i.codes,
         hex: tool_inputs::is_hex(sys),
-        quiet: tool_options::find(sys, tool_options::QUIET) != 0,
+        quiet: tool_options::find(sys, Kind::Quiet).is_some(),
         wag: tool_options::is_wag(sys, gateway),
         form,
         op,
-        host: tool_options::find(sys, tool_options::HOST),
-        realm: tool_options::find(sys, tool_options::REALM),
-        only: tool_options::find(sys, tool_options::ONLY),
+        host: tool_options::find(sys, Kind::Host),
+        realm: tool_options::find(sys, Kind::Realm),
+        only: tool_options::find(sys, Kind::Only),
     }
 }
 
@@ -102,51 +97,31 @@ fn begin(
     i: Inputs,
     h: Held,
     path: &[u8],
-    requests: &[u8],
-    answers: &[u8],
-    notices: &[u8],
+    paths: Paths,
     table: &mut [u8],
     screens: &mut [Entry],
     all: usize,
 ) {
     if !sys.seek_to(i.requests, 0) {
-        tool_files::refuse_file(sys, requests);
+        tool_files::refuse_file(sys, paths.requests);
         return;
     }
-    let both = tool_sheets::open(sys, h, i, answers, notices);
-    if !both.well {
+    let Some(both) = tool_sheets::open(sys, h, i, paths.answers, paths.notices) else {
         return;
-    }
+    };
     let d = desk(sys, i, both, h.form, op);
-    serve(
-        sys, d, h, path, requests, answers, notices, table, screens, all,
-    );
+    serve(sys, d, h, path, paths, table, screens, all);
 }
 
-// More screens than the list has room for, in the place of those that make no board.
-const NO_BOARD: usize = 66;
-
-// The screens of an open file with the name of n bytes, read to the list: how many they are; why they make no board is said.
-fn read_named(sys: &System, fd: i32, name: &[u8; 4096], n: usize, screens: &mut [Entry]) -> usize {
-    let path: &[u8] = name;
-    if path.len() < n {
-        return NO_BOARD;
-    }
-    let k = tool_screens::read(sys, fd, &path[0..n], screens);
-    if k == 0 {
-        return NO_BOARD;
-    }
-    k
-}
-
-// The same of the file that the word names; none without it.
-fn read_screens(sys: &System, fd: i32, screens: &mut [Entry]) -> usize {
-    if fd < 0 {
-        return 0;
-    }
-    let mut name = [0u8; 4096];
-    let n = tool_options::board(sys, tool_options::find(sys, tool_options::BOARD), &mut name);
-    read_named(sys, fd, &name, n, screens)
+// The screens of the file that the word names, if it is open, read to the list: how many they are, none without it; why they make no board is said.
+fn read_screens(sys: &System, file: Option<i32>, screens: &mut [Entry]) -> Option<usize> {
+    let Some(fd) = file else {
+        return Some(0);
+    };
+    let i = tool_options::find(sys, Kind::Board)?;
+    let mut room = [0u8; 4096];
+    let path = tool_options::value(sys, i, b"board=", &mut room);
+    tool_screens::read(sys, fd, path, screens)
 }
 
 // With the screens that the word names, none without it. The list has room for one more than a board may have, so that too many are told.
@@ -156,107 +131,53 @@ fn with_screens(
     i: Inputs,
     h: Held,
     path: &[u8],
-    requests: &[u8],
-    answers: &[u8],
-    notices: &[u8],
+    paths: Paths,
     table: &mut [u8],
     all: usize,
 ) {
-    let mut screens = [[0u8; tool_screens::ENTRY_LENGTH]; 65];
-    let n = read_screens(sys, i.screens, &mut screens);
-    if n > 65 {
+    let mut room = [[0u8; tool_screens::ENTRY_LENGTH]; 65];
+    let Some(n) = read_screens(sys, i.screens, &mut room) else {
         return;
+    };
+    if let Some(screens) = room.get_mut(..n) {
+        begin(sys, op, i, h, path, paths, table, screens, all);
     }
-    begin(
-        sys,
-        op,
-        i,
-        h,
-        path,
-        requests,
-        answers,
-        notices,
-        table,
-        &mut screens[0..n],
-        all,
-    );
 }
 
 // The requests followed to their end, and the files that have a line for each of them.
-fn follow(
-    sys: &System,
-    op: u32,
-    h: Held,
-    path: &[u8],
-    requests: &[u8],
-    answers: &[u8],
-    notices: &[u8],
-    table: &mut [u8],
-) {
-    let fd = tool_files::open_plain(sys, requests);
-    if fd < 0 {
+fn follow(sys: &System, op: u32, h: Held, path: &[u8], paths: Paths, table: &mut [u8]) {
+    let Some(fd) = tool_files::open_plain(sys, paths.requests) else {
         return;
-    }
-    let all = tool_inputs::count(sys, tool_inputs::source(sys, fd), requests);
-    if all < 1 {
+    };
+    let source = tool_inputs::source(sys, fd);
+    let Some(all) = tool_inputs::count(sys, source, paths.requests) else {
         return;
-    }
-    let i = tool_inputs::open(sys, fd, all);
-    if tool_inputs::are_there(i) {
-        with_screens(sys, op, i, h, path, requests, answers, notices, table, all);
+    };
+    if let Ok(i) = tool_inputs::open(sys, fd, all) {
+        with_screens(sys, op, i, h, path, paths, table, all);
     }
 }
 
 // THE COMMAND
 
-fn handle_held(
-    sys: &System,
-    op: u32,
-    h: Held,
-    path: &[u8],
-    requests: &[u8],
-    answers: &[u8],
-    notices: &[u8],
-    room: &mut [u8],
-) {
-    let n = h.length;
-    if room.len() < n {
-        return;
-    }
-    follow(
-        sys,
-        op,
-        h,
-        path,
-        requests,
-        answers,
-        notices,
-        &mut room[0..n],
-    );
-}
-
-fn run(
-    sys: &System,
-    path: &[u8],
-    requests: &[u8],
-    answers: &[u8],
-    notices: &[u8],
-    room: &mut [u8],
-) {
+fn run(sys: &System, path: &[u8], paths: Paths, room: &mut [u8]) {
     if !tool_options::check_words(sys) {
         return;
     }
-    let said = tool_operator::operator(sys, tool_options::find(sys, tool_options::OPERATOR));
-    let Number::Is(op) = said else {
+    let operator = tool_options::find(sys, Kind::Operator);
+    let said = tool_operator::operator(sys, operator);
+    let Some(op) = said else {
         return;
     };
-    let form = tool_form::word(sys, tool_options::find(sys, tool_options::FORM));
-    let Number::Is(f) = form else {
+    let word = tool_options::find(sys, Kind::Form);
+    let form = tool_form::word(sys, word);
+    let Some(f) = form else {
         return;
     };
-    let h = tool_hold::hold(sys, path, f, room);
-    if tool_hold::is_held(h) {
-        handle_held(sys, op, h, path, requests, answers, notices, room);
+    if let Some(h) = tool_hold::hold(sys, path, f, room) {
+        if let Some(table) = room.get_mut(..h.length) {
+            follow(sys, op, h, path, paths, table);
+        }
         tool_hold::leave(sys, path, h);
     }
 }
@@ -270,12 +191,10 @@ pub fn handle(sys: &System, room: &mut [u8]) {
     let b = sys.arg(3, &mut requests);
     let c = sys.arg(4, &mut answers);
     let d = sys.arg(5, &mut notices);
-    run(
-        sys,
-        &table[..a],
-        &requests[..b],
-        &answers[..c],
-        &notices[..d],
-        room,
-    );
+    let paths = Paths {
+        requests: &requests[..b],
+        answers: &answers[..c],
+        notices: &notices[..d],
+    };
+    run(sys, &table[..a], paths, room);
 }

@@ -9,97 +9,59 @@ mod locks;
 use system::System;
 use tool_words::say;
 
-// What is open while a table is held, -1 where it is not, and the table's form and length.
+// What is open while a table is held, or a name for one that is not there yet, and the table's form and length.
 #[derive(Clone, Copy)]
 pub struct Held {
     pub lock: i32,
-    pub table: i32,
+    pub table: Option<i32>,
     pub new: i32,
     pub form: u32,
     pub length: usize,
 }
 
-// Whether the table is held, and can be written anew.
-pub fn is_held(h: Held) -> bool {
-    0 <= h.new
-}
-
-fn none(lock: i32) -> Held {
-    Held {
-        lock,
-        table: -1,
-        new: -1,
-        form: 0,
-        length: 0,
-    }
-}
-
 // The name of a file beside the table: that of the table and an ending.
-fn beside(name: &mut [u8; 4096], path: &[u8], end: &[u8]) -> usize {
+fn beside<'a>(name: &'a mut [u8; 4096], path: &[u8], end: &[u8]) -> &'a [u8] {
     let a = say(name, 0, path);
-    say(name, a, end)
-}
-
-// The file with the name of n bytes removed.
-fn remove(sys: &System, name: &[u8; 4096], n: usize) {
-    let all: &[u8] = name;
-    if n <= all.len() {
-        sys.unlink(&all[0..n]);
-    }
+    let n = say(name, a, end);
+    name.get(..n).unwrap_or(&[])
 }
 
 // THE LOCK
 
-fn lock(sys: &System, path: &[u8]) -> i32 {
+fn lock(sys: &System, path: &[u8]) -> Option<i32> {
     let mut name = [0u8; 4096];
-    let n = beside(&mut name, path, b".lock");
-    locks::make(sys, &name, n, path)
+    locks::make(sys, beside(&mut name, path, b".lock"), path)
 }
 
-fn unlock(sys: &System, path: &[u8]) {
+fn unlock(sys: &System, path: &[u8], lock: i32) {
+    sys.close(lock);
     let mut name = [0u8; 4096];
-    let n = beside(&mut name, path, b".lock");
-    remove(sys, &name, n);
+    sys.unlink(beside(&mut name, path, b".lock"));
 }
 
 // THE NEW TABLE
 
-fn make(sys: &System, name: &[u8]) -> i32 {
+fn make(sys: &System, name: &[u8]) -> Option<i32> {
     let fd = sys.create(name);
-    if 0 <= fd {
+    if fd.is_some() {
         return fd;
     }
     if sys.errno() != system::EEXIST {
         tool_files::refuse_file(sys, name);
-        return -1;
+        return None;
     }
     tool_files::refuse_word(
         sys,
         name,
         b": it is there, and under that name the new table is written first",
     );
-    -1
+    None
 }
 
-fn make_named(sys: &System, name: &[u8; 4096], n: usize) -> i32 {
-    let all: &[u8] = name;
-    if all.len() < n {
-        return -1;
-    }
-    make(sys, &all[0..n])
-}
-
-// The new file made, or -1.
-fn new(sys: &System, path: &[u8]) -> i32 {
+// The new file made.
+fn new(sys: &System, path: &[u8]) -> Option<i32> {
     let mut name = [0u8; 4096];
-    let n = beside(&mut name, path, b".new");
-    make_named(sys, &name, n)
-}
-
-fn unmake(sys: &System, path: &[u8]) {
-    let mut name = [0u8; 4096];
-    let n = beside(&mut name, path, b".new");
-    remove(sys, &name, n);
+    make(sys, beside(&mut name, path, b".new"))
 }
 
 // Whether the new file got the owner and the mode of the table.
@@ -120,17 +82,13 @@ fn liken(sys: &System, path: &[u8], table: i32, new: i32) -> bool {
 
 // All that is open is closed, and what was made beside the table is gone.
 pub fn leave(sys: &System, path: &[u8], h: Held) {
-    if 0 <= h.table {
-        sys.close(h.table);
+    if let Some(table) = h.table {
+        sys.close(table);
     }
-    if 0 <= h.new {
-        sys.close(h.new);
-        unmake(sys, path);
-    }
-    if 0 <= h.lock {
-        sys.close(h.lock);
-        unlock(sys, path);
-    }
+    sys.close(h.new);
+    let mut name = [0u8; 4096];
+    sys.unlink(beside(&mut name, path, b".new"));
+    unlock(sys, path, h.lock);
 }
 
 // Whether the open file may be replaced by another: a plain one, with the right to be written, under this name alone.
@@ -162,38 +120,45 @@ fn check_replaceable(sys: &System, fd: i32, path: &[u8]) -> bool {
     true
 }
 
-// The table's file, open and replaceable, or -1.
-fn open(sys: &System, path: &[u8]) -> i32 {
-    let fd = sys.open_update(path);
-    if fd < 0 {
+// The table's file, open and replaceable.
+fn open(sys: &System, path: &[u8]) -> Option<i32> {
+    let Some(fd) = sys.open_update(path) else {
         tool_files::refuse_file(sys, path);
-        return -1;
-    }
+        return None;
+    };
     if check_replaceable(sys, fd, path) {
-        return fd;
+        return Some(fd);
     }
     sys.close(fd);
-    -1
+    None
 }
 
-// The table read, and the file for the new one made.
-fn take(sys: &System, path: &[u8], said: u32, lock: i32, room: &mut [u8]) -> Held {
-    let table = open(sys, path);
-    if table < 0 {
-        return none(lock);
-    }
-    let found = tool_form::fill(sys, table, path, said, room);
-    if found.length < 1 {
-        sys.close(table);
-        return none(lock);
-    }
-    Held {
+// The open table read, and the file for the new one made.
+fn fill(
+    sys: &System,
+    path: &[u8],
+    said: u32,
+    lock: i32,
+    table: i32,
+    room: &mut [u8],
+) -> Option<Held> {
+    let found = tool_form::fill(sys, table, path, said, room)?;
+    Some(Held {
         lock,
-        table,
-        new: new(sys, path),
+        table: Some(table),
+        new: new(sys, path)?,
         form: found.form,
         length: found.length,
+    })
+}
+
+fn take(sys: &System, path: &[u8], said: u32, lock: i32, room: &mut [u8]) -> Option<Held> {
+    let table = open(sys, path)?;
+    let h = fill(sys, path, said, lock, table, room);
+    if h.is_none() {
+        sys.close(table);
     }
+    h
 }
 
 fn check_length(sys: &System, path: &[u8]) -> bool {
@@ -206,24 +171,20 @@ fn check_length(sys: &System, path: &[u8]) -> bool {
 
 // The table at a path, whose form was said or is 0, held and read to the start of the room. Where it can not be, that is said and nothing is left
 // behind.
-pub fn hold(sys: &System, path: &[u8], said: u32, room: &mut [u8]) -> Held {
+pub fn hold(sys: &System, path: &[u8], said: u32, room: &mut [u8]) -> Option<Held> {
     if !check_length(sys, path) {
-        return none(-1);
+        return None;
     }
-    let lock = lock(sys, path);
-    if lock < 0 {
-        return none(-1);
-    }
-    let h = take(sys, path, said, lock, room);
-    if !is_held(h) {
-        leave(sys, path, h);
-        return none(-1);
-    }
-    if liken(sys, path, h.table, h.new) {
-        return h;
+    let lock = lock(sys, path)?;
+    let Some(h) = take(sys, path, said, lock, room) else {
+        unlock(sys, path, lock);
+        return None;
+    };
+    if h.table.is_some_and(|table| liken(sys, path, table, h.new)) {
+        return Some(h);
     }
     leave(sys, path, h);
-    none(-1)
+    None
 }
 
 // Whether a name is free: no file has it, and no link.
@@ -231,56 +192,45 @@ fn is_free(sys: &System, path: &[u8]) -> bool {
     if links::is_link(sys, path) {
         return false;
     }
-    let fd = sys.open_update(path);
-    if 0 <= fd {
+    if let Some(fd) = sys.open_update(path) {
         sys.close(fd);
         return false;
     }
     sys.errno() == system::ENOENT
 }
 
-// A name held for a table that is not there yet, in the same way.
-pub fn hold_name(sys: &System, path: &[u8]) -> Held {
-    if !check_length(sys, path) {
-        return none(-1);
-    }
-    let lock = lock(sys, path);
-    if lock < 0 {
-        return none(-1);
-    }
+// The file for a new table made, under a name that no file has.
+fn take_name(sys: &System, path: &[u8], lock: i32) -> Option<Held> {
     if !is_free(sys, path) {
         tool_files::refuse_word(sys, path, b": the name is taken");
-        leave(sys, path, none(lock));
-        return none(-1);
+        return None;
     }
-    let h = Held {
+    Some(Held {
         lock,
-        table: -1,
-        new: new(sys, path),
+        table: None,
+        new: new(sys, path)?,
         form: 0,
         length: 0,
-    };
-    if is_held(h) {
-        return h;
+    })
+}
+
+// A name held for a table that is not there yet, in the same way.
+pub fn hold_name(sys: &System, path: &[u8]) -> Option<Held> {
+    if !check_length(sys, path) {
+        return None;
     }
-    leave(sys, path, h);
-    none(-1)
+    let lock = lock(sys, path)?;
+    let h = take_name(sys, path, lock);
+    if h.is_none() {
+        unlock(sys, path, lock);
+    }
+    h
 }
 
 // REPLACING
 
 fn put_all(sys: &System, fd: i32, bytes: &[u8]) -> bool {
-    if sys.write_all(fd, bytes) {
-        return sys.fsync(fd);
-    }
-    false
-}
-
-fn refuse_named(sys: &System, name: &[u8; 4096], n: usize) {
-    let all: &[u8] = name;
-    if n <= all.len() {
-        tool_files::refuse_file(sys, &all[0..n]);
-    }
+    sys.write_all(fd, bytes) && sys.fsync(fd)
 }
 
 // Whether the new table is written, whole and forced out; why not is said.
@@ -289,26 +239,16 @@ pub fn write_new(sys: &System, path: &[u8], h: Held, bytes: &[u8]) -> bool {
         return true;
     }
     let mut name = [0u8; 4096];
-    let n = beside(&mut name, path, b".new");
-    refuse_named(sys, &name, n);
-    false
-}
-
-fn rename_to(sys: &System, name: &[u8; 4096], n: usize, to: &[u8]) -> bool {
-    let all: &[u8] = name;
-    if all.len() < n {
-        return false;
-    }
-    if sys.rename(&all[0..n], to) {
-        return true;
-    }
-    tool_files::refuse_file(sys, to);
+    tool_files::refuse_file(sys, beside(&mut name, path, b".new"));
     false
 }
 
 // Whether the new table has taken the table's name; why not is said.
 pub fn replace(sys: &System, path: &[u8]) -> bool {
     let mut name = [0u8; 4096];
-    let n = beside(&mut name, path, b".new");
-    rename_to(sys, &name, n, path)
+    if sys.rename(beside(&mut name, path, b".new"), path) {
+        return true;
+    }
+    tool_files::refuse_file(sys, path);
+    false
 }

@@ -3,8 +3,5 @@
 use system::System;
 
 pub fn is_link(sys: &System, path: &[u8]) -> bool {
-    if 4000 < path.len() {
-        return false;
-    }
-    sys.is_link(path)
+    path.len() <= 4000 && sys.is_link(path)
 }

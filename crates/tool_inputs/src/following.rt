@@ -7,24 +7,19 @@ fn step(sys: &System, s: Source, path: &[u8], w: Way) -> Way {
     tool_streams::look(sys, s, path, w, &mut room)
 }
 
-// How many messages the file has, 0 where it can not be followed. A proved loop has to end, and nothing says that a file does, so the turns
-// are counted down.
-pub fn count(sys: &System, s: Source, path: &[u8]) -> usize {
+// How many messages the file has, if it can be followed. A proved loop has to end, and nothing says that a file does, so the turns
+// are counted.
+pub fn count(sys: &System, s: Source, path: &[u8]) -> Option<usize> {
     let mut w = tool_streams::start();
-    let mut turns: usize = 4294967296;
-    while turns > 0 {
-        turns -= 1;
+    for _ in 0..4294967296usize {
         w = step(sys, s, path, w);
         if w.last == 0 {
             return messages(w);
         }
     }
-    0
+    None
 }
 
-fn messages(w: Way) -> usize {
-    if w.well {
-        return w.messages;
-    }
-    0
+fn messages(w: Way) -> Option<usize> {
+    (w.well && 0 < w.messages).then_some(w.messages)
 }

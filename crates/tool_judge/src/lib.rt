@@ -5,23 +5,20 @@
 use system::System;
 use tool_judge_all::Desk;
 use tool_judge_words::how_many;
-use tool_operator::Number;
+use tool_options::Kind;
 use tool_words::say;
 
 // THE TABLES
 
-// The table at a path, with a row for each of so many cases, put at the start of the room: its form, 0 where there is none, which is then said.
-fn read_rows(sys: &System, path: &[u8], said: u32, cases: usize, room: &mut [u8]) -> u32 {
-    let found = tool_form::read(sys, path, said, room);
-    if found.length == 0 {
-        return 0;
-    }
+// The table at a path, with a row for each of so many cases, put at the start of the room: its form. That there is none is said.
+fn read_rows(sys: &System, path: &[u8], said: u32, cases: usize, room: &mut [u8]) -> Option<u32> {
+    let found = tool_form::read(sys, path, said, room)?;
     let rows = found.length / tool_form::row_length(found.form);
     if rows == cases {
-        return found.form;
+        return Some(found.form);
     }
     refuse_rows(sys, path, rows, cases);
-    0
+    None
 }
 
 fn refuse_rows(sys: &System, path: &[u8], rows: usize, cases: usize) {
@@ -42,35 +39,22 @@ fn refuse_rows(sys: &System, path: &[u8], rows: usize, cases: usize) {
 // The first of the words behind the names.
 const FIRST: usize = 7;
 
-fn is_taken(kind: usize) -> bool {
-    if kind == tool_options::WAG {
-        return true;
-    }
-    if kind == tool_options::OPERATOR {
-        return true;
-    }
-    kind == tool_options::FORM
-}
-
 // Whether word i, if it is there, is the first of a kind that the command takes.
 fn is_word(sys: &System, i: usize) -> bool {
     if sys.arg_count() <= i {
         return true;
     }
-    let kind = tool_options::kind_at(sys, i);
-    if is_taken(kind) {
-        return tool_options::find_from(sys, FIRST, kind) == i;
+    match tool_options::kind_at(sys, i) {
+        Some(kind @ (Kind::Wag | Kind::Operator | Kind::Form)) => {
+            tool_options::find_from(sys, FIRST, kind) == Some(i)
+        }
+        _ => false,
     }
-    false
 }
 
 fn check_words(sys: &System) -> bool {
-    if is_word(sys, 7) {
-        if is_word(sys, 8) {
-            if is_word(sys, 9) {
-                return true;
-            }
-        }
+    if is_word(sys, 7) && is_word(sys, 8) && is_word(sys, 9) {
+        return true;
     }
     tool_files::refuse(
         sys,
@@ -94,18 +78,16 @@ fn read_and_judge(
     let mut second = io::buffer();
     let a = sys.arg(3, &mut first);
     let b = sys.arg(4, &mut second);
-    let form = read_rows(sys, &first[..a], said, cases, before);
-    if form == 0 {
+    let Some(form) = read_rows(sys, &first[..a], said, cases, before) else {
+        return;
+    };
+    if read_rows(sys, &second[..b], form, cases, after).is_none() {
         return;
     }
-    if read_rows(sys, &second[..b], form, cases, after) == 0 {
+    let gateway = tool_options::find_from(sys, FIRST, Kind::Wag);
+    let Ok(wags) = tool_inputs::open_wags(sys, gateway, cases) else {
         return;
-    }
-    let gateway = tool_options::find_from(sys, FIRST, tool_options::WAG);
-    let wags = tool_inputs::open_wags(sys, gateway, cases);
-    if wags == tool_inputs::BAD {
-        return;
-    }
+    };
     let d = Desk {
         cases: fd,
         wags,
@@ -125,14 +107,12 @@ fn open_and_judge(
     before: &mut [u8],
     after: &mut [u8],
 ) {
-    let fd = tool_files::open_plain(sys, path);
-    if fd < 0 {
+    let Some(fd) = tool_files::open_plain(sys, path) else {
         return;
-    }
-    let cases = tool_judge_cases::count(sys, fd, path);
-    if cases == 0 {
+    };
+    let Some(cases) = tool_judge_cases::count(sys, fd, path) else {
         return;
-    }
+    };
     if !sys.seek_to(fd, 0) {
         tool_files::refuse_file(sys, path);
         return;
@@ -145,15 +125,14 @@ pub fn run(sys: &System, before: &mut [u8], after: &mut [u8]) {
     if !check_words(sys) {
         return;
     }
-    let told = tool_operator::operator(
-        sys,
-        tool_options::find_from(sys, FIRST, tool_options::OPERATOR),
-    );
-    let Number::Is(op) = told else {
+    let operator = tool_options::find_from(sys, FIRST, Kind::Operator);
+    let told = tool_operator::operator(sys, operator);
+    let Some(op) = told else {
         return;
     };
-    let said = tool_form::word(sys, tool_options::find_from(sys, FIRST, tool_options::FORM));
-    let Number::Is(form) = said else {
+    let word = tool_options::find_from(sys, FIRST, Kind::Form);
+    let said = tool_form::word(sys, word);
+    let Some(form) = said else {
         return;
     };
     let mut path = io::buffer();

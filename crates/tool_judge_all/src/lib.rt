@@ -2,28 +2,26 @@
 #![tactic(auto)]
 
 use system::System;
-use tool_judge_cases::Way;
+use tool_judge_cases::{Refused, Way};
+use tool_judge_tally::Tally;
 
-// What is read beside the tables: the cases, and what the gateway says to each, -1 where one word says it for all; the form of the rows, and the operator.
+// What is read beside the tables: the cases, and what the gateway says to each, where not one word says it for all; the form of the rows, and the operator.
 #[derive(Clone, Copy)]
 pub struct Desk {
     pub cases: i32,
-    pub wags: i32,
+    pub wags: Option<i32>,
     pub wag: bool,
     pub form: u32,
     pub op: u32,
 }
 
-// What the gateway says to the next case; 0 where its line could not be read again, which is then said.
-fn wag_of(sys: &System, d: Desk) -> usize {
-    if d.wags < 0 {
-        if d.wag {
-            return tool_expected::YES;
-        }
-        return tool_expected::NO;
-    }
-    let word = tool_expected::take(sys, d.wags, tool_expected::WAGS);
-    if word == 0 {
+// What the gateway says to the next case; that its line could not be read again is said.
+fn wag_of(sys: &System, d: Desk) -> Option<bool> {
+    let Some(fd) = d.wags else {
+        return Some(d.wag);
+    };
+    let word = tool_expected::take_wag(sys, fd);
+    if word.is_none() {
         tool_files::refuse(sys, b"a line of wags= could not be read again");
     }
     word
@@ -40,30 +38,27 @@ fn judge_rows(
     m: &[u8],
     theirs: &[u8],
     their_notice: &[u8],
-    tally: &mut [usize; 9],
+    tally: &mut Tally,
 ) -> bool {
-    if k < 1 {
-        return false;
-    }
-    if tool_form::MOST_ROWS < k {
+    if k < 1 || tool_form::MOST_ROWS < k {
         return false;
     }
     let a = tool_form::length_of(d.form, k - 1);
     let e = a + tool_form::row_length(d.form);
-    if before.len() < e {
+    let Some(row) = before.get_mut(a..e) else {
         return false;
-    }
-    if after.len() < e {
+    };
+    let Some(row_after) = after.get(a..e) else {
         return false;
-    }
+    };
     tool_judge_case::judge_one(
         sys,
         d.form,
         d.op,
         wag,
         k,
-        &mut before[a..e],
-        &after[a..e],
+        row,
+        row_after,
         m,
         theirs,
         their_notice,
@@ -81,38 +76,22 @@ fn judge_parts(
     requests: &[u8; 8192],
     answers: &[u8; 8192],
     notices: &[u8; 8192],
-    tally: &mut [usize; 9],
+    tally: &mut Tally,
 ) -> bool {
-    let request: &[u8] = requests;
-    let answer: &[u8] = answers;
-    let notice: &[u8] = notices;
-    let r = w.request;
-    let a = w.answer;
-    let n = w.notice;
-    if request.len() < r {
+    let Some(m) = requests.get(..w.request) else {
         return false;
-    }
-    if answer.len() < a {
+    };
+    let Some(theirs) = answers.get(..w.answer) else {
         return false;
-    }
-    if notice.len() < n {
+    };
+    let Some(notice) = notices.get(..w.notice) else {
         return false;
-    }
-    let word = wag_of(sys, d);
-    if word == 0 {
+    };
+    let Some(wag) = wag_of(sys, d) else {
         return false;
-    }
+    };
     judge_rows(
-        sys,
-        d,
-        word == tool_expected::YES,
-        w.cases,
-        before,
-        after,
-        &request[0..r],
-        &answer[0..a],
-        &notice[0..n],
-        tally,
+        sys, d, wag, w.cases, before, after, m, theirs, notice, tally,
     )
 }
 
@@ -122,13 +101,13 @@ fn step(
     path: &[u8],
     before: &mut [u8],
     after: &[u8],
-    tally: &mut [usize; 9],
+    tally: &mut Tally,
     w: Way,
-) -> Way {
+) -> Result<Option<Way>, Refused> {
     let mut request = [0u8; 8192];
     let mut answer = [0u8; 8192];
     let mut notice = [0u8; 8192];
-    let v = tool_judge_cases::look(
+    let found = tool_judge_cases::look(
         sys,
         d.cases,
         path,
@@ -136,41 +115,38 @@ fn step(
         &mut request,
         &mut answer,
         &mut notice,
-    );
-    if !v.there {
-        return v;
-    }
+    )?;
+    let Some(v) = found else {
+        return Ok(None);
+    };
     if judge_parts(sys, d, v, before, after, &request, &answer, &notice, tally) {
-        return v;
+        return Ok(Some(v));
     }
-    tool_judge_cases::over(v, false)
+    Err(Refused)
 }
 
-// Each case in its turn. A proved loop has to end, and nothing says that a file does, so the turns are counted down.
+// Each case in its turn. A proved loop has to end, and nothing says that a file does, so the turns are counted.
 fn follow(
     sys: &System,
     d: Desk,
     path: &[u8],
     before: &mut [u8],
     after: &[u8],
-    tally: &mut [usize; 9],
-) -> Way {
+    tally: &mut Tally,
+) -> Result<Way, Refused> {
     let mut w = tool_judge_cases::start();
-    let mut turns: usize = 4294967296;
-    while turns > 0 {
-        turns -= 1;
-        w = step(sys, d, path, before, after, tally, w);
-        if !w.there {
-            return w;
-        }
+    for _ in 0..4294967296usize {
+        let Some(next) = step(sys, d, path, before, after, tally, w)? else {
+            return Ok(w);
+        };
+        w = next;
     }
-    w
+    Ok(w)
 }
 
 fn judge_all(sys: &System, d: Desk, path: &[u8], before: &mut [u8], after: &[u8]) {
-    let mut tally = [0usize; 9];
-    let w = follow(sys, d, path, before, after, &mut tally);
-    if w.well {
+    let mut tally = tool_judge_tally::none();
+    if let Ok(w) = follow(sys, d, path, before, after, &mut tally) {
         tool_judge_tally::summary(sys, w.cases, &tally);
     }
 }
@@ -181,11 +157,8 @@ pub fn judge_in(sys: &System, d: Desk, path: &[u8], cases: usize, before: &mut [
         return;
     }
     let n = tool_form::length_of(d.form, cases);
-    if before.len() < n {
+    if before.len() < n || after.len() < n {
         return;
     }
-    if after.len() < n {
-        return;
-    }
-    judge_all(sys, d, path, &mut before[0..n], &after[0..n]);
+    judge_all(sys, d, path, &mut before[..n], &after[..n]);
 }

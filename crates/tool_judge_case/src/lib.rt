@@ -1,8 +1,9 @@
 // One case of `judge`: judged by the library, and what came of it said.
 #![tactic(auto)]
 
-use likeness::Found;
+use judge::Found;
 use system::System;
+use tool_judge_tally::Tally;
 use tool_words::{number, say};
 
 // What is said of a case begins with its number and what its request asks.
@@ -20,15 +21,15 @@ fn tell_accepted(
     at: usize,
     ours: &[u8],
     theirs: &[u8],
-    tally: &mut [usize; 9],
+    tally: &mut Tally,
 ) -> bool {
-    tool_judge_tally::count(tally, tool_judge_tally::ACCEPTED);
+    tally.accept();
     let n = say(out, at, b"accepted\n");
     if !tool_files::print(sys, out, n) {
         return false;
     }
-    if tool_judge_lines::tell_second(sys, ours, theirs) != 0 {
-        tool_judge_tally::count(tally, tool_judge_tally::WARNED);
+    if tool_judge_lines::tell_second(sys, ours, theirs) {
+        tally.warn();
     }
     true
 }
@@ -53,14 +54,14 @@ fn tell(
     their_notice: &[u8],
     row: &[u8],
     after: &[u8],
-    tally: &mut [usize; 9],
+    tally: &mut Tally,
 ) -> bool {
     let mut out = [0u8; 4096];
     let a = begin(&mut out, k, m, form);
     if f.number == 0 {
         return tell_accepted(sys, &mut out, a, ours, theirs, tally);
     }
-    tool_judge_tally::count(tally, f.mismatch as usize);
+    tally.refuse(f.mismatch as usize);
     let b = begin_refused(&mut out, a, f.number);
     if f.number == 31 {
         return tool_judge_lines::tell_deep(sys, &mut out, b, theirs);
@@ -75,25 +76,16 @@ fn tell(
 
 // Our answer in its room: as long as its header says, since ours has its true length; no bytes where nothing was written.
 fn our_answer(room: &[u8; answers::ANSWER_LEAST]) -> &[u8] {
-    let all: &[u8] = room;
     let n = octets::read24(room, 1);
-    if all.len() < n {
-        return &all[0..0];
-    }
-    &all[0..n]
+    room.get(..n).unwrap_or(b"")
 }
 
 // Our notice in its room: no bytes where nothing was written, since a notice begins with a Session-Id.
 fn our_notice(room: &[u8; answers::NOTICE_LENGTH_2], form: u32) -> &[u8] {
-    let all: &[u8] = room;
-    let n = tool_form::notice_length(form);
     if octets::all_zero(room) {
-        return &all[0..0];
+        return b"";
     }
-    if all.len() < n {
-        return &all[0..0];
-    }
-    &all[0..n]
+    room.get(..tool_form::notice_length(form)).unwrap_or(b"")
 }
 
 // The judgement, under the names that the words say.
@@ -161,7 +153,7 @@ pub fn judge_one(
     m: &[u8],
     theirs: &[u8],
     their_notice: &[u8],
-    tally: &mut [usize; 9],
+    tally: &mut Tally,
 ) -> bool {
     let mut answer = [0u8; answers::ANSWER_LEAST];
     let mut notice = [0u8; answers::NOTICE_LENGTH_2];

@@ -20,13 +20,10 @@ fn field_name(out: &mut [u8; 4096], at: usize, byte: usize) -> usize {
 
 // The bytes of a message from one place to another.
 fn bytes(out: &mut [u8; 4096], at: usize, m: &[u8], from: usize, end: usize) -> usize {
-    if end < from {
-        return at;
+    match m.get(from..end) {
+        Some(s) => tool_words::octets(out, at, s),
+        None => at,
     }
-    if m.len() < end {
-        return at;
-    }
-    tool_words::octets(out, at, &m[from..end])
 }
 
 // That field of a header, byte by byte, where it is not the length.

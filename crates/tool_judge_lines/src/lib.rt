@@ -1,7 +1,7 @@
 // What a judgement says of an answer that is not the same as ours: where it first differs, with both where that is short.
 #![tactic(auto)]
 
-use likeness::Found;
+use judge::Found;
 use reader::{Fault, Seen, Step};
 use system::System;
 use tool_judge_words::end_line;
@@ -9,13 +9,12 @@ use tool_words::{number, say};
 
 // LINES
 
-// The AVP at a place of a message, behind a margin, and those of a group below it; nothing for place 0.
-fn tell_avp(sys: &System, margin: &[u8], m: &[u8], at: usize) -> bool {
-    if at == 0 {
+// The AVP at a place of a message, behind a margin, and those of a group below it; nothing without a place.
+fn tell_avp(sys: &System, margin: &[u8], m: &[u8], place: Option<usize>) -> bool {
+    let Some(at) = place else {
         return true;
-    }
-    let step = reader::avp_at(m, at);
-    let Step::One(s) = step else {
+    };
+    let Step::One(s) = reader::avp_at(m, at) else {
         return true;
     };
     let mut out = [0u8; 4096];
@@ -31,15 +30,8 @@ fn tell_avp(sys: &System, margin: &[u8], m: &[u8], at: usize) -> bool {
 
 // No answer; what ours says is told.
 fn tell_none(sys: &System, out: &mut [u8; 4096], at: usize, ours: &[u8]) -> bool {
-    if !end_line(sys, out, at, b"no answer, and one is due") {
-        return false;
-    }
-    tell_avp(
-        sys,
-        b"  ours: ",
-        ours,
-        tool_judge_avps::other_result(b"", ours),
-    )
+    let place = tool_judge_avps::other_result(b"", ours);
+    end_line(sys, out, at, b"no answer, and one is due") && tell_avp(sys, b"  ours: ", ours, place)
 }
 
 fn tell_header(
@@ -54,7 +46,7 @@ fn tell_header(
     if ours.len() < message::HEADER_LENGTH {
         return tool_judge_header::tell_not_due(sys, out, at, m);
     }
-    if theirs.len() < 1 {
+    if theirs.is_empty() {
         return tell_none(sys, out, at, ours);
     }
     tool_judge_header::tell_byte(sys, out, at, ours, theirs, byte)
@@ -68,22 +60,17 @@ fn say_fault(out: &mut [u8; 4096], at: usize, f: Fault, is_inside: bool) -> usiz
         Fault::Few => say(out, at, b" has fewer than 8 bytes"),
         Fault::Bits => say(out, at, b" has reserved bits set"),
         Fault::Short => say(out, at, b" is shorter than its header"),
-        Fault::Past => {
-            if is_inside {
-                return say(out, at, b" ends past its group");
-            }
-            say(out, at, b" ends past the answer")
-        }
+        Fault::Past if is_inside => say(out, at, b" ends past its group"),
+        Fault::Past => say(out, at, b" ends past the answer"),
     }
 }
 
 // The same of the AVP at a place, in the bytes before `end`.
 fn say_fault_at(out: &mut [u8; 4096], at: usize, theirs: &[u8], byte: usize, end: usize) -> usize {
-    if theirs.len() < end {
+    let Some(walked) = theirs.get(..end) else {
         return at;
-    }
-    let step = reader::avp_at(&theirs[0..end], byte);
-    let Step::Bad(f) = step else {
+    };
+    let Step::Bad(f) = reader::avp_at(walked, byte) else {
         return at;
     };
     say_fault(out, at, f, end < theirs.len())
@@ -107,34 +94,30 @@ pub fn tell_deep(sys: &System, out: &mut [u8; 4096], at: usize, theirs: &[u8]) -
 
 // THE AVPS BY PLACE
 
-// What is wrong with the AVP at a byte, the AVP of ours at a place where it is not 0, and the AVP itself.
+// What is wrong with the AVP at a byte, the AVP of ours at a place, if there is one, and the AVP itself.
 fn tell_wrong(
     sys: &System,
     out: &mut [u8; 4096],
     at: usize,
     wrong: &[u8],
     ours: &[u8],
-    place: usize,
+    place: Option<usize>,
     theirs: &[u8],
     byte: usize,
 ) -> bool {
     let a = say(out, at, b"the AVP at byte ");
     let b = number(out, a, byte as u64);
-    if !end_line(sys, out, b, wrong) {
-        return false;
-    }
-    if !tell_avp(sys, b"  ours: ", ours, place) {
-        return false;
-    }
-    tell_avp(sys, b"  theirs: ", theirs, byte)
+    end_line(sys, out, b, wrong)
+        && tell_avp(sys, b"  ours: ", ours, place)
+        && tell_avp(sys, b"  theirs: ", theirs, Some(byte))
 }
 
-// Where our result stands, if an AVP of theirs is a result too; else 0.
-fn our_result(ours: &[u8], s: Seen) -> usize {
+// Where our result stands, if an AVP of theirs is a result too.
+fn our_result(ours: &[u8], s: Seen) -> Option<usize> {
     if tool_judge_avps::is_result(s) {
         return tool_judge_avps::other_result(b"", ours);
     }
-    0
+    None
 }
 
 // One whose name ours has, or has not.
@@ -148,7 +131,7 @@ fn tell_named(
     s: Seen,
 ) -> bool {
     let place = tool_judge_avps::place_of(ours, s, tool_judge_avps::named_before(theirs, byte, s));
-    if place != 0 {
+    if place.is_some() {
         return tell_wrong(
             sys,
             out,
@@ -160,9 +143,9 @@ fn tell_named(
             byte,
         );
     }
-    if tool_judge_avps::place_of(ours, s, 0) != 0 {
+    if tool_judge_avps::place_of(ours, s, 0).is_some() {
         let wrong = b" is one more of its name than ours has";
-        return tell_wrong(sys, out, at, wrong, ours, 0, theirs, byte);
+        return tell_wrong(sys, out, at, wrong, ours, None, theirs, byte);
     }
     let wrong = b" has M, and ours has none of its name";
     tell_wrong(sys, out, at, wrong, ours, our_result(ours, s), theirs, byte)
@@ -170,19 +153,15 @@ fn tell_named(
 
 // Whether an AVP is a Session-Id.
 fn is_session(s: Seen) -> bool {
-    if 128 <= s.flags {
-        return false;
-    }
-    s.code == 263
+    s.flags < 128 && s.code == 263
 }
 
 // Whether a message starts with Session-Id.
 fn starts_with_session(m: &[u8]) -> bool {
-    let step = reader::avp_at(m, message::HEADER_LENGTH);
-    let Step::One(s) = step else {
-        return false;
-    };
-    is_session(s)
+    match reader::avp_at(m, message::HEADER_LENGTH) {
+        Step::One(s) => is_session(s),
+        _ => false,
+    }
 }
 
 fn tell_place(
@@ -194,17 +173,11 @@ fn tell_place(
     byte: usize,
     s: Seen,
 ) -> bool {
-    if byte != message::HEADER_LENGTH {
-        return tell_named(sys, out, at, ours, theirs, byte, s);
-    }
-    if !starts_with_session(ours) {
-        return tell_named(sys, out, at, ours, theirs, byte, s);
-    }
-    if is_session(s) {
+    if byte != message::HEADER_LENGTH || !starts_with_session(ours) || is_session(s) {
         return tell_named(sys, out, at, ours, theirs, byte, s);
     }
     let wrong = b" is the first, and no Session-Id";
-    tell_wrong(sys, out, at, wrong, ours, 0, theirs, byte)
+    tell_wrong(sys, out, at, wrong, ours, None, theirs, byte)
 }
 
 fn tell_avp_wrong(
@@ -215,8 +188,7 @@ fn tell_avp_wrong(
     theirs: &[u8],
     byte: usize,
 ) -> bool {
-    let step = reader::avp_at(theirs, byte);
-    let Step::One(s) = step else {
+    let Step::One(s) = reader::avp_at(theirs, byte) else {
         return false;
     };
     tell_place(sys, out, at, ours, theirs, byte, s)
@@ -225,15 +197,8 @@ fn tell_avp_wrong(
 // A MISSING ONE
 
 fn tell_missing(sys: &System, out: &mut [u8; 4096], at: usize, ours: &[u8], theirs: &[u8]) -> bool {
-    if !end_line(sys, out, at, b"an AVP of ours is missing") {
-        return false;
-    }
-    tell_avp(
-        sys,
-        b"  ours: ",
-        ours,
-        tool_judge_avps::missing(ours, theirs),
-    )
+    let place = tool_judge_avps::missing(ours, theirs);
+    end_line(sys, out, at, b"an AVP of ours is missing") && tell_avp(sys, b"  ours: ", ours, place)
 }
 
 // THE ANSWER AS A WHOLE
@@ -257,16 +222,14 @@ pub fn tell_answer(
     }
 }
 
-// A result beside the one of ours that is passed over, since it is of a name that ours lacks and has no M: where it stands, 0 for none. It is warned of.
-pub fn tell_second(sys: &System, ours: &[u8], theirs: &[u8]) -> usize {
-    let at = tool_judge_avps::other_result(ours, theirs);
-    if at != 0 {
-        tell_avp(
-            sys,
-            b"  WARNING: a second result, without M and so passed over: ",
-            theirs,
-            at,
-        );
-    }
-    at
+// Whether there is a result beside the one of ours that is passed over, since it is of a name that ours lacks and has no M. It is warned of.
+pub fn tell_second(sys: &System, ours: &[u8], theirs: &[u8]) -> bool {
+    let place = tool_judge_avps::other_result(ours, theirs);
+    tell_avp(
+        sys,
+        b"  WARNING: a second result, without M and so passed over: ",
+        theirs,
+        place,
+    );
+    place.is_some()
 }

@@ -16,10 +16,10 @@ fn tell_tunnel(sys: &System, margin: &[u8], form: u32, notice: &[u8]) -> bool {
         let d = number(&mut out, c, tool_form::notice_length(form) as u64);
         return end_line(sys, &mut out, d, b"");
     }
-    if answers::NOTICE_LENGTH_2 < notice.len() {
+    let Some(copy) = room.get_mut(..notice.len()) else {
         return true;
-    }
-    octets::put_bytes(&mut room, 0, notice);
+    };
+    copy.copy_from_slice(notice);
     let l = tool_notice_line::lengths_of(&room);
     let b = say(&mut out, a, b"cut ");
     let c = tool_notice_line::tunnel(&mut out, b, form, &room, l);
@@ -40,10 +40,7 @@ fn tell_notice_byte(
     if !end_line(sys, out, b, b"") {
         return false;
     }
-    if !tell_tunnel(sys, b"  ours: ", form, ours) {
-        return false;
-    }
-    tell_tunnel(sys, b"  theirs: ", form, theirs)
+    tell_tunnel(sys, b"  ours: ", form, ours) && tell_tunnel(sys, b"  theirs: ", form, theirs)
 }
 
 // A notice that is not the one due, said behind what the line has; ours is no bytes where none is due.
@@ -56,17 +53,13 @@ pub fn tell_notice(
     theirs: &[u8],
     byte: usize,
 ) -> bool {
-    if theirs.len() < 1 {
-        if !end_line(sys, out, at, b"no notice, and one is due") {
-            return false;
-        }
-        return tell_tunnel(sys, b"  ours: ", form, ours);
+    if theirs.is_empty() {
+        return end_line(sys, out, at, b"no notice, and one is due")
+            && tell_tunnel(sys, b"  ours: ", form, ours);
     }
-    if ours.len() < 1 {
-        if !end_line(sys, out, at, b"a notice, and none is due") {
-            return false;
-        }
-        return tell_tunnel(sys, b"  theirs: ", form, theirs);
+    if ours.is_empty() {
+        return end_line(sys, out, at, b"a notice, and none is due")
+            && tell_tunnel(sys, b"  theirs: ", form, theirs);
     }
     tell_notice_byte(sys, out, at, form, ours, theirs, byte)
 }

@@ -70,22 +70,22 @@ fn row_field(out: &mut [u8; 4096], at: usize, form: u32, byte: usize) -> usize {
     }
     let a = say(out, at, b"place ");
     let rest = byte - table::BLOCK_LENGTH;
-    if form == 2 {
-        let b = number(out, a, (rest / table::TWO_BLOCKS + 1) as u64);
-        let c = say(out, b, b", ");
-        return place_field(out, c, rest % table::TWO_BLOCKS);
-    }
-    let b = number(out, a, (rest / table::BLOCK_LENGTH + 1) as u64);
+    let length = if form == 2 {
+        table::TWO_BLOCKS
+    } else {
+        table::BLOCK_LENGTH
+    };
+    let b = number(out, a, (rest / length + 1) as u64);
     let c = say(out, b, b", ");
-    place_field(out, c, rest % table::BLOCK_LENGTH)
+    place_field(out, c, rest % length)
 }
 
 // A byte of a row.
 fn octet(out: &mut [u8; 4096], at: usize, row: &[u8], byte: usize) -> usize {
-    if row.len() <= byte {
-        return at;
+    match row.get(byte) {
+        Some(x) => tool_words::octet(out, at, *x),
+        None => at,
     }
-    tool_words::octet(out, at, row[byte])
 }
 
 // The order line of a row, behind a margin.
@@ -96,23 +96,16 @@ fn tell_line(sys: &System, margin: &[u8], row: &[u8]) -> bool {
     end_line(sys, &mut out, b, b"")
 }
 
-fn are_same(a: &[u8; 4096], b: &[u8; 4096]) -> bool {
-    octets::same_bytes(a, b)
-}
-
 // The order lines of both, where they are not the same.
 fn tell_lines(sys: &System, ours: &[u8], theirs: &[u8]) -> bool {
     let mut a = [0u8; 4096];
     let mut b = [0u8; 4096];
     tool_reply_line::line(&mut a, 0, ours);
     tool_reply_line::line(&mut b, 0, theirs);
-    if are_same(&a, &b) {
+    if a == b {
         return true;
     }
-    if !tell_line(sys, b"  ours: ", ours) {
-        return false;
-    }
-    tell_line(sys, b"  theirs: ", theirs)
+    tell_line(sys, b"  ours: ", ours) && tell_line(sys, b"  theirs: ", theirs)
 }
 
 // A row that is not the one due, said behind what the line has: the first byte that differs, and the order lines.
@@ -133,8 +126,5 @@ pub fn tell_row(
     let f = octet(out, e, ours, byte);
     let g = say(out, f, b", theirs ");
     let h = octet(out, g, theirs, byte);
-    if !end_line(sys, out, h, b"") {
-        return false;
-    }
-    tell_lines(sys, ours, theirs)
+    end_line(sys, out, h, b"") && tell_lines(sys, ours, theirs)
 }

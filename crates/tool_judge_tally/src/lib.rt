@@ -5,18 +5,37 @@ use system::System;
 use tool_judge_words::how_many;
 use tool_words::{number, say};
 
-// The cases by what became of them: refused by 31, and by the six mismatches of 32; then those that are accepted, and of these those that are warned of.
-pub const ACCEPTED: usize = 7;
+// The cases by what became of them: those refused by 31, and by the six mismatches of 32; those that are accepted, and of these those that are warned of.
+#[derive(Clone, Copy)]
+pub struct Tally {
+    refused: [usize; 7],
+    accepted: usize,
+    warned: usize,
+}
 
-pub const WARNED: usize = 8;
-
-// One more of a kind.
-pub fn count(tally: &mut [usize; 9], kind: usize) {
-    if 8 < kind {
-        return;
+// Before the first case.
+pub fn none() -> Tally {
+    Tally {
+        refused: [0; 7],
+        accepted: 0,
+        warned: 0,
     }
-    if tally[kind] < 4294967296 {
-        tally[kind] += 1;
+}
+
+impl Tally {
+    // One case more that is refused, by 31 where the mismatch is 0.
+    pub fn refuse(&mut self, mismatch: usize) {
+        if let Some(n) = self.refused.get_mut(mismatch) {
+            *n = n.saturating_add(1);
+        }
+    }
+
+    pub fn accept(&mut self) {
+        self.accepted = self.accepted.saturating_add(1);
+    }
+
+    pub fn warn(&mut self) {
+        self.warned = self.warned.saturating_add(1);
     }
 }
 
@@ -32,55 +51,37 @@ fn kind_name(out: &mut [u8; 4096], at: usize, kind: usize) -> usize {
     }
 }
 
-// What stands before the first of a list, and before the others.
-fn begin_kind(out: &mut [u8; 4096], at: usize, is_first: bool) -> usize {
-    if is_first {
-        return say(out, at, b": ");
-    }
-    say(out, at, b", ")
-}
-
-// How many were refused in one way, where there are any.
+// How many were refused in one way, where there are any. What stands before the first of the list is not what stands before the others.
 fn say_kind(out: &mut [u8; 4096], at: usize, is_first: bool, n: usize, kind: usize) -> usize {
     if n == 0 {
         return at;
     }
-    let a = begin_kind(out, at, is_first);
+    let a = say(out, at, if is_first { b": " } else { b", " });
     let b = number(out, a, n as u64);
     kind_name(out, b, kind)
 }
 
-fn say_kinds(out: &mut [u8; 4096], at: usize, tally: &[usize; 9]) -> usize {
-    let a = say_kind(out, at, true, tally[0], 0);
-    let b = say_kind(out, a, a == at, tally[1], 1);
-    let c = say_kind(out, b, b == at, tally[2], 2);
-    let d = say_kind(out, c, c == at, tally[3], 3);
-    let e = say_kind(out, d, d == at, tally[4], 4);
-    let f = say_kind(out, e, e == at, tally[5], 5);
-    say_kind(out, f, f == at, tally[6], 6)
-}
-
-// How many were refused of so many.
-fn refused_of(all: usize, accepted: usize) -> usize {
-    if all < accepted {
-        return 0;
+fn say_kinds(out: &mut [u8; 4096], at: usize, refused: &[usize; 7]) -> usize {
+    let mut a = at;
+    for kind in 0..7 {
+        a = say_kind(out, a, a == at, refused[kind], kind);
     }
-    all - accepted
+    a
 }
 
 // The last line; the status is 1 where a case was refused.
-pub fn summary(sys: &System, all: usize, tally: &[usize; 9]) {
+pub fn summary(sys: &System, all: usize, tally: &Tally) {
     let mut out = [0u8; 4096];
-    let refused = refused_of(all, tally[ACCEPTED]);
+    let refused = all.saturating_sub(tally.accepted);
     let a = how_many(&mut out, 0, all, b"case");
     let b = say(&mut out, a, b", ");
-    let c = number(&mut out, b, tally[ACCEPTED] as u64);
+    let c = number(&mut out, b, tally.accepted as u64);
     let d = say(&mut out, c, b" accepted, ");
     let e = number(&mut out, d, refused as u64);
     let f = say(&mut out, e, b" refused");
-    let g = say_kinds(&mut out, f, tally);
+    let g = say_kinds(&mut out, f, &tally.refused);
     let h = say(&mut out, g, b"; warnings: ");
-    let i = number(&mut out, h, tally[WARNED] as u64);
+    let i = number(&mut out, h, tally.warned as u64);
     let j = say(&mut out, i, b"\n");
     if !tool_files::print(sys, &out, j) {
         return;

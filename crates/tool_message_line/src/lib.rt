@@ -3,7 +3,7 @@
 
 ghost use Rattle.std.specs.Prelude.{◌≤◌, length};
 
-use message::Told;
+use message::{Failure, UserRequest};
 use reasons::Reason;
 use tool_words::{number, say};
 
@@ -25,10 +25,8 @@ fn flags(out: &mut [u8; 4096], at: usize, x: u8) -> usize {
 }
 
 fn direction(out: &mut [u8; 4096], at: usize, x: u8) -> usize {
-    if x < 128 {
-        return say(out, at, b" answer");
-    }
-    say(out, at, b" request")
+    let name: &[u8] = if x < 128 { b" answer" } else { b" request" };
+    say(out, at, name)
 }
 
 // The command, by its name and its number.
@@ -39,7 +37,7 @@ fn command(out: &mut [u8; 4096], at: usize, m: &[u8]) -> usize {
     let code = octets::read24(m, 5) as u32;
     let a = tool_names::command(out, at, code);
     let b = say(out, a, b" ");
-    let c = number(out, b, code as u64);
+    let c = number(out, b, u64::from(code));
     let d = direction(out, c, m[4]);
     flags(out, d, m[4])
 }
@@ -50,7 +48,7 @@ fn identifiers(out: &mut [u8; 4096], at: usize, m: &[u8]) -> usize {
         return at;
     }
     let a = say(out, at, b", application ");
-    let b = number(out, a, octets::read32(m, 8) as u64);
+    let b = number(out, a, u64::from(octets::read32(m, 8)));
     let c = say(out, b, b", hop-by-hop");
     let d = tool_words::octets(out, c, &m[12..16]);
     let e = say(out, d, b", end-to-end");
@@ -75,7 +73,7 @@ pub fn header(out: &mut [u8; 4096], k: usize, place: &[u8], from: usize, m: &[u8
 
 // A code, its name and why it is given on a table of that form.
 fn refused(out: &mut [u8; 4096], at: usize, code: u32, why: Reason, form: u32) -> usize {
-    let a = number(out, at, code as u64);
+    let a = number(out, at, u64::from(code));
     let b = say(out, a, b" ");
     let c = tool_names::result(out, b, code);
     let d = tool_why::reason(out, c, why, form);
@@ -83,10 +81,10 @@ fn refused(out: &mut [u8; 4096], at: usize, code: u32, why: Reason, form: u32) -
 }
 
 // The code of a message as it was read, 0 for none.
-fn code_of(told: Told) -> u32 {
+fn code_of(told: Result<UserRequest, Failure>) -> u32 {
     match told {
-        Told::Request(_, _) => 0,
-        Told::Refused(code) => code,
+        Ok(_) => 0,
+        Err(f) => f.code(),
     }
 }
 
@@ -125,29 +123,19 @@ fn refusal(out: &mut [u8; 4096], m: &[u8]) -> usize {
     refused(out, b, plain, reasons::reading_failed(m, 1), 1)
 }
 
+// Whether a message is a request with that command.
+fn is_request(m: &[u8], command: usize) -> bool {
+    message::HEADER_LENGTH <= m.len() && 128 <= m[4] && octets::read24(m, 5) == command
+}
+
 // Whether a message is one that the server sends and is not sent: an Abort-Session-Request.
 pub fn is_abort(m: &[u8]) -> bool {
-    if m.len() < message::HEADER_LENGTH {
-        return false;
-    }
-    if m[4] < 128 {
-        return false;
-    }
-    octets::read24(m, 5) == 274
+    is_request(m, 274)
 }
 
 // Whether a message goes to a gateway and not to the server: such a request, or a Re-Auth-Request.
 fn is_for_gateway(m: &[u8]) -> bool {
-    if is_abort(m) {
-        return true;
-    }
-    if m.len() < message::HEADER_LENGTH {
-        return false;
-    }
-    if m[4] < 128 {
-        return false;
-    }
-    octets::read24(m, 5) == 258
+    is_abort(m) || is_request(m, 258)
 }
 
 // The first test that a message fails: nothing where it passes, or is not for the server.
@@ -163,7 +151,7 @@ pub fn verdict(out: &mut [u8; 4096], m: &[u8]) -> usize {
         return refusal(out, m);
     }
     let a = say(out, 0, b"  gets no answer, number ");
-    let b = number(out, a, n as u64);
+    let b = number(out, a, u64::from(n));
     let c = say(out, b, b": ");
     let d = tool_names::no_answer(out, c, n);
     say(out, d, b"\n")

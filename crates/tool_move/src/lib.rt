@@ -6,7 +6,6 @@ ghost use Rattle.table.specs.Soundness.{is_row};
 ghost use Rattle.table.specs.TheTable.{block_length};
 
 use system::System;
-use tool_operator::Number;
 use tool_words::{number, say};
 
 // THE ROW THAT CAN NOT BE MOVED
@@ -14,7 +13,7 @@ use tool_words::{number, say};
 // The start of a line: the number, and row i, counted from 0.
 fn begin(out: &mut [u8; 4096], n: u32, i: usize) -> usize {
     let a = say(out, 0, b"play: number ");
-    let b = number(out, a, n as u64);
+    let b = number(out, a, u64::from(n));
     let c = say(out, b, b": row ");
     if i < tool_form::MOST_ROWS {
         return number(out, c, (i + 1) as u64);
@@ -26,10 +25,7 @@ fn begin(out: &mut [u8; 4096], n: u32, i: usize) -> usize {
 fn is_unsound(sys: &System, i: usize, row: &[u8]) -> bool
     requires { (is_row row.now ≡ true) × (block_length ≤ length row.now) }
 {
-    if octets::all_zero(row) {
-        return false;
-    }
-    if soundness::row_sound(row) {
+    if octets::all_zero(row) || soundness::row_sound(row) {
         return false;
     }
     let mut out = [0u8; 4096];
@@ -74,12 +70,10 @@ fn tell_wide(sys: &System, i: usize, k: usize, what: &[u8]) {
 fn is_wide(sys: &System, i: usize, row: &[u8]) -> bool
     requires { is_row row.now ≡ true }
 {
-    let mut k: usize = 1;
-    while k < 9 {
+    for k in 1..9 {
         if is_wide_at(sys, i, row, k) {
             return true;
         }
-        k += 1;
     }
     false
 }
@@ -90,11 +84,9 @@ fn is_meant(sys: &System, table: &[u8], form: u32, number: u32, i: usize) -> boo
         return false;
     }
     let a = tool_form::length_of(form, i);
-    let e = a + tool_form::row_length(form);
-    if table.len() < e {
+    let Some(row) = table.get(a..a + tool_form::row_length(form)) else {
         return false;
-    }
-    let row = &table[a..e];
+    };
     if !tool_row_lines::is_row(row) {
         return false;
     }
@@ -106,26 +98,19 @@ fn is_meant(sys: &System, table: &[u8], form: u32, number: u32, i: usize) -> boo
 
 // The first row that the number is given for, said.
 fn tell_row(sys: &System, table: &[u8], form: u32, number: u32) {
-    let mut i: usize = 0;
-    while i < tool_form::MOST_ROWS {
+    for i in 0..tool_form::MOST_ROWS {
         if is_meant(sys, table, form, number, i) {
             return;
         }
-        i += 1;
     }
 }
 
 // Why nothing is moved.
 fn refuse(sys: &System, table: &[u8], form: u32, number: u32) {
-    if number == 20 {
-        tell_row(sys, table, form, number);
-        return;
+    match number {
+        20 | 21 => tell_row(sys, table, form, number),
+        _ => tool_files::refuse(sys, b"number 1 or 19: the table can not be moved"),
     }
-    if number == 21 {
-        tell_row(sys, table, form, number);
-        return;
-    }
-    tool_files::refuse(sys, b"number 1 or 19: the table can not be moved");
 }
 
 // MOVING
@@ -135,7 +120,7 @@ fn tell(sys: &System, to: &[u8], rows: usize, form: u32) -> bool {
     let mut out = [0u8; 4096];
     let a = tool_words::text(&mut out, 0, to);
     let b = say(&mut out, a, b": the table in form ");
-    let c = number(&mut out, b, form as u64);
+    let c = number(&mut out, b, u64::from(form));
     let d = say(&mut out, c, b", rows: ");
     let e = number(&mut out, d, rows as u64);
     let f = say(&mut out, e, b"\n");
@@ -144,24 +129,18 @@ fn tell(sys: &System, to: &[u8], rows: usize, form: u32) -> bool {
 
 // The moved table written under its name, which no file has yet.
 fn keep(sys: &System, to: &[u8], rows: usize, form: u32, target: &[u8]) {
-    let h = tool_hold::hold_name(sys, to);
-    if !tool_hold::is_held(h) {
+    let Some(h) = tool_hold::hold_name(sys, to) else {
         return;
-    }
-    if tool_hold::write_new(sys, to, h, target) {
-        if tell(sys, to, rows, form) {
-            tool_hold::replace(sys, to);
-        }
+    };
+    if tool_hold::write_new(sys, to, h, target) && tell(sys, to, rows, form) {
+        tool_hold::replace(sys, to);
     }
     tool_hold::leave(sys, to, h);
 }
 
 // The form that a table does not have.
 fn other(form: u32) -> u32 {
-    if form == 2 {
-        return 1;
-    }
-    2
+    if form == 2 { 1 } else { 2 }
 }
 
 // A table moved to the start of the room.
@@ -175,34 +154,30 @@ fn move_table(sys: &System, path: &[u8], to: &[u8], form: u32, table: &[u8], roo
     if !tool_form::check_room(sys, path, n, room) {
         return;
     }
-    if room.len() < n {
+    let Some(room) = room.get_mut(..n) else {
         return;
-    }
-    let number = moving::move_table(table, &mut room[0..n], goal);
+    };
+    let number = moving::move_table(table, room, goal);
     if number != 0 {
         refuse(sys, table, form, number);
         return;
     }
-    keep(sys, to, rows, goal, &room[0..n]);
+    keep(sys, to, rows, goal, room);
 }
 
 // The table at a path, read to the start of one room and moved to the start of the other.
 fn move_from(sys: &System, path: &[u8], to: &[u8], said: u32, table: &mut [u8], room: &mut [u8]) {
-    let found = tool_form::read(sys, path, said, table);
-    let n = found.length;
-    if n < 1 {
+    let Some(found) = tool_form::read(sys, path, said, table) else {
         return;
+    };
+    if let Some(table) = table.get(..found.length) {
+        move_table(sys, path, to, found.form, table, room);
     }
-    if table.len() < n {
-        return;
-    }
-    move_table(sys, path, to, found.form, &table[0..n], room);
 }
 
 // TABLE TO [form=F], which is the form of TABLE.
 pub fn run(sys: &System, table: &mut [u8], room: &mut [u8]) {
-    let said = tool_form::only(sys, 4);
-    let Number::Is(form) = said else {
+    let Some(form) = tool_form::only(sys, 4) else {
         return;
     };
     let mut path = io::buffer();

@@ -21,14 +21,10 @@ fn text_length(notice: &[u8; answers::NOTICE_LENGTH_2], from: usize) -> usize
     if answers::NOTICE_REALM < from {
         return 0;
     }
-    let mut n: usize = message::TEXT_MOST;
-    while n > 0 {
-        if notice[from + n - 1] != 0 {
-            return n;
-        }
-        n -= 1;
-    }
-    0
+    let text = &notice[from..from + message::TEXT_MOST];
+    text.iter()
+        .rposition(|&x| x != 0)
+        .map_or(0, |last| last + 1)
 }
 
 // The lengths in a notice that came without them, as one from a file does. A text that itself ends in zero bytes is taken without these.
@@ -42,14 +38,10 @@ pub fn lengths_of(notice: &[u8; answers::NOTICE_LENGTH_2]) -> Lengths {
 
 // The text of n bytes at `from`.
 fn part(out: &mut [u8; 4096], at: usize, notice: &[u8], from: usize, n: usize) -> usize {
-    if notice.len() < from {
+    let Some(part) = notice.get(from..from.saturating_add(n)) else {
         return at;
-    }
-    if notice.len() - from < n {
-        return at;
-    }
-    let end = from + n;
-    text(out, at, &notice[from..end])
+    };
+    text(out, at, part)
 }
 
 // The gateway's realm, which only form 2 knows.

@@ -7,31 +7,18 @@ use tool_words::{number, say};
 
 // THE FORM
 
-// The sum, where it is of a file's size.
-fn sum(a: usize, b: usize) -> usize {
-    if 1152921504606846976 < a {
-        return a;
-    }
-    if 4096 < b {
-        return a;
-    }
-    a + b
-}
-
 // The next bytes of a file: how many.
 fn pass_over(sys: &System, fd: i32) -> usize {
     let mut room = [0u8; 4096];
     sys.read_full(fd, &mut room)
 }
 
-// How many bytes a file has. A proved loop has to end, and nothing says that a file does, so the turns are counted down.
+// How many bytes a file has. A proved loop has to end, and nothing says that a file does, so the turns are counted.
 fn bytes(sys: &System, fd: i32) -> usize {
     let mut n: usize = 0;
-    let mut turns: usize = 4294967296;
-    while turns > 0 {
-        turns -= 1;
+    for _ in 0..4294967296usize {
         let got = pass_over(sys, fd);
-        n = sum(n, got);
+        n = n.saturating_add(got);
         if got < 4096 {
             return n;
         }
@@ -53,56 +40,51 @@ fn refuse_both(sys: &System, path: &[u8], n: usize) {
     tool_files::mark(sys);
 }
 
-// The form that n bytes tell, 0 where they tell none, which is then said. No bytes are no notices, of either form.
-fn as_told(sys: &System, path: &[u8], n: usize) -> u32 {
+// The form that n bytes tell; that they tell none is said. No bytes are no notices, of either form.
+fn as_told(sys: &System, path: &[u8], n: usize) -> Option<u32> {
     if n == 0 {
-        return 2;
+        return Some(2);
     }
-    if n % answers::NOTICE_LENGTH == 0 {
-        if n % answers::NOTICE_LENGTH_2 == 0 {
+    let is_first = n % answers::NOTICE_LENGTH == 0;
+    let is_second = n % answers::NOTICE_LENGTH_2 == 0;
+    match (is_first, is_second) {
+        (true, true) => {
             refuse_both(sys, path, n);
-            return 0;
+            None
         }
-        return 1;
+        (true, false) => Some(1),
+        (false, true) => Some(2),
+        (false, false) => {
+            tool_files::refuse_word(
+                sys,
+                path,
+                b": no notices: its length is no multiple of 256 bytes, form 1, or of 384, form 2",
+            );
+            None
+        }
     }
-    if n % answers::NOTICE_LENGTH_2 == 0 {
-        return 2;
-    }
-    tool_files::refuse_word(
-        sys,
-        path,
-        b": no notices: its length is no multiple of 256 bytes, form 1, or of 384, form 2",
-    );
-    0
 }
 
-// The form that was said, 0 where n bytes are no notices of it, which is then said.
-fn as_said(sys: &System, path: &[u8], n: usize, said: u32) -> u32 {
+// The form that was said; that n bytes are no notices of it is said.
+fn as_said(sys: &System, path: &[u8], n: usize, said: u32) -> Option<u32> {
     if n % tool_form::notice_length(said) == 0 {
-        return said;
+        return Some(said);
     }
-    if said == 2 {
-        tool_files::refuse_word(
-            sys,
-            path,
-            b": no notices of form 2: its length is no multiple of 384 bytes",
-        );
-        return 0;
-    }
-    tool_files::refuse_word(
-        sys,
-        path,
-        b": no notices of form 1: its length is no multiple of 256 bytes",
-    );
-    0
+    let what = if said == 2 {
+        b": no notices of form 2: its length is no multiple of 384 bytes"
+    } else {
+        b": no notices of form 1: its length is no multiple of 256 bytes"
+    };
+    tool_files::refuse_word(sys, path, what);
+    None
 }
 
 // The form of the notices in a plain file, which is read to its end and goes on at its start.
-fn form_of_plain(sys: &System, fd: i32, path: &[u8], said: u32) -> u32 {
+fn form_of_plain(sys: &System, fd: i32, path: &[u8], said: u32) -> Option<u32> {
     let n = bytes(sys, fd);
     if !sys.seek_to(fd, 0) {
         tool_files::refuse_file(sys, path);
-        return 0;
+        return None;
     }
     if said == 0 {
         return as_told(sys, path, n);
@@ -110,9 +92,9 @@ fn form_of_plain(sys: &System, fd: i32, path: &[u8], said: u32) -> u32 {
     as_said(sys, path, n, said)
 }
 
-// The form of the notices in an open file, 0 where there are none, which is then said. What was said of it is 0 for nothing, and has to be said of
+// The form of the notices in an open file; that there are none is said. What was said of it is 0 for nothing, and has to be said of
 // what is no plain file, since nobody knows how much is still to come.
-pub fn form_of(sys: &System, fd: i32, path: &[u8], said: u32) -> u32 {
+pub fn form_of(sys: &System, fd: i32, path: &[u8], said: u32) -> Option<u32> {
     if tool_status::is_plain(tool_status::of(sys, fd)) {
         return form_of_plain(sys, fd, path, said);
     }
@@ -122,19 +104,19 @@ pub fn form_of(sys: &System, fd: i32, path: &[u8], said: u32) -> u32 {
             path,
             b": no plain file, so that no length tells the form: say form=1 or form=2",
         );
+        return None;
     }
-    said
+    Some(said)
 }
 
 // READING
 
 // The next notice of that form, put at the start of the room: how many of its bytes there were.
 pub fn read(sys: &System, fd: i32, form: u32, room: &mut [u8]) -> usize {
-    let n = tool_form::notice_length(form);
-    if room.len() < n {
-        return 0;
+    match room.get_mut(..tool_form::notice_length(form)) {
+        Some(notice) => sys.read_full(fd, notice),
+        None => 0,
     }
-    sys.read_full(fd, &mut room[0..n])
 }
 
 // The line on a file that ends inside notice k.
@@ -175,9 +157,6 @@ fn say_count(sys: &System, n: usize) {
 
 // Notice k read and said; whether there may be one more.
 fn pass(sys: &System, fd: i32, path: &[u8], form: u32, k: usize) -> bool {
-    if k < 1 {
-        return false;
-    }
     let mut notice = [0u8; answers::NOTICE_LENGTH_2];
     let got = read(sys, fd, form, &mut notice);
     if got == tool_form::notice_length(form) {
@@ -187,18 +166,16 @@ fn pass(sys: &System, fd: i32, path: &[u8], form: u32, k: usize) -> bool {
         refuse_end(sys, path, form, k);
         return false;
     }
-    say_count(sys, k - 1);
+    say_count(sys, k.saturating_sub(1));
     false
 }
 
-// A proved loop has to end, and nothing says that a file does, so the turns are counted down.
+// A proved loop has to end, and nothing says that a file does, so the notices are counted.
 pub fn list(sys: &System, fd: i32, path: &[u8], form: u32) {
-    let mut k: usize = 1;
-    while k < 4294967296 {
+    for k in 1..4294967296usize {
         if !pass(sys, fd, path, form, k) {
             return;
         }
-        tool_totals::progress(sys, k, 0);
-        k += 1;
+        tool_totals::progress(sys, k, None);
     }
 }

@@ -1,103 +1,67 @@
 // The words behind the files of `handle`, each of a kind of its own and said at most once; `judge` takes some of them. What a word says is read from the command line
-// where it is used, so that only its number is passed around; 0 is the number of a word that is not there.
+// where it is used, so that only its number is passed around.
 #![tactic(auto)]
-
-// THE KINDS
 
 use system::System;
 
-pub const HEX: usize = 1;
+// THE KINDS
 
-pub const QUIET: usize = 2;
-
-pub const WAG: usize = 3;
-
-pub const HOST: usize = 4;
-
-pub const REALM: usize = 5;
-
-pub const ONLY: usize = 6;
-
-pub const CODES: usize = 7;
-
-pub const OPERATOR: usize = 8;
-
-pub const FORM: usize = 9;
-
-pub const BOARD: usize = 10;
+#[derive(Clone, Copy, PartialEq, Eq)]
+pub enum Kind {
+    Hex,
+    Quiet,
+    Wag,
+    Host,
+    Realm,
+    Only,
+    Codes,
+    Operator,
+    Form,
+    Board,
+}
 
 // The first of these words.
 const FIRST: usize = 6;
 // As many as there are kinds.
 const BEHIND: usize = 16;
 
-// What the gateway says, for all messages or for each one in a file: one of the three.
-fn is_of_gateway(word: &[u8]) -> bool {
-    if octets::same_bytes(word, b"wag=yes") {
-        return true;
+// The kind of a word, if it has one. What the gateway says, for all messages or for each one in a file, is one of three.
+fn kind_of(word: &[u8]) -> Option<Kind> {
+    match word {
+        b"hex" => Some(Kind::Hex),
+        b"quiet" => Some(Kind::Quiet),
+        b"wag=yes" | b"wag=no" => Some(Kind::Wag),
+        _ if word.starts_with(b"wags=") => Some(Kind::Wag),
+        _ if word.starts_with(b"host=") => Some(Kind::Host),
+        _ if word.starts_with(b"realm=") => Some(Kind::Realm),
+        _ if word.starts_with(b"only=") => Some(Kind::Only),
+        _ if word.starts_with(b"codes=") => Some(Kind::Codes),
+        _ if word.starts_with(b"operator=") => Some(Kind::Operator),
+        _ if word.starts_with(b"form=") => Some(Kind::Form),
+        _ if word.starts_with(b"board=") => Some(Kind::Board),
+        _ => None,
     }
-    if octets::same_bytes(word, b"wag=no") {
-        return true;
-    }
-    tool_files::is_begun(word, b"wags=")
-}
-
-// The kind of a word, 0 where it has none.
-fn kind_of(word: &[u8]) -> usize {
-    if octets::same_bytes(word, b"hex") {
-        return HEX;
-    }
-    if octets::same_bytes(word, b"quiet") {
-        return QUIET;
-    }
-    if is_of_gateway(word) {
-        return WAG;
-    }
-    if tool_files::is_begun(word, b"host=") {
-        return HOST;
-    }
-    if tool_files::is_begun(word, b"realm=") {
-        return REALM;
-    }
-    if tool_files::is_begun(word, b"only=") {
-        return ONLY;
-    }
-    if tool_files::is_begun(word, b"codes=") {
-        return CODES;
-    }
-    if tool_files::is_begun(word, b"operator=") {
-        return OPERATOR;
-    }
-    if tool_files::is_begun(word, b"form=") {
-        return FORM;
-    }
-    if tool_files::is_begun(word, b"board=") {
-        return BOARD;
-    }
-    0
 }
 
 // The kind of word i.
-pub fn kind_at(sys: &System, i: usize) -> usize {
+pub fn kind_at(sys: &System, i: usize) -> Option<Kind> {
     let mut word = io::buffer();
     let n = sys.arg(i, &mut word);
     kind_of(&word[..n])
 }
 
 // The number of the first word of a kind from `first` on.
-pub fn find_from(sys: &System, first: usize, kind: usize) -> usize {
-    let mut i: usize = first;
-    while i < BEHIND {
-        if kind_at(sys, i) == kind {
-            return i;
+pub fn find_from(sys: &System, first: usize, kind: Kind) -> Option<usize> {
+    for i in first..BEHIND {
+        if kind_at(sys, i) == Some(kind) {
+            return Some(i);
         }
-        i += 1;
     }
-    0
+    None
 }
 
 // The same among all the words of `handle`.
-pub fn find(sys: &System, kind: usize) -> usize {
+pub fn find(sys: &System, kind: Kind) -> Option<usize> {
     find_from(sys, FIRST, kind)
 }
 
@@ -108,16 +72,15 @@ fn check_word(sys: &System, i: usize) -> bool {
     }
     let mut word = io::buffer();
     let n = sys.arg(i, &mut word);
-    let kind = kind_of(&word[..n]);
-    if kind == 0 {
+    let Some(kind) = kind_of(&word[..n]) else {
         tool_files::refuse_word(
             sys,
             &word[..n],
             b": no word that handle takes: see play help",
         );
         return false;
-    }
-    if find(sys, kind) == i {
+    };
+    if find(sys, kind) == Some(i) {
         return true;
     }
     tool_files::refuse_word(sys, &word[..n], b": a word for the same stands before it");
@@ -126,95 +89,51 @@ fn check_word(sys: &System, i: usize) -> bool {
 
 // Whether all the words have a meaning.
 pub fn check_words(sys: &System) -> bool {
-    let mut i: usize = FIRST;
-    while i < BEHIND {
+    for i in FIRST..BEHIND {
         if !check_word(sys, i) {
             return false;
         }
-        i += 1;
     }
     true
 }
 
 // WHAT THEY SAY
 
-// What stands behind the first `skip` bytes of word i, put at the start of the room: its length.
-fn value(sys: &System, i: usize, skip: usize, room: &mut [u8; 4096]) -> usize {
-    let mut word = io::buffer();
-    let n = sys.arg(i, &mut word);
-    let all: &[u8] = &word[..n];
-    let k = all.len();
-    if k < skip {
-        return 0;
-    }
-    if 4096 < k - skip {
-        return 0;
-    }
-    octets::put_bytes(room, 0, &all[skip..k]);
-    k - skip
+// What stands behind the start of word i, which is read to the room; nothing where the word begins otherwise.
+pub fn value<'a>(sys: &System, i: usize, start: &[u8], room: &'a mut [u8; 4096]) -> &'a [u8] {
+    let n = sys.arg(i, room);
+    room[..n].strip_prefix(start).unwrap_or(b"")
 }
 
-// A text put at the start of the room.
-fn given(text: &[u8], room: &mut [u8; 4096]) -> usize {
-    if 4096 < text.len() {
-        return 0;
+// The server's own host: what word i says, or the one it has otherwise.
+pub fn host<'a>(sys: &System, i: Option<usize>, room: &'a mut [u8; 4096]) -> &'a [u8] {
+    match i {
+        Some(i) => value(sys, i, b"host=", room),
+        None => b"wm.example",
     }
-    octets::put_bytes(room, 0, text);
-    text.len()
-}
-
-// The server's own host: word i, or the one it has otherwise.
-pub fn host(sys: &System, i: usize, room: &mut [u8; 4096]) -> usize {
-    if i == 0 {
-        return given(b"wm.example", room);
-    }
-    value(sys, i, 5, room)
 }
 
 // The server's own realm, likewise.
-pub fn realm(sys: &System, i: usize, room: &mut [u8; 4096]) -> usize {
-    if i == 0 {
-        return given(b"example", room);
+pub fn realm<'a>(sys: &System, i: Option<usize>, room: &'a mut [u8; 4096]) -> &'a [u8] {
+    match i {
+        Some(i) => value(sys, i, b"realm=", room),
+        None => b"example",
     }
-    value(sys, i, 6, room)
 }
 
-// The User-Name of the messages to be served.
-pub fn only(sys: &System, i: usize, room: &mut [u8; 4096]) -> usize {
-    value(sys, i, 5, room)
-}
-
-// The file of expected codes.
-pub fn codes(sys: &System, i: usize, room: &mut [u8; 4096]) -> usize {
-    value(sys, i, 6, room)
-}
-
-// The file of screens.
-pub fn board(sys: &System, i: usize, room: &mut [u8; 4096]) -> usize {
-    value(sys, i, 6, room)
-}
-
-// The file with what the gateway says to each message.
-pub fn wags(sys: &System, i: usize, room: &mut [u8; 4096]) -> usize {
-    value(sys, i, 5, room)
-}
-
-// Whether word i names such a file.
+// Whether word i names a file with what the gateway says to each message.
 pub fn is_file_of_wags(sys: &System, i: usize) -> bool {
-    if i == 0 {
-        return false;
-    }
     let mut word = io::buffer();
     let n = sys.arg(i, &mut word);
-    tool_files::is_begun(&word[..n], b"wags=")
+    word[..n].starts_with(b"wags=")
 }
 
 // Whether the gateway takes every policy: it does unless word i says no.
-pub fn is_wag(sys: &System, i: usize) -> bool {
-    if i == 0 {
+pub fn is_wag(sys: &System, i: Option<usize>) -> bool {
+    let Some(i) = i else {
         return true;
-    }
+    };
     let mut word = io::buffer();
     let n = sys.arg(i, &mut word);
-    !octets::same_bytes(&word[..n], b"wag=no")
+    !matches!(&word[..n], b"wag=no")
 }

@@ -8,10 +8,10 @@ use tool_words::{number, say};
 
 // The first n bytes of a room, written; why not is said of the file.
 fn put(sys: &System, fd: i32, path: &[u8], room: &[u8], n: usize) -> bool {
-    if room.len() < n {
+    let Some(text) = room.get(..n) else {
         return false;
-    }
-    if sys.write_all(fd, &room[0..n]) {
+    };
+    if sys.write_all(fd, text) {
         return true;
     }
     tool_files::refuse_file(sys, path);
@@ -68,7 +68,7 @@ fn tell(sys: &System, k: usize, m: &[u8], form: u32, o: Outcome, why: Why, notic
 pub fn tell_unless_quiet(
     sys: &System,
     quiet: bool,
-    expected: usize,
+    expected: Option<usize>,
     k: usize,
     m: &[u8],
     form: u32,
@@ -77,15 +77,15 @@ pub fn tell_unless_quiet(
     notice: &[u8],
 ) -> bool {
     if tool_expected::is_expected(o, expected) {
-        if quiet {
-            return true;
-        }
-        return tell(sys, k, m, form, o, why, notice);
+        return quiet || tell(sys, k, m, form, o, why, notice);
     }
     if !tell(sys, k, m, form, o, why, notice) {
         return false;
     }
+    let Some(code) = expected else {
+        return true;
+    };
     let mut out = [0u8; 4096];
-    let n = tool_expected::tell(&mut out, o, expected);
+    let n = tool_expected::tell(&mut out, o, code);
     tool_files::print(sys, &out, n)
 }

@@ -5,43 +5,62 @@ use reasons::{Reason, Why};
 use system::System;
 use tool_streams::Source;
 
-// The files that are open, -1 for one that was not asked for; the words that were said, by their numbers; what the gateway says where no
+// The files that are open, and of those that may be asked for the ones that were; the words that were said, by their numbers; what the gateway says where no
 // file has it; the form of the table, and the operator.
 #[derive(Clone, Copy)]
 pub struct Desk {
     pub requests: i32,
     pub answers: i32,
     pub notices: i32,
-    pub wags: i32,
-    pub codes: i32,
+    pub wags: Option<i32>,
+    pub codes: Option<i32>,
     pub hex: bool,
     pub quiet: bool,
     pub wag: bool,
     pub form: u32,
     pub op: u32,
-    pub host: usize,
-    pub realm: usize,
-    pub only: usize,
+    pub host: Option<usize>,
+    pub realm: Option<usize>,
+    pub only: Option<usize>,
 }
 
-// What goes with a message: what the gateway says to a policy, yes or no, and the code that is expected; 0 for nothing.
+// The server's own names.
+#[derive(Clone, Copy)]
+pub struct Names<'a> {
+    pub host: &'a [u8],
+    pub realm: &'a [u8],
+}
+
+// What goes with a message: what the gateway says to a policy, and the code that is expected, if one is.
 #[derive(Clone, Copy)]
 pub struct Beside {
-    pub wag: usize,
-    pub expected: usize,
+    pub wag: bool,
+    pub expected: Option<usize>,
 }
 
-// How far a page is filled: its slots, the messages of the burst and their bytes; whether the last slot has a message that is put to the server by
-// itself, whose bytes stand behind those; whether no more can be added, and whether the next message or a line for it could not be read again.
+// A message that is put to the server: how many bytes it has, and what goes with it.
+#[derive(Clone, Copy)]
+pub struct Slot {
+    pub bytes: usize,
+    pub beside: Beside,
+}
+
+// Why nothing more can be added to a page: it is full, or its last message goes by itself; or the next message or a line for it could not be read again.
+#[derive(Clone, Copy, PartialEq, Eq)]
+pub enum End {
+    Full,
+    NoMessage,
+    NoLine,
+}
+
+// How far a page is filled: its slots, the messages of the burst and their bytes; and its end, once it has one. The bytes of a message that goes by itself stand behind
+// those of the burst.
 #[derive(Clone, Copy)]
 pub struct Page {
     pub slots: usize,
     pub messages: usize,
     pub bytes: usize,
-    pub alone: bool,
-    pub full: bool,
-    pub no_message: bool,
-    pub no_line: bool,
+    pub end: Option<End>,
 }
 
 fn empty() -> Page {
@@ -49,203 +68,109 @@ fn empty() -> Page {
         slots: 0,
         messages: 0,
         bytes: 0,
-        alone: false,
-        full: false,
-        no_message: false,
-        no_line: false,
+        end: None,
     }
 }
 
 // As it is, with nothing more.
-fn closed(p: Page) -> Page {
+fn ended(p: Page, end: End) -> Page {
     Page {
-        slots: p.slots,
-        messages: p.messages,
-        bytes: p.bytes,
-        alone: p.alone,
-        full: true,
-        no_message: p.no_message,
-        no_line: p.no_line,
+        end: Some(end),
+        ..p
     }
-}
-
-fn without_message(p: Page) -> Page {
-    Page {
-        slots: p.slots,
-        messages: p.messages,
-        bytes: p.bytes,
-        alone: false,
-        full: true,
-        no_message: true,
-        no_line: false,
-    }
-}
-
-fn without_line(p: Page) -> Page {
-    Page {
-        slots: p.slots,
-        messages: p.messages,
-        bytes: p.bytes,
-        alone: false,
-        full: true,
-        no_message: false,
-        no_line: true,
-    }
-}
-
-// The sum, where it is of a page's size.
-pub fn sum(a: usize, b: usize) -> usize {
-    if 4294967296 < a {
-        return a;
-    }
-    if 4294967296 < b {
-        return a;
-    }
-    a + b
 }
 
 // WHAT GOES WITH A MESSAGE
 
-// What the gateway says to the next message: its line of the file, or where there is none what it says to all.
-fn take_wag(sys: &System, d: Desk) -> usize {
-    if 0 <= d.wags {
-        return tool_expected::take(sys, d.wags, tool_expected::WAGS);
-    }
-    if d.wag {
-        return tool_expected::YES;
-    }
-    tool_expected::NO
-}
-
-fn take_beside(sys: &System, d: Desk) -> Beside {
-    Beside {
-        wag: take_wag(sys, d),
-        expected: tool_expected::take(sys, d.codes, tool_expected::CODES),
-    }
-}
-
-// Whether one of the files has come to an end before the messages. It had not when it was counted, so somebody has changed it since.
-fn is_lost(d: Desk, b: Beside) -> bool {
-    if b.wag == 0 {
-        return true;
-    }
-    if d.codes < 0 {
-        return false;
-    }
-    b.expected == 0
+// What goes with the next message: its lines of the files that were asked for. None where one of these has come to an end before the messages. It had not when it
+// was counted, so somebody has changed it since.
+fn take_beside(sys: &System, d: Desk) -> Option<Beside> {
+    let wag = match d.wags {
+        Some(fd) => tool_expected::take_wag(sys, fd)?,
+        None => d.wag,
+    };
+    let expected = match d.codes {
+        Some(fd) => Some(tool_expected::take_code(sys, fd)?),
+        None => None,
+    };
+    Some(Beside { wag, expected })
 }
 
 // WHICH MESSAGES GO BY THEMSELVES
 
 // Whether a message has just the length that its header says, so that a burst has the same boundaries.
 fn is_whole(m: &[u8]) -> bool {
-    if m.len() < message::HEADER_LENGTH {
-        return false;
-    }
-    octets::read24(m, 1) == m.len()
-}
-
-fn is_of_policy(r: Reason) -> bool {
-    match r {
-        Reason::NoAccess => true,
-        Reason::GatewaySaysNo => true,
-        _ => false,
-    }
+    message::HEADER_LENGTH <= m.len() && octets::read24(m, 1) == m.len()
 }
 
 // Whether a message is a policy that can be refused for no access or by the gateway alone.
-fn is_policy(d: Desk, table: &[u8], host: &[u8], realm: &[u8], m: &[u8]) -> bool {
+fn is_policy(d: Desk, table: &[u8], names: Names, m: &[u8]) -> bool {
     let answer = [0u8; answers::ANSWER_LEAST];
     let notice = [0u8; answers::NOTICE_LENGTH_2];
-    let why = reasons::first_failed(table, d.form, d.op, host, realm, m, false, &answer, &notice);
-    match why {
-        Why::Unanswered(_) => false,
-        Why::Answered(r) => is_of_policy(r),
-    }
+    let why = reasons::first_failed(
+        table,
+        d.form,
+        d.op,
+        names.host,
+        names.realm,
+        m,
+        false,
+        &answer,
+        &notice,
+    );
+    matches!(why, Why::Answered(Reason::NoAccess | Reason::GatewaySaysNo))
 }
 
-// Whether the reason of a message's code may be said in a line.
-fn is_told(d: Desk) -> bool {
-    if 0 <= d.codes {
-        return true;
-    }
-    !d.quiet
-}
-
-// A policy to which the gateway says no gets the same code whether or not there is an access: why is known only from the table right before it.
-fn goes_alone(d: Desk, table: &[u8], host: &[u8], realm: &[u8], m: &[u8], b: Beside) -> bool {
+// A policy to which the gateway says no gets the same code whether or not there is an access: why is known only from the table right before it. It is not asked
+// where no line may say the reason.
+fn goes_alone(d: Desk, table: &[u8], names: Names, m: &[u8], b: Beside) -> bool {
     if !is_whole(m) {
         return true;
     }
-    if b.wag == tool_expected::YES {
-        return false;
-    }
-    if !is_told(d) {
-        return false;
-    }
-    is_policy(d, table, host, realm, m)
+    let is_told = d.codes.is_some() || !d.quiet;
+    !b.wag && is_told && is_policy(d, table, names, m)
 }
 
 // GATHERING
 
-// The i-th slot; a message that is passed over has no bytes.
-fn put_slot(slots: &mut [[usize; 3]], i: usize, bytes: usize, b: Beside) {
+// The i-th slot; there is none for a message that is passed over.
+fn put_slot(slots: &mut [Option<Slot>], i: usize, slot: Option<Slot>) {
     if i < slots.len() {
-        slots[i] = [bytes, b.wag, b.expected];
+        slots[i] = slot;
     }
 }
 
-fn put_wag(wags: &mut [u8], i: usize, b: Beside) {
+fn put_wag(wags: &mut [u8], i: usize, wag: bool) {
     if i < wags.len() {
-        wags[i] = if b.wag == tool_expected::YES { 1 } else { 0 };
+        wags[i] = u8::from(wag);
     }
 }
 
 // A message behind those that are there; whether there was room.
 fn put_message(messages: &mut [u8], at: usize, m: &[u8]) -> bool {
-    if messages.len() < at {
+    if messages.len() < at || messages.len() - at < m.len() {
         return false;
     }
-    if messages.len() - at < m.len() {
-        return false;
-    }
-    octets::put_bytes(messages, at, m);
+    messages[at..at + m.len()].copy_from_slice(m);
     true
 }
 
 fn passed(p: Page) -> Page {
     Page {
-        slots: sum(p.slots, 1),
-        messages: p.messages,
-        bytes: p.bytes,
-        alone: false,
-        full: false,
-        no_message: false,
-        no_line: false,
+        slots: p.slots.saturating_add(1),
+        ..p
     }
 }
 
 // One message more, by itself or with the others.
 fn added(p: Page, n: usize, alone: bool) -> Page {
     if alone {
-        return Page {
-            slots: sum(p.slots, 1),
-            messages: p.messages,
-            bytes: p.bytes,
-            alone: true,
-            full: true,
-            no_message: false,
-            no_line: false,
-        };
+        return ended(passed(p), End::Full);
     }
     Page {
-        slots: sum(p.slots, 1),
-        messages: sum(p.messages, 1),
-        bytes: sum(p.bytes, n),
-        alone: false,
-        full: false,
-        no_message: false,
-        no_line: false,
+        messages: p.messages.saturating_add(1),
+        bytes: p.bytes.saturating_add(n),
+        ..passed(p)
     }
 }
 
@@ -254,62 +179,25 @@ fn add(
     sys: &System,
     d: Desk,
     table: &[u8],
-    host: &[u8],
-    realm: &[u8],
+    names: Names,
     messages: &mut [u8],
-    slots: &mut [[usize; 3]],
+    slots: &mut [Option<Slot>],
     wags: &mut [u8],
     m: &[u8],
-    b: Beside,
+    beside: Beside,
     p: Page,
 ) -> Page {
     if !tool_only::is_chosen(sys, d.only, m) {
-        put_slot(slots, p.slots, 0, b);
+        put_slot(slots, p.slots, None);
         return passed(p);
     }
     if !put_message(messages, p.bytes, m) {
-        return without_message(p);
+        return ended(p, End::NoMessage);
     }
-    put_slot(slots, p.slots, m.len(), b);
-    put_wag(wags, p.messages, b);
-    added(p, m.len(), goes_alone(d, table, host, realm, m, b))
-}
-
-// The first n bytes of the room as the next message. Its lines of the other files are taken in any case.
-fn add_read(
-    sys: &System,
-    d: Desk,
-    table: &[u8],
-    host: &[u8],
-    realm: &[u8],
-    messages: &mut [u8],
-    slots: &mut [[usize; 3]],
-    wags: &mut [u8],
-    room: &[u8; 8192],
-    n: usize,
-    p: Page,
-) -> Page {
-    let all: &[u8] = room;
-    if all.len() < n {
-        return without_message(p);
-    }
-    let b = take_beside(sys, d);
-    if is_lost(d, b) {
-        return without_line(p);
-    }
-    add(
-        sys,
-        d,
-        table,
-        host,
-        realm,
-        messages,
-        slots,
-        wags,
-        &all[0..n],
-        b,
-        p,
-    )
+    let bytes = m.len();
+    put_slot(slots, p.slots, Some(Slot { bytes, beside }));
+    put_wag(wags, p.messages, beside.wag);
+    added(p, bytes, goes_alone(d, table, names, m, beside))
 }
 
 fn source(d: Desk) -> Source {
@@ -321,38 +209,34 @@ fn source(d: Desk) -> Source {
 
 // Whether there is a slot, and room for the longest message.
 fn has_room(messages: usize, slots: usize, p: Page) -> bool {
-    if slots <= p.slots {
-        return false;
-    }
-    if messages < p.bytes {
-        return false;
-    }
-    8192 <= messages - p.bytes
+    p.slots < slots && p.bytes <= messages && 8192 <= messages - p.bytes
 }
 
-// The next message of the file.
+// The next message of the file. Its lines of the other files are taken in any case.
 fn turn(
     sys: &System,
     d: Desk,
     table: &[u8],
-    host: &[u8],
-    realm: &[u8],
+    names: Names,
     messages: &mut [u8],
-    slots: &mut [[usize; 3]],
+    slots: &mut [Option<Slot>],
     wags: &mut [u8],
     p: Page,
 ) -> Page {
     if !has_room(messages.len(), slots.len(), p) {
-        return closed(p);
+        return ended(p, End::Full);
     }
     let mut room = [0u8; 8192];
-    let n = tool_streams::read(sys, source(d), &mut room);
-    if n == 0 {
-        return without_message(p);
-    }
-    add_read(
-        sys, d, table, host, realm, messages, slots, wags, &room, n, p,
-    )
+    let Some(n) = tool_streams::read(sys, source(d), &mut room) else {
+        return ended(p, End::NoMessage);
+    };
+    let Some(m) = room.get(..n) else {
+        return ended(p, End::NoMessage);
+    };
+    let Some(b) = take_beside(sys, d) else {
+        return ended(p, End::NoLine);
+    };
+    add(sys, d, table, names, messages, slots, wags, m, b, p)
 }
 
 // The next messages of the file, of which `left` are left: up to the end of the page or of the file, or to one that goes by itself.
@@ -360,19 +244,16 @@ pub fn gather(
     sys: &System,
     d: Desk,
     table: &[u8],
-    host: &[u8],
-    realm: &[u8],
+    names: Names,
     messages: &mut [u8],
-    slots: &mut [[usize; 3]],
+    slots: &mut [Option<Slot>],
     wags: &mut [u8],
     left: usize,
 ) -> Page {
     let mut p = empty();
-    let mut turns = left;
-    while turns > 0 {
-        turns -= 1;
-        p = turn(sys, d, table, host, realm, messages, slots, wags, p);
-        if p.full {
+    for _ in 0..left {
+        p = turn(sys, d, table, names, messages, slots, wags, p);
+        if p.end.is_some() {
             return p;
         }
     }

@@ -5,7 +5,6 @@
 use gateway::Reauthorized;
 use message::Kind;
 use system::System;
-use tool_operator::Number;
 use tool_streams::{Source, Way};
 use tool_words::{number, say};
 
@@ -30,25 +29,17 @@ struct Told {
 fn stop(t: Told, way: Way) -> Told {
     Told {
         way: tool_streams::over(way, false),
-        answers: t.answers,
-        requests: t.requests,
+        ..t
     }
 }
 
 // One more where something of n bytes was written.
 fn counted(written: usize, n: usize) -> usize {
     if n == 0 {
-        return written;
+        written
+    } else {
+        written.saturating_add(1)
     }
-    if written < 4294967296 {
-        return written + 1;
-    }
-    written
-}
-
-// Both identifiers of an AA-Request. They are counted, and begin again at 0 behind the largest.
-fn identifier(first: u32, before: usize) -> u32 {
-    ((first as usize + before % 4294967296) % 4294967296) as u32
 }
 
 // ONE MESSAGE
@@ -95,18 +86,13 @@ fn ask(
     answer: &mut [u8; answers::ANSWER_LEAST],
     request: &mut [u8; answers::ANSWER_LEAST],
 ) -> Reauthorized {
-    let i = tool_operator::find(sys, 10, b"visited=");
+    let Some(i) = tool_operator::find(sys, 10, b"visited=") else {
+        return ask_from(sys, b"", m, id, answer, request);
+    };
     let mut word = io::buffer();
     let n = sys.arg(i, &mut word);
-    let all: &[u8] = &word[..n];
-    let end = all.len();
-    if i == 0 {
-        return ask_from(sys, b"", m, id, answer, request);
-    }
-    if end < 8 {
-        return ask_from(sys, b"", m, id, answer, request);
-    }
-    ask_from(sys, &all[8..end], m, id, answer, request)
+    let visited = word[..n].strip_prefix(b"visited=").unwrap_or(b"");
+    ask_from(sys, visited, m, id, answer, request)
 }
 
 // The number of a message that gets no answer.
@@ -135,8 +121,7 @@ fn say_given(out: &mut [u8; 4096], at: usize, g: Reauthorized, id: u32) -> usize
     let kind = g.kind;
     match kind {
         Kind::NoAnswer => say_silent(out, at, g.code),
-        Kind::Plain => say_answer(out, at, g, id),
-        Kind::Experimental => say_answer(out, at, g, id),
+        Kind::Plain | Kind::Experimental => say_answer(out, at, g, id),
     }
 }
 
@@ -152,20 +137,7 @@ fn tell(sys: &System, k: usize, m: &[u8], g: Reauthorized, id: u32) -> bool {
     tool_files::print(sys, &out, f)
 }
 
-// The first n bytes of a room, written; why not is said of the file.
-fn put(sys: &System, fd: i32, path: &[u8], room: &[u8; answers::ANSWER_LEAST], n: usize) -> bool {
-    let all: &[u8] = room;
-    if all.len() < n {
-        return false;
-    }
-    if sys.write_all(fd, &all[0..n]) {
-        return true;
-    }
-    tool_files::refuse_file(sys, path);
-    false
-}
-
-// A message answered, what came of it written and said.
+// A message answered, what came of it written and said. Both identifiers of an AA-Request are counted, and begin again at 0 behind the largest.
 fn serve(
     sys: &System,
     desk: Desk,
@@ -177,12 +149,18 @@ fn serve(
 ) -> Told {
     let mut answer = [0u8; answers::ANSWER_LEAST];
     let mut request = [0u8; answers::ANSWER_LEAST];
-    let id = identifier(desk.first, t.requests);
+    let id = desk.first.wrapping_add((t.requests % 4294967296) as u32);
     let g = ask(sys, m, id, &mut answer, &mut request);
-    if !put(sys, desk.answers, answers, &answer, g.length) {
+    let Some(first) = answer.get(..g.length) else {
+        return stop(t, way);
+    };
+    let Some(second) = request.get(..g.request_length) else {
+        return stop(t, way);
+    };
+    if !tool_sheets::put(sys, desk.answers, answers, first) {
         return stop(t, way);
     }
-    if !put(sys, desk.requests, requests, &request, g.request_length) {
+    if !tool_sheets::put(sys, desk.requests, requests, second) {
         return stop(t, way);
     }
     if !tell(sys, way.messages, m, g, id) {
@@ -197,24 +175,6 @@ fn serve(
 
 // ALL MESSAGES
 
-// The first bytes of the room as the next message.
-fn take(
-    sys: &System,
-    desk: Desk,
-    answers: &[u8],
-    requests: &[u8],
-    room: &[u8; 8192],
-    t: Told,
-    way: Way,
-) -> Told {
-    let all: &[u8] = room;
-    let n = way.last;
-    if all.len() < n {
-        return stop(t, way);
-    }
-    serve(sys, desk, answers, requests, &all[0..n], t, way)
-}
-
 fn step(sys: &System, desk: Desk, from: &[u8], answers: &[u8], requests: &[u8], t: Told) -> Told {
     let mut room = [0u8; 8192];
     let before = t.way;
@@ -224,25 +184,22 @@ fn step(sys: &System, desk: Desk, from: &[u8], answers: &[u8], requests: &[u8], 
     };
     let way = tool_streams::look(sys, source, from, before, &mut room);
     if way.last == 0 {
-        return Told {
-            way,
-            answers: t.answers,
-            requests: t.requests,
-        };
+        return Told { way, ..t };
     }
-    take(sys, desk, answers, requests, &room, t, way)
+    match room.get(..way.last) {
+        Some(m) => serve(sys, desk, answers, requests, m, t, way),
+        None => stop(t, way),
+    }
 }
 
-// A proved loop has to end, and nothing says that a file does, so the turns are counted down.
+// A proved loop has to end, and nothing says that a file does, so the turns are counted.
 fn follow(sys: &System, desk: Desk, from: &[u8], answers: &[u8], requests: &[u8]) -> Told {
     let mut t = Told {
         way: tool_streams::start(),
         answers: 0,
         requests: 0,
     };
-    let mut turns: usize = 4294967296;
-    while turns > 0 {
-        turns -= 1;
+    for _ in 0..4294967296usize {
         t = step(sys, desk, from, answers, requests, t);
         let way = t.way;
         if way.last == 0 {
@@ -302,34 +259,29 @@ fn check_access(sys: &System) -> bool {
     true
 }
 
-// The messages of a file, known to be whole, from its start; -1 where they can not be followed, which is then said.
-fn open_messages(sys: &System, path: &[u8]) -> i32 {
-    let fd = tool_files::open_plain(sys, path);
-    if fd < 0 {
-        return -1;
-    }
-    if tool_inputs::count(sys, Source { fd, hex: false }, path) < 1 {
-        return -1;
-    }
+// The messages of a file, known to be whole, from its start; that they can not be followed is said.
+fn open_messages(sys: &System, path: &[u8]) -> Option<i32> {
+    let Some(fd) = tool_files::open_plain(sys, path) else {
+        return None;
+    };
+    tool_inputs::count(sys, Source { fd, hex: false }, path)?;
     if !sys.seek_to(fd, 0) {
         tool_files::refuse_file(sys, path);
-        return -1;
+        return None;
     }
-    fd
+    Some(fd)
 }
 
 fn open_and_play(sys: &System, first: u32, from: &[u8], answers: &[u8], requests: &[u8]) {
     if !check_access(sys) {
         return;
     }
-    let fd = open_messages(sys, from);
-    if fd < 0 {
+    let Some(fd) = open_messages(sys, from) else {
         return;
-    }
-    let sheets = tool_sheets::open_two_beside(sys, answers, requests, fd);
-    if !sheets.well {
+    };
+    let Some(sheets) = tool_sheets::open_two_beside(sys, answers, requests, fd) else {
         return;
-    }
+    };
     let desk = Desk {
         from: fd,
         answers: sheets.answers,
@@ -341,20 +293,14 @@ fn open_and_play(sys: &System, first: u32, from: &[u8], answers: &[u8], requests
 
 // Whether word i, if it is there, is the first that says the visited network or the first that says the identifiers.
 fn is_word(sys: &System, i: usize) -> bool {
-    if sys.arg_count() <= i {
-        return true;
-    }
-    if tool_operator::find(sys, 10, b"visited=") == i {
-        return true;
-    }
-    tool_operator::find(sys, 10, b"first=") == i
+    sys.arg_count() <= i
+        || tool_operator::find(sys, 10, b"visited=") == Some(i)
+        || tool_operator::find(sys, 10, b"first=") == Some(i)
 }
 
 fn check_words(sys: &System) -> bool {
-    if is_word(sys, 10) {
-        if is_word(sys, 11) {
-            return true;
-        }
+    if is_word(sys, 10) && is_word(sys, 11) {
+        return true;
     }
     tool_files::refuse(
         sys,
@@ -363,26 +309,13 @@ fn check_words(sys: &System) -> bool {
     false
 }
 
-// The identifiers that word i says, 1 where there is no such word. One that says no number gets its line.
-fn first_of(sys: &System, i: usize) -> Number {
-    if i == 0 {
-        return Number::Is(1);
-    }
-    let said = tool_operator::number_behind(sys, i, 6);
-    let Number::Is(n) = said else {
-        tool_files::refuse(sys, b"behind first= stands a number, 0 to 99999999");
-        return Number::Nothing;
-    };
-    Number::Is(n)
-}
-
 // REQUESTS ANSWERS AA-REQUESTS HOST REALM SESSION USER LABEL [visited=NETWORK] [first=N].
 pub fn run(sys: &System) {
     if !check_words(sys) {
         return;
     }
-    let said = first_of(sys, tool_operator::find(sys, 10, b"first="));
-    let Number::Is(first) = said else {
+    let said = tool_operator::first(sys, tool_operator::find(sys, 10, b"first="));
+    let Some(first) = said else {
         return;
     };
     let mut from = io::buffer();

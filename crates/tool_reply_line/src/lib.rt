@@ -5,7 +5,6 @@ ghost use Rattle.std.specs.Prelude.{◌≡◌, true};
 ghost use Rattle.table.specs.Soundness.{is_row};
 
 use decision::Outcome;
-use effects::Cut;
 use message::Kind;
 use reasons::Why;
 use tool_notice_line::Lengths;
@@ -58,17 +57,17 @@ fn code(out: &mut [u8; 4096], at: usize, kind: Kind, n: u32) -> usize {
     match kind {
         Kind::NoAnswer => {
             let a = say(out, at, b"no answer, number ");
-            let b = number(out, a, n as u64);
+            let b = number(out, a, u64::from(n));
             let c = say(out, b, b": ");
             tool_names::no_answer(out, c, n)
         }
         Kind::Plain => {
-            let a = number(out, at, n as u64);
+            let a = number(out, at, u64::from(n));
             let b = say(out, a, b" ");
             tool_names::result(out, b, n)
         }
         Kind::Experimental => {
-            let a = number(out, at, n as u64);
+            let a = number(out, at, u64::from(n));
             let b = say(out, a, b" ");
             tool_names::experimental(out, b, n)
         }
@@ -103,14 +102,13 @@ pub fn outcome(
     let a = code(out, at, kind, o.code);
     let b = tool_why::why(out, a, why, form);
     let c = place(out, b, o.place);
-    let what = o.cut;
-    match what {
-        Cut::NoCut => c,
-        Cut::Lengths(session, host, realm) => {
+    match o.cut {
+        None => c,
+        Some(what) => {
             let l = Lengths {
-                session,
-                host,
-                realm,
+                session: what.session,
+                host: what.host,
+                realm: what.realm,
             };
             cut(out, c, form, notice, l)
         }
@@ -121,10 +119,7 @@ pub fn outcome(
 fn standing(out: &mut [u8; 4096], at: usize, row: &[u8], k: usize) -> usize
     requires { is_row row.now ≡ true }
 {
-    if k < 1 {
-        return at;
-    }
-    if 8 < k {
+    if k < 1 || 8 < k {
         return at;
     }
     let a = say(out, at, b" ");
@@ -140,10 +135,8 @@ pub fn line(out: &mut [u8; 4096], at: usize, row: &[u8]) -> usize {
         return at;
     }
     let mut a = say(out, at, b"line:");
-    let mut i: usize = 0;
-    while i < 8 {
+    for i in 0..8 {
         a = standing(out, a, row, row::line_place(row, i));
-        i += 1;
     }
     a
 }

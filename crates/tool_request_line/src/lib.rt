@@ -3,22 +3,16 @@
 
 ghost use Rattle.std.specs.Prelude.{◌≤◌};
 
-use message::{Asked, Span, Told};
+use message::{Asked, Span};
 use reader::Step;
 use tool_words::{say, text};
 
 // A part of the message.
 fn part(out: &mut [u8; 4096], at: usize, m: &[u8], s: Span) -> usize {
-    let from = s.at;
-    let n = s.len;
-    if m.len() < from {
+    let Some(part) = m.get(s.at..s.at.saturating_add(s.len)) else {
         return at;
-    }
-    if m.len() - from < n {
-        return at;
-    }
-    let end = from + n;
-    text(out, at, &m[from..end])
+    };
+    text(out, at, part)
 }
 
 // A Session-Id and a label.
@@ -30,32 +24,25 @@ fn both(out: &mut [u8; 4096], at: usize, m: &[u8], session: Span, label: Span) -
 
 // How many policies are brought, where it is more than one.
 fn policies(out: &mut [u8; 4096], at: usize, second: Span, third: Span) -> usize {
-    if third.len != 0 {
-        return say(out, at, b"three policies for ");
-    }
-    if second.len != 0 {
-        return say(out, at, b"two policies for ");
-    }
-    say(out, at, b"policy for ")
+    let words: &[u8] = match (second.len, third.len) {
+        (0, 0) => b"policy for ",
+        (_, 0) => b"two policies for ",
+        _ => b"three policies for ",
+    };
+    say(out, at, words)
 }
 
 fn request(out: &mut [u8; 4096], at: usize, m: &[u8], asked: Asked) -> usize {
     match asked {
-        Asked::Tunnel {
-            session,
-            host: _,
-            realm: _,
-            label,
-            visited: _,
-        } => {
+        Asked::Tunnel { session, label, .. } => {
             let a = say(out, at, b"open ");
             both(out, a, m, session, label)
         }
         Asked::Policy {
             session,
-            first: _,
             second,
             third,
+            ..
         } => {
             let a = policies(out, at, second, third);
             part(out, a, m, session)
@@ -73,10 +60,7 @@ pub fn session(out: &mut [u8; 4096], at: usize, words: &[u8], m: &[u8]) -> usize
     let Step::One(first) = step else {
         return at;
     };
-    if 128 <= first.flags {
-        return at;
-    }
-    if first.code != 263 {
+    if 128 <= first.flags || first.code != 263 {
         return at;
     }
     let session = Span {
@@ -97,10 +81,7 @@ fn no_request(out: &mut [u8; 4096], at: usize, m: &[u8]) -> usize {
 pub fn most_policies(form: u32) -> usize
     ensures { (1 ≤ result) × (result ≤ 3) }
 {
-    if form == 2 {
-        return 3;
-    }
-    1
+    if form == 2 { 3 } else { 1 }
 }
 
 // Who asks a table of that form for what; a message that is no whole request is only said to be one.
@@ -109,13 +90,10 @@ pub fn asked(out: &mut [u8; 4096], at: usize, m: &[u8], form: u32) -> usize {
         return say(out, at, b"no request");
     }
     let heard = request::read(m, most_policies(form));
-    let told = heard.told;
-    match told {
-        Told::Refused(_) => no_request(out, at, m),
-        Told::Request(user, what) => {
-            let a = part(out, at, m, user);
-            let b = say(out, a, b", ");
-            request(out, b, m, what)
-        }
-    }
+    let Ok(q) = heard.told else {
+        return no_request(out, at, m);
+    };
+    let a = part(out, at, m, q.user);
+    let b = say(out, a, b", ");
+    request(out, b, m, q.asked)
 }

@@ -3,36 +3,38 @@
 
 ghost use Rattle.std.specs.Prelude.{◌≡◌, ◌+◌, ◌≤◌, ◌<◌, length};
 
-// The byte of a number at its place: 0 the lowest.
-fn low(n: u32) -> u8 {
-    (n % 256) as u8
-}
+// The flags M, and V with M, over the length of an AVP.
+const M: u32 = 0x4000_0000;
 
-// An AVP at `at`: M set, no vendor; its length does not count the padding, which is zero. Returns where the next one goes.
-pub fn put_avp(room: &mut [u8], at: usize, code: u32, value: &[u8]) -> usize
-    requires { (at ≤ length room.old) × (length room.old ≤ 8192) × (length value.now ≤ 8192) }
+const V_AND_M: u32 = 0xC000_0000;
+
+// An AVP at `at`, with the bytes of its vendor if it has one; its length does not count the padding, which is zero. Returns where the next one goes.
+fn put(room: &mut [u8], at: usize, code: u32, flags: u32, vendor: &[u8], value: &[u8]) -> usize
+    requires { (at ≤ length room.old) × (length room.old ≤ 8192) × (length vendor.now ≤ 4) × (length value.now ≤ 8192) }
     ensures { result ≤ length room.new }
 {
-    let n = value.len() + 8;
+    let behind = 8 + vendor.len();
+    let n = behind + value.len();
     let e = at + (n + 3) / 4 * 4;
     if room.len() < e {
         return at;
     }
-    let size = n as u32;
-    let head = [
-        low(code / 16777216),
-        low(code / 65536),
-        low(code / 256),
-        low(code),
-        0x40,
-        low(size / 65536),
-        low(size / 256),
-        low(size),
-    ];
-    octets::put_zeros(room, at, e - at);
-    octets::put_bytes(room, at, &head);
-    octets::put_bytes(room, at + 8, value);
+    let size = flags | n as u32;
+    let all = &mut room[at..e];
+    all.fill(0);
+    all[0..4].copy_from_slice(&code.to_be_bytes());
+    all[4..8].copy_from_slice(&size.to_be_bytes());
+    all[8..behind].copy_from_slice(vendor);
+    all[behind..n].copy_from_slice(value);
     e
+}
+
+// An AVP at `at`: M set, no vendor. Returns where the next one goes.
+pub fn put_avp(room: &mut [u8], at: usize, code: u32, value: &[u8]) -> usize
+    requires { (at ≤ length room.old) × (length room.old ≤ 8192) × (length value.now ≤ 8192) }
+    ensures { result ≤ length room.new }
+{
+    put(room, at, code, M, &[], value)
 }
 
 // The same with V and the vendor 3GPP, 10415.
@@ -40,30 +42,7 @@ pub fn put_3gpp(room: &mut [u8], at: usize, code: u32, value: &[u8]) -> usize
     requires { (at ≤ length room.old) × (length room.old ≤ 8192) × (length value.now ≤ 8192) }
     ensures { result ≤ length room.new }
 {
-    let n = value.len() + 12;
-    let e = at + (n + 3) / 4 * 4;
-    if room.len() < e {
-        return at;
-    }
-    let size = n as u32;
-    let head = [
-        low(code / 16777216),
-        low(code / 65536),
-        low(code / 256),
-        low(code),
-        0xC0,
-        low(size / 65536),
-        low(size / 256),
-        low(size),
-        0,
-        0,
-        0x28,
-        0xAF,
-    ];
-    octets::put_zeros(room, at, e - at);
-    octets::put_bytes(room, at, &head);
-    octets::put_bytes(room, at + 12, value);
-    e
+    put(room, at, code, V_AND_M, &[0, 0, 0x28, 0xAF], value)
 }
 
 // The header of a request of `n` bytes: version 1, R and P set, Application-Id 1.
@@ -71,29 +50,9 @@ pub fn put_header(room: &mut [u8], n: usize, command: u32)
     requires { (20 ≤ length room.old) × (n ≤ 8192) }
 {
     let size = n as u32;
-    let head = [
-        1,
-        low(size / 65536),
-        low(size / 256),
-        low(size),
-        0xC0,
-        low(command / 65536),
-        low(command / 256),
-        low(command),
-        0,
-        0,
-        0,
-        1,
-        0,
-        0,
-        0,
-        7,
-        0,
-        0,
-        0,
-        9,
-    ];
-    octets::put_bytes(room, 0, &head);
+    room[0..4].copy_from_slice(&(0x0100_0000 | size).to_be_bytes());
+    room[4..8].copy_from_slice(&(0xC000_0000 | command & 0x00FF_FFFF).to_be_bytes());
+    room[8..20].copy_from_slice(&[0, 0, 0, 1, 0, 0, 0, 7, 0, 0, 0, 9]);
 }
 
 // The five AVPs that both requests begin with.

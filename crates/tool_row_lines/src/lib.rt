@@ -24,12 +24,11 @@ pub fn is_row(row: &[u8]) -> bool
 fn name(out: &mut [u8; 4096], at: usize, row: &[u8]) -> usize
     requires { block_length ≤ length row.now }
 {
-    let n = octets::long(row[1]);
+    let n = usize::from(row[1]);
     if table::NAME_MOST < n {
         return at;
     }
-    let end = table::NAME + n;
-    text(out, at, &row[table::NAME..end])
+    text(out, at, &row[table::NAME..table::NAME + n])
 }
 
 // The number of a row in its table, counted from 1.
@@ -41,18 +40,13 @@ fn which(out: &mut [u8; 4096], i: usize) -> usize {
     a
 }
 
-// How many ones a byte has.
-fn ones(x: u8) -> u32 {
-    u8::count_ones(x)
-}
-
 // Whose a row is: the name and the operator.
 fn whose(out: &mut [u8; 4096], at: usize, row: &[u8]) -> usize
     requires { block_length ≤ length row.now }
 {
     let a = name(out, at, row);
     let b = say(out, a, b", operator ");
-    number(out, b, octets::wide(row[table::OPERATOR]) as u64)
+    number(out, b, u64::from(row[table::OPERATOR]))
 }
 
 // The first line of row i: whose it is, and how many accesses stand.
@@ -63,7 +57,7 @@ pub fn head(out: &mut [u8; 4096], i: usize, row: &[u8]) -> usize
     let b = say(out, a, b": ");
     let c = whose(out, b, row);
     let d = say(out, c, b", ");
-    let e = number(out, d, ones(row::used_bits(row)) as u64);
+    let e = number(out, d, u64::from(row::used_bits(row).count_ones()));
     say(out, e, b" standing\n")
 }
 
@@ -77,46 +71,34 @@ pub fn unsound(out: &mut [u8; 4096], i: usize, row: &[u8]) -> usize
     say(out, c, b", NOT SOUND: ")
 }
 
-// One more, of at most 8.
-fn more(n: usize) -> usize {
-    if n < 8 {
-        return n + 1;
-    }
-    n
-}
-
 // How many accesses stand on entry e, counted from 1.
 pub fn standing(row: &[u8], e: usize) -> usize
     requires { is_row row.now ≡ true }
 {
-    let mut n: usize = 0;
-    let mut k: usize = 1;
-    while k < 9 {
-        if octets::long(row::entry_of(row, k)) == e {
-            n = more(n);
+    let mut n = 0usize;
+    for k in 1..9 {
+        if usize::from(row::entry_of(row, k)) == e {
+            n = n.saturating_add(1);
         }
-        k += 1;
     }
     n
 }
 
 fn flags(out: &mut [u8; 4096], at: usize, x: u8) -> usize {
-    match x {
-        0 => at,
-        1 => say(out, at, b", barred"),
-        2 => say(out, at, b", may roam"),
-        _ => say(out, at, b", barred, may roam"),
-    }
+    let meaning: &[u8] = match x {
+        0 => b"",
+        1 => b", barred",
+        2 => b", may roam",
+        _ => b", barred, may roam",
+    };
+    say(out, at, meaning)
 }
 
 // The label of entry e.
 fn label(out: &mut [u8; 4096], at: usize, row: &[u8], e: usize) -> usize
     requires { block_length ≤ length row.now }
 {
-    if e < 1 {
-        return at;
-    }
-    if 4 < e {
+    if e < 1 || 4 < e {
         return at;
     }
     let entries = row::entries_room(row);
@@ -130,20 +112,14 @@ fn label(out: &mut [u8; 4096], at: usize, row: &[u8], e: usize) -> usize
 pub fn entry(out: &mut [u8; 4096], row: &[u8], e: usize) -> usize
     requires { (is_row row.now ≡ true) × (block_length ≤ length row.now) }
 {
-    if e < 1 {
-        return 0;
-    }
-    if 4 < e {
-        return 0;
-    }
-    if octets::long(row::entry_count(row)) < e {
+    if e < 1 || 4 < e || usize::from(row::entry_count(row)) < e {
         return 0;
     }
     let entries = row::entries_room(row);
     let a = say(out, 0, b"  ");
     let b = label(out, a, row, e);
     let c = say(out, b, b": limit ");
-    let d = number(out, c, octets::wide(row::limit(entries, e - 1)) as u64);
+    let d = number(out, c, u64::from(row::limit(entries, e - 1)));
     let f = flags(out, d, row::flags(entries, e - 1));
     let g = say(out, f, b", ");
     let h = number(out, g, standing(row, e) as u64);
@@ -152,7 +128,7 @@ pub fn entry(out: &mut [u8; 4096], row: &[u8], e: usize) -> usize
 
 // A policy of n bytes, behind what it is called; nothing where it is not there.
 fn policy(out: &mut [u8; 4096], at: usize, name: &[u8], bytes: &[u8]) -> usize {
-    if bytes.len() == 0 {
+    if bytes.is_empty() {
         return at;
     }
     let a = say(out, at, name);
@@ -214,7 +190,7 @@ fn access_at(out: &mut [u8; 4096], at: usize, row: &[u8], k: usize) -> usize
 {
     let a = text(out, at, row::session(row, k));
     let b = say(out, a, b" on ");
-    let c = label(out, b, row, octets::long(row::entry_of(row, k)));
+    let c = label(out, b, row, usize::from(row::entry_of(row, k)));
     let d = say(out, c, b", place ");
     let e = number(out, d, k as u64);
     let f = say(out, e, b", gateway ");
@@ -227,17 +203,11 @@ fn access_at(out: &mut [u8; 4096], at: usize, row: &[u8], k: usize) -> usize
 pub fn access(out: &mut [u8; 4096], row: &[u8], i: usize) -> usize
     requires { (is_row row.now ≡ true) × (block_length ≤ length row.now) }
 {
-    if i < 1 {
-        return 0;
-    }
-    if 8 < i {
+    if i < 1 || 8 < i {
         return 0;
     }
     let k = row::line_place(row, i - 1);
-    if k < 1 {
-        return 0;
-    }
-    if 8 < k {
+    if k < 1 || 8 < k {
         return 0;
     }
     let a = say(out, 0, b"    ");

@@ -8,9 +8,17 @@ use message::Kind;
 use reasons::{Reason, Why};
 use system::System;
 use tool_outcomes::Sheets;
-use tool_page::{Beside, Desk, Page};
+use tool_page::{Beside, Desk, End, Names, Page, Slot};
 use tool_screens::Entry;
 use tool_totals::Totals;
+
+// The files that are named in lines: the requests, and those that answers and notices go to.
+#[derive(Clone, Copy)]
+pub struct Paths<'a> {
+    pub requests: &'a [u8],
+    pub answers: &'a [u8],
+    pub notices: &'a [u8],
+}
 
 fn written_to(d: Desk) -> Sheets {
     Sheets {
@@ -21,24 +29,19 @@ fn written_to(d: Desk) -> Sheets {
 
 // So many bytes from a place on; none where there are not so many.
 fn part(s: &[u8], from: usize, n: usize) -> &[u8] {
-    if s.len() < from {
-        return &s[0..0];
-    }
-    if s.len() - from < n {
-        return &s[0..0];
-    }
-    let end = from + n;
-    &s[from..end]
+    let Some(rest) = s.get(from..) else {
+        return b"";
+    };
+    rest.get(..n).unwrap_or(b"")
 }
 
 // ONE MESSAGE
 
-// What came of a message, written, counted, said and fed to the board.
+// What came of a message, written, counted, said and fed to the board. None where it could not be, as below.
 fn report(
     sys: &System,
     d: Desk,
-    answers: &[u8],
-    notices: &[u8],
+    paths: Paths,
     screens: &mut [Entry],
     m: &[u8],
     b: Beside,
@@ -47,63 +50,65 @@ fn report(
     answer: &[u8],
     notice: &[u8],
     t: Totals,
-) -> Totals {
+) -> Option<Totals> {
     if !tool_outcomes::keep(
         sys,
         written_to(d),
-        answers,
-        notices,
+        paths.answers,
+        paths.notices,
         d.form,
         o,
         answer,
         notice,
     ) {
-        return tool_totals::broken(t);
+        return None;
     }
     let u = tool_totals::counted(t, o, tool_expected::is_expected(o, b.expected));
     if !tool_outcomes::tell_unless_quiet(
         sys, d.quiet, b.expected, u.messages, m, d.form, o, why, notice,
     ) {
-        return tool_totals::broken(u);
+        return None;
     }
-    if tool_feed::feed(sys, u.messages, d.quiet, d.form, screens, m, o, notice) {
-        return u;
-    }
-    tool_totals::broken(u)
+    tool_feed::feed(sys, u.messages, d.quiet, d.form, screens, m, o, notice).then_some(u)
 }
 
 // A message put to the server by itself, and what comes of it.
 fn serve_one(
     sys: &System,
     d: Desk,
-    answers: &[u8],
-    notices: &[u8],
+    paths: Paths,
     table: &mut [u8],
     screens: &mut [Entry],
-    host: &[u8],
-    realm: &[u8],
+    names: Names,
     m: &[u8],
     b: Beside,
     t: Totals,
-) -> Totals {
+) -> Option<Totals> {
     let mut answer = [0u8; answers::ANSWER_LEAST];
     let mut notice = [0u8; answers::NOTICE_LENGTH_2];
-    let wag = b.wag == tool_expected::YES;
-    let why = reasons::first_failed(table, d.form, d.op, host, realm, m, wag, &answer, &notice);
+    let why = reasons::first_failed(
+        table,
+        d.form,
+        d.op,
+        names.host,
+        names.realm,
+        m,
+        b.wag,
+        &answer,
+        &notice,
+    );
     let o = decision::handle(
         table,
         d.form,
         d.op,
-        host,
-        realm,
+        names.host,
+        names.realm,
         m,
-        wag,
+        b.wag,
         &mut answer,
         &mut notice,
     );
-    report(
-        sys, d, answers, notices, screens, m, b, o, why, &answer, &notice, t,
-    )
+    report(sys, d, paths, screens, m, b, o, why, &answer, &notice, t)
 }
 
 // WHAT A BURST GIVES
@@ -116,11 +121,15 @@ fn kind_of(n: u32) -> Kind {
     }
 }
 
-fn cut_of(r: [u32; 8]) -> Cut {
+fn cut_of(r: [u32; 8]) -> Option<Cut> {
     if r[4] == 0 {
-        return Cut::NoCut;
+        return None;
     }
-    Cut::Lengths(r[5] as usize, r[6] as usize, r[7] as usize)
+    Some(Cut {
+        session: r[5] as usize,
+        host: r[6] as usize,
+        realm: r[7] as usize,
+    })
 }
 
 // The outcome that a place for results has.
@@ -135,10 +144,7 @@ fn outcome_of(r: [u32; 8]) -> Outcome {
 }
 
 fn result_at(results: &[[u32; 8]], i: usize) -> [u32; 8] {
-    if i < results.len() {
-        return results[i];
-    }
-    [0; 8]
+    results.get(i).copied().unwrap_or([0; 8])
 }
 
 // How many bytes of notices an outcome has.
@@ -167,10 +173,20 @@ fn refused_for(r: Reason, o: Outcome) -> Reason {
     }
 }
 
-fn why_refused(d: Desk, table: &[u8], host: &[u8], realm: &[u8], m: &[u8], o: Outcome) -> Why {
+fn why_refused(d: Desk, table: &[u8], names: Names, m: &[u8], o: Outcome) -> Why {
     let answer = [0u8; answers::ANSWER_LEAST];
     let notice = [0u8; answers::NOTICE_LENGTH_2];
-    let why = reasons::first_failed(table, d.form, d.op, host, realm, m, false, &answer, &notice);
+    let why = reasons::first_failed(
+        table,
+        d.form,
+        d.op,
+        names.host,
+        names.realm,
+        m,
+        false,
+        &answer,
+        &notice,
+    );
     match why {
         Why::Unanswered(n) => Why::Unanswered(n),
         Why::Answered(r) => Why::Answered(refused_for(r, o)),
@@ -178,24 +194,11 @@ fn why_refused(d: Desk, table: &[u8], host: &[u8], realm: &[u8], m: &[u8], o: Ou
 }
 
 // Nothing is asked where no line is said or nothing was refused.
-fn why_told(
-    d: Desk,
-    table: &[u8],
-    host: &[u8],
-    realm: &[u8],
-    m: &[u8],
-    b: Beside,
-    o: Outcome,
-) -> Why {
-    if o.code == 2001 {
+fn why_told(d: Desk, table: &[u8], names: Names, m: &[u8], b: Beside, o: Outcome) -> Why {
+    if o.code == 2001 || d.quiet && tool_expected::is_expected(o, b.expected) {
         return Why::Answered(Reason::Passes);
     }
-    if d.quiet {
-        if tool_expected::is_expected(o, b.expected) {
-            return Why::Answered(Reason::Passes);
-        }
-    }
-    why_refused(d, table, host, realm, m, o)
+    why_refused(d, table, names, m, o)
 }
 
 // A PAGE
@@ -223,51 +226,38 @@ fn at_start() -> At {
 // Behind a message that is passed over.
 fn behind_passed(a: At) -> At {
     At {
-        slot: tool_page::sum(a.slot, 1),
-        message: a.message,
-        bytes: a.bytes,
-        answers: a.answers,
-        notices: a.notices,
+        slot: a.slot.saturating_add(1),
+        ..a
     }
 }
 
 // Behind a message of n bytes that came to this.
 fn behind(a: At, n: usize, form: u32, o: Outcome) -> At {
     At {
-        slot: tool_page::sum(a.slot, 1),
-        message: tool_page::sum(a.message, 1),
-        bytes: tool_page::sum(a.bytes, n),
-        answers: tool_page::sum(a.answers, o.length),
-        notices: tool_page::sum(a.notices, noticed(form, o)),
+        slot: a.slot.saturating_add(1),
+        message: a.message.saturating_add(1),
+        bytes: a.bytes.saturating_add(n),
+        answers: a.answers.saturating_add(o.length),
+        notices: a.notices.saturating_add(noticed(form, o)),
     }
-}
-
-fn slot_at(slots: &[[usize; 3]], i: usize) -> [usize; 3] {
-    if i < slots.len() {
-        return slots[i];
-    }
-    [0; 3]
 }
 
 // The next place, once the slot is told.
-fn next(form: u32, slots: &[[usize; 3]], results: &[[u32; 8]], a: At) -> At {
-    let s = slot_at(slots, a.slot);
-    if s[0] == 0 {
-        return behind_passed(a);
+fn next(form: u32, slot: Option<Slot>, results: &[[u32; 8]], a: At) -> At {
+    match slot {
+        Some(s) => behind(a, s.bytes, form, outcome_of(result_at(results, a.message))),
+        None => behind_passed(a),
     }
-    behind(a, s[0], form, outcome_of(result_at(results, a.message)))
 }
 
 // A message that the burst took.
 fn tell_taken(
     sys: &System,
     d: Desk,
-    answers: &[u8],
-    notices: &[u8],
+    paths: Paths,
     table: &[u8],
     screens: &mut [Entry],
-    host: &[u8],
-    realm: &[u8],
+    names: Names,
     m: &[u8],
     b: Beside,
     said: &[u8],
@@ -275,65 +265,54 @@ fn tell_taken(
     o: Outcome,
     a: At,
     t: Totals,
-) -> Totals {
-    let why = why_told(d, table, host, realm, m, b, o);
+) -> Option<Totals> {
+    let why = why_told(d, table, names, m, b, o);
     let answer = part(said, a.answers, o.length);
     let notice = part(cuts, a.notices, noticed(d.form, o));
-    report(
-        sys, d, answers, notices, screens, m, b, o, why, answer, notice, t,
-    )
+    report(sys, d, paths, screens, m, b, o, why, answer, notice, t)
 }
 
 // The slot at which the page is: passed over, taken by the burst, or put to the server by itself.
 fn tell_slot(
     sys: &System,
     d: Desk,
-    answers: &[u8],
-    notices: &[u8],
+    paths: Paths,
     table: &mut [u8],
     screens: &mut [Entry],
-    host: &[u8],
-    realm: &[u8],
+    names: Names,
     messages: &[u8],
-    s: [usize; 3],
+    slot: Option<Slot>,
     said: &[u8],
     cuts: &[u8],
     results: &[[u32; 8]],
     taken: usize,
     a: At,
     t: Totals,
-) -> Totals {
-    if s[0] == 0 {
-        return tool_totals::passed(t);
-    }
-    let m = part(messages, a.bytes, s[0]);
-    let b = Beside {
-        wag: s[1],
-        expected: s[2],
+) -> Option<Totals> {
+    let Some(s) = slot else {
+        return Some(tool_totals::passed(t));
     };
+    let m = part(messages, a.bytes, s.bytes);
+    let b = s.beside;
     if a.message < taken {
         let o = outcome_of(result_at(results, a.message));
         return tell_taken(
-            sys, d, answers, notices, table, screens, host, realm, m, b, said, cuts, o, a, t,
+            sys, d, paths, table, screens, names, m, b, said, cuts, o, a, t,
         );
     }
-    serve_one(
-        sys, d, answers, notices, table, screens, host, realm, m, b, t,
-    )
+    serve_one(sys, d, paths, table, screens, names, m, b, t)
 }
 
 // All slots of a page, in order, up to the first of which something could not be written.
 fn tell_page(
     sys: &System,
     d: Desk,
-    answers: &[u8],
-    notices: &[u8],
+    paths: Paths,
     table: &mut [u8],
     screens: &mut [Entry],
-    host: &[u8],
-    realm: &[u8],
+    names: Names,
     messages: &[u8],
-    slots: &[[usize; 3]],
+    slots: &[Option<Slot>],
     said: &[u8],
     cuts: &[u8],
     results: &[[u32; 8]],
@@ -341,24 +320,18 @@ fn tell_page(
     taken: usize,
     all: usize,
     before: Totals,
-) -> Totals {
+) -> Option<Totals> {
     let mut t = before;
     let mut a = at_start();
-    let mut left = p.slots;
-    while left > 0 {
-        left -= 1;
-        let s = slot_at(slots, a.slot);
+    for _ in 0..p.slots {
+        let slot = slots.get(a.slot).copied().flatten();
         t = tell_slot(
-            sys, d, answers, notices, table, screens, host, realm, messages, s, said, cuts,
-            results, taken, a, t,
-        );
-        if !t.whole {
-            return t;
-        }
-        tool_totals::progress(sys, t.messages, all);
-        a = next(d.form, slots, results, a);
+            sys, d, paths, table, screens, names, messages, slot, said, cuts, results, taken, a, t,
+        )?;
+        tool_totals::progress(sys, t.messages, Some(all));
+        a = next(d.form, slot, results, a);
     }
-    t
+    Some(t)
 }
 
 fn none_taken() -> Taken {
@@ -375,8 +348,7 @@ fn none_taken() -> Taken {
 fn call(
     d: Desk,
     table: &mut [u8],
-    host: &[u8],
-    realm: &[u8],
+    names: Names,
     messages: &[u8],
     wags: &[u8],
     p: Page,
@@ -384,22 +356,20 @@ fn call(
     cuts: &mut [u8],
     results: &mut [[u32; 8]],
 ) -> Taken {
-    let n = p.messages;
-    let e = p.bytes;
-    if messages.len() < e {
+    let Some(texts) = messages.get(..p.bytes) else {
         return none_taken();
-    }
-    if wags.len() < n {
+    };
+    let Some(words) = wags.get(..p.messages) else {
         return none_taken();
-    }
+    };
     burst::burst(
         table,
         d.form,
         d.op,
-        host,
-        realm,
-        &messages[0..e],
-        &wags[0..n],
+        names.host,
+        names.realm,
+        texts,
+        words,
         said,
         cuts,
         results,
@@ -410,43 +380,28 @@ fn call(
 fn serve_page(
     sys: &System,
     d: Desk,
-    answers: &[u8],
-    notices: &[u8],
+    paths: Paths,
     table: &mut [u8],
     screens: &mut [Entry],
-    host: &[u8],
-    realm: &[u8],
+    names: Names,
     messages: &[u8],
-    slots: &[[usize; 3]],
+    slots: &[Option<Slot>],
     wags: &[u8],
     p: Page,
     said: &mut [u8],
     cuts: &mut [u8],
     all: usize,
     t: Totals,
-) -> Totals {
+) -> Option<Totals> {
     let mut results = [[0u32; 8]; 128];
-    let taken = call(
-        d,
-        table,
-        host,
-        realm,
-        messages,
-        wags,
-        p,
-        said,
-        cuts,
-        &mut results,
-    );
+    let taken = call(d, table, names, messages, wags, p, said, cuts, &mut results);
     tell_page(
         sys,
         d,
-        answers,
-        notices,
+        paths,
         table,
         screens,
-        host,
-        realm,
+        names,
         messages,
         slots,
         said,
@@ -460,144 +415,86 @@ fn serve_page(
 }
 
 // What could not be read again, said.
-fn check_page(sys: &System, requests: &[u8], p: Page, t: Totals) -> Totals {
-    if !t.whole {
-        return t;
+fn check_page(sys: &System, requests: &[u8], p: Page, t: Totals) -> Option<Totals> {
+    match p.end {
+        Some(End::NoMessage) => {
+            tool_files::refuse_word(sys, requests, b": a message could not be read again");
+            None
+        }
+        Some(End::NoLine) => {
+            tool_files::refuse(sys, b"a line of wags= or codes= could not be read again");
+            None
+        }
+        Some(End::Full) | None => Some(t),
     }
-    if p.no_message {
-        tool_files::refuse_word(sys, requests, b": a message could not be read again");
-        return tool_totals::broken(t);
-    }
-    if p.no_line {
-        tool_files::refuse(sys, b"a line of wags= or codes= could not be read again");
-        return tool_totals::broken(t);
-    }
-    t
 }
 
 // ALL MESSAGES
 
-// How many messages are still to come.
-fn left_of(all: usize, done: usize) -> usize {
-    if all < done {
-        return 0;
-    }
-    all - done
-}
-
-// A page read, put to the server and told.
-fn turn_in(
-    sys: &System,
-    d: Desk,
-    requests: &[u8],
-    answers: &[u8],
-    notices: &[u8],
-    table: &mut [u8],
-    screens: &mut [Entry],
-    host: &[u8],
-    realm: &[u8],
-    messages: &mut [u8],
-    slots: &mut [[usize; 3]],
-    wags: &mut [u8],
-    said: &mut [u8],
-    cuts: &mut [u8],
-    all: usize,
-    t: Totals,
-) -> Totals {
-    let p = tool_page::gather(
-        sys,
-        d,
-        table,
-        host,
-        realm,
-        messages,
-        slots,
-        wags,
-        left_of(all, t.messages),
-    );
-    let u = serve_page(
-        sys, d, answers, notices, table, screens, host, realm, messages, slots, wags, p, said,
-        cuts, all, t,
-    );
-    check_page(sys, requests, p, u)
-}
-
-// The next page.
+// The next page, read, put to the server and told.
 fn turn(
     sys: &System,
     d: Desk,
-    requests: &[u8],
-    answers: &[u8],
-    notices: &[u8],
+    paths: Paths,
     table: &mut [u8],
     screens: &mut [Entry],
-    host: &[u8],
-    realm: &[u8],
+    names: Names,
     messages: &mut [u8],
     said: &mut [u8],
     cuts: &mut [u8],
     all: usize,
     t: Totals,
-) -> Totals {
-    let mut slots = [[0usize; 3]; 128];
+) -> Option<Totals> {
+    let mut slots = [None; 128];
     let mut wags = [0u8; 128];
-    turn_in(
-        sys, d, requests, answers, notices, table, screens, host, realm, messages, &mut slots,
-        &mut wags, said, cuts, all, t,
-    )
+    let left = all.saturating_sub(t.messages);
+    let p = tool_page::gather(sys, d, table, names, messages, &mut slots, &mut wags, left);
+    let u = serve_page(
+        sys, d, paths, table, screens, names, messages, &slots, &wags, p, said, cuts, all, t,
+    )?;
+    check_page(sys, paths.requests, p, u)
 }
 
 // All pages of the file, up to the first of which something could not be served, which is then said.
 fn serve_pages(
     sys: &System,
     d: Desk,
-    requests: &[u8],
-    answers: &[u8],
-    notices: &[u8],
+    paths: Paths,
     table: &mut [u8],
     screens: &mut [Entry],
-    host: &[u8],
-    realm: &[u8],
+    names: Names,
     messages: &mut [u8],
     said: &mut [u8],
     cuts: &mut [u8],
     all: usize,
-) -> Totals {
+) -> Option<Totals> {
     let mut t = tool_totals::none();
-    let mut left = all;
-    while left > 0 {
-        left -= 1;
+    for _ in 0..all {
         t = turn(
-            sys, d, requests, answers, notices, table, screens, host, realm, messages, said, cuts,
-            all, t,
-        );
-        if !t.whole {
-            return t;
-        }
+            sys, d, paths, table, screens, names, messages, said, cuts, all, t,
+        )?;
         if all <= t.messages {
-            return t;
+            return Some(t);
         }
     }
-    t
+    Some(t)
 }
 
+// A function of its own lends the rooms, as arrays: where they are made, a slice of an array this long takes the proof more than its stack.
 fn lend(
     sys: &System,
     d: Desk,
-    requests: &[u8],
-    answers: &[u8],
-    notices: &[u8],
+    paths: Paths,
     table: &mut [u8],
     screens: &mut [Entry],
-    host: &[u8],
-    realm: &[u8],
+    names: Names,
     messages: &mut [u8; 262144],
     said: &mut [u8; 655360],
     cuts: &mut [u8; 49152],
     all: usize,
-) -> Totals {
+) -> Option<Totals> {
     serve_pages(
-        sys, d, requests, answers, notices, table, screens, host, realm, messages, said, cuts, all,
+        sys, d, paths, table, screens, names, messages, said, cuts, all,
     )
 }
 
@@ -605,28 +502,22 @@ fn lend(
 fn in_rooms(
     sys: &System,
     d: Desk,
-    requests: &[u8],
-    answers: &[u8],
-    notices: &[u8],
+    paths: Paths,
     table: &mut [u8],
     screens: &mut [Entry],
-    host: &[u8],
-    realm: &[u8],
+    names: Names,
     all: usize,
-) -> Totals {
+) -> Option<Totals> {
     let mut messages = [0u8; 262144];
     let mut said = [0u8; 655360];
     let mut cuts = [0u8; 49152];
     lend(
         sys,
         d,
-        requests,
-        answers,
-        notices,
+        paths,
         table,
         screens,
-        host,
-        realm,
+        names,
         &mut messages,
         &mut said,
         &mut cuts,
@@ -634,51 +525,20 @@ fn in_rooms(
     )
 }
 
-// How long the server's own names are, each of which stands at the start of its room.
-#[derive(Clone, Copy)]
-struct Lengths {
-    host: usize,
-    realm: usize,
-}
-
-// All messages of the file, in order, under the names that the words say.
+// All messages of the file, in order, under the names that the words say. None where something could not be read or written, which is then said.
 pub fn serve_all(
     sys: &System,
     d: Desk,
-    requests: &[u8],
-    answers: &[u8],
-    notices: &[u8],
+    paths: Paths,
     table: &mut [u8],
     screens: &mut [Entry],
     all: usize,
-) -> Totals {
+) -> Option<Totals> {
     let mut host = [0u8; 4096];
     let mut realm = [0u8; 4096];
-    let n = Lengths {
+    let names = Names {
         host: tool_options::host(sys, d.host, &mut host),
         realm: tool_options::realm(sys, d.realm, &mut realm),
     };
-    serve_under(
-        sys, d, requests, answers, notices, table, screens, &host, &realm, n, all,
-    )
-}
-
-fn serve_under(
-    sys: &System,
-    d: Desk,
-    requests: &[u8],
-    answers: &[u8],
-    notices: &[u8],
-    table: &mut [u8],
-    screens: &mut [Entry],
-    host: &[u8; 4096],
-    realm: &[u8; 4096],
-    n: Lengths,
-    all: usize,
-) -> Totals {
-    let own = part(host, 0, n.host);
-    let ours = part(realm, 0, n.realm);
-    in_rooms(
-        sys, d, requests, answers, notices, table, screens, own, ours, all,
-    )
+    in_rooms(sys, d, paths, table, screens, names, all)
 }

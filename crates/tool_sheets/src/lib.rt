@@ -5,54 +5,41 @@ use system::System;
 use tool_hold::Held;
 use tool_inputs::Inputs;
 
-// A file to be written, -1 where there is none, and whether it was made here.
+// A file to be written, and whether it was made here.
 #[derive(Clone, Copy)]
 struct Sheet {
     fd: i32,
     made: bool,
 }
 
-// Both, open and empty, if `well`.
+// Both, open and empty.
 #[derive(Clone, Copy)]
 pub struct Sheets {
     pub answers: i32,
     pub notices: i32,
-    pub well: bool,
-}
-
-fn none() -> Sheet {
-    Sheet {
-        fd: -1,
-        made: false,
-    }
 }
 
 // A file that is there, as it is, or a new one. Why there is none is said.
-fn open_one(sys: &System, path: &[u8]) -> Sheet {
-    let fd = sys.open_update(path);
-    if 0 <= fd {
-        return Sheet { fd, made: false };
+fn open_one(sys: &System, path: &[u8]) -> Option<Sheet> {
+    if let Some(fd) = sys.open_update(path) {
+        return Some(Sheet { fd, made: false });
     }
     if sys.errno() != system::ENOENT {
         tool_files::refuse_file(sys, path);
-        return none();
+        return None;
     }
-    let fresh = sys.create(path);
-    if fresh < 0 {
+    let Some(fresh) = sys.create(path) else {
         tool_files::refuse_file(sys, path);
-        return none();
-    }
-    Sheet {
+        return None;
+    };
+    Some(Sheet {
         fd: fresh,
         made: true,
-    }
+    })
 }
 
 // The file closed, and gone if it was made here.
 fn give_up(sys: &System, s: Sheet, path: &[u8]) {
-    if s.fd < 0 {
-        return;
-    }
     sys.close(s.fd);
     if s.made {
         sys.unlink(path);
@@ -68,43 +55,34 @@ fn is_apart(sys: &System, a: i32, b: i32) -> bool {
     !tool_status::are_one(s, tool_status::of(sys, b))
 }
 
+// The same where the second may not be there.
+fn is_apart_from(sys: &System, a: i32, b: Option<i32>) -> bool {
+    match b {
+        Some(fd) => is_apart(sys, a, fd),
+        None => true,
+    }
+}
+
 // Whether a file is none of those that are read.
 fn is_none_of(sys: &System, fd: i32, i: Inputs) -> bool {
-    if !is_apart(sys, fd, i.requests) {
-        return false;
-    }
-    if !is_apart(sys, fd, i.wags) {
-        return false;
-    }
-    if !is_apart(sys, fd, i.screens) {
-        return false;
-    }
-    is_apart(sys, fd, i.codes)
+    is_apart(sys, fd, i.requests)
+        && is_apart_from(sys, fd, i.wags)
+        && is_apart_from(sys, fd, i.screens)
+        && is_apart_from(sys, fd, i.codes)
 }
 
 // Whether a file is none that the lines go to.
 fn is_unheard(sys: &System, fd: i32) -> bool {
-    if is_apart(sys, fd, system::STDOUT_FILENO) {
-        return is_apart(sys, fd, system::STDERR_FILENO);
-    }
-    false
+    is_apart(sys, fd, system::STDOUT_FILENO) && is_apart(sys, fd, system::STDERR_FILENO)
 }
 
 // Whether a file is none of those that are in use otherwise: the table, its lock, the new table, what is read, and what the lines go to.
 fn is_own(sys: &System, fd: i32, h: Held, i: Inputs) -> bool {
-    if !is_apart(sys, fd, h.table) {
-        return false;
-    }
-    if !is_apart(sys, fd, h.lock) {
-        return false;
-    }
-    if !is_apart(sys, fd, h.new) {
-        return false;
-    }
-    if !is_none_of(sys, fd, i) {
-        return false;
-    }
-    is_unheard(sys, fd)
+    is_apart_from(sys, fd, h.table)
+        && is_apart(sys, fd, h.lock)
+        && is_apart(sys, fd, h.new)
+        && is_none_of(sys, fd, i)
+        && is_unheard(sys, fd)
 }
 
 // Whether the mode of a file lets it be written; if not, that is said.
@@ -145,6 +123,15 @@ fn empty(sys: &System, fd: i32, path: &[u8]) -> bool {
     false
 }
 
+// A text written to a file; why not is said.
+pub fn put(sys: &System, fd: i32, path: &[u8], text: &[u8]) -> bool {
+    if sys.write_all(fd, text) {
+        return true;
+    }
+    tool_files::refuse_file(sys, path);
+    false
+}
+
 // Whether what was written to a file is forced out. Only a plain file can be asked for that.
 pub fn force_out(sys: &System, fd: i32, path: &[u8]) -> bool {
     if !tool_status::is_plain(tool_status::of(sys, fd)) {
@@ -167,10 +154,7 @@ fn are_free(
     h: Held,
     i: Inputs,
 ) -> bool {
-    if !check_free(sys, a, answers, h, i) {
-        return false;
-    }
-    if !check_free(sys, n, notices, h, i) {
+    if !check_free(sys, a, answers, h, i) || !check_free(sys, n, notices, h, i) {
         return false;
     }
     if is_apart(sys, a, n) {
@@ -184,56 +168,42 @@ fn are_free(
     false
 }
 
-fn bad() -> Sheets {
-    Sheets {
-        answers: -1,
-        notices: -1,
-        well: false,
-    }
-}
-
 // Both emptied, once it is known that they may be.
-fn start(sys: &System, a: i32, n: i32, answers: &[u8], notices: &[u8]) -> Sheets {
-    if !empty(sys, a, answers) {
-        return bad();
-    }
-    if !empty(sys, n, notices) {
-        return bad();
-    }
-    Sheets {
+fn start(sys: &System, a: i32, n: i32, answers: &[u8], notices: &[u8]) -> Option<Sheets> {
+    let are_empty = empty(sys, a, answers) && empty(sys, n, notices);
+    are_empty.then_some(Sheets {
         answers: a,
         notices: n,
-        well: true,
-    }
+    })
+}
+
+// Both files, as they are or new; or none made, which is then said.
+fn open_both(sys: &System, first: &[u8], second: &[u8]) -> Option<(Sheet, Sheet)> {
+    let a = open_one(sys, first)?;
+    let Some(n) = open_one(sys, second) else {
+        give_up(sys, a, first);
+        return None;
+    };
+    Some((a, n))
 }
 
 // ANSWERS and NOTICES, or nothing made and nothing changed, which is then said.
-pub fn open(sys: &System, h: Held, i: Inputs, answers: &[u8], notices: &[u8]) -> Sheets {
-    let a = open_one(sys, answers);
-    if a.fd < 0 {
-        return bad();
-    }
-    let n = open_one(sys, notices);
-    if n.fd < 0 {
-        give_up(sys, a, answers);
-        return bad();
-    }
+pub fn open(sys: &System, h: Held, i: Inputs, answers: &[u8], notices: &[u8]) -> Option<Sheets> {
+    let (a, n) = open_both(sys, answers, notices)?;
     if are_free(sys, a.fd, n.fd, answers, notices, h, i) {
         return start(sys, a.fd, n.fd, answers, notices);
     }
     give_up(sys, n, notices);
     give_up(sys, a, answers);
-    bad()
+    None
 }
 
 // BESIDE ONE FILE THAT IS READ
 
 // Whether a file may be written beside one that is read; why not is said.
 fn check_beside(sys: &System, fd: i32, path: &[u8], read: i32) -> bool {
-    if is_apart(sys, fd, read) {
-        if is_unheard(sys, fd) {
-            return check_mode(sys, fd, path);
-        }
+    if is_apart(sys, fd, read) && is_unheard(sys, fd) {
+        return check_mode(sys, fd, path);
     }
     tool_files::refuse_word(
         sys,
@@ -245,46 +215,28 @@ fn check_beside(sys: &System, fd: i32, path: &[u8], read: i32) -> bool {
 
 // Whether two files may be written there; why not is said.
 fn are_beside(sys: &System, a: i32, n: i32, first: &[u8], second: &[u8], read: i32) -> bool {
-    if !check_beside(sys, a, first, read) {
-        return false;
-    }
-    if !check_beside(sys, n, second, read) {
-        return false;
-    }
-    check_beside(sys, n, second, a)
+    check_beside(sys, a, first, read)
+        && check_beside(sys, n, second, read)
+        && check_beside(sys, n, second, a)
 }
 
-// A file to be written beside one that is read, open and empty; -1 where nothing is made and nothing changed, which is then said.
-pub fn open_beside(sys: &System, path: &[u8], read: i32) -> i32 {
-    let s = open_one(sys, path);
-    if s.fd < 0 {
-        return -1;
-    }
+// A file to be written beside one that is read, open and empty; or nothing made and nothing changed, which is then said.
+pub fn open_beside(sys: &System, path: &[u8], read: i32) -> Option<i32> {
+    let s = open_one(sys, path)?;
     if !check_beside(sys, s.fd, path, read) {
         give_up(sys, s, path);
-        return -1;
+        return None;
     }
-    if empty(sys, s.fd, path) {
-        return s.fd;
-    }
-    -1
+    empty(sys, s.fd, path).then_some(s.fd)
 }
 
 // Two files to be written beside one that is read, open and empty; or nothing made and nothing changed, which is then said.
-pub fn open_two_beside(sys: &System, first: &[u8], second: &[u8], read: i32) -> Sheets {
-    let a = open_one(sys, first);
-    if a.fd < 0 {
-        return bad();
-    }
-    let n = open_one(sys, second);
-    if n.fd < 0 {
-        give_up(sys, a, first);
-        return bad();
-    }
+pub fn open_two_beside(sys: &System, first: &[u8], second: &[u8], read: i32) -> Option<Sheets> {
+    let (a, n) = open_both(sys, first, second)?;
     if are_beside(sys, a.fd, n.fd, first, second, read) {
         return start(sys, a.fd, n.fd, first, second);
     }
     give_up(sys, n, second);
     give_up(sys, a, first);
-    bad()
+    None
 }

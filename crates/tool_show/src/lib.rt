@@ -6,19 +6,15 @@ ghost use Rattle.table.specs.Soundness.{is_row};
 ghost use Rattle.table.specs.TheTable.{block_length};
 
 use system::System;
-use table::RowFound;
-use tool_operator::Number;
 use tool_words::say;
 
 // The labels of a sound row.
 fn entries(sys: &System, row: &[u8], out: &mut [u8; 4096])
     requires { (is_row row.now ≡ true) × (block_length ≤ length row.now) }
 {
-    let mut e: usize = 1;
-    while e < 5 {
+    for e in 1..=4 {
         let n = tool_row_lines::entry(out, row, e);
         tool_files::print(sys, out, n);
-        e += 1;
     }
 }
 
@@ -26,11 +22,9 @@ fn entries(sys: &System, row: &[u8], out: &mut [u8; 4096])
 fn accesses(sys: &System, row: &[u8], out: &mut [u8; 4096])
     requires { (is_row row.now ≡ true) × (block_length ≤ length row.now) }
 {
-    let mut i: usize = 1;
-    while i < 9 {
+    for i in 1..=8 {
         let n = tool_row_lines::access(out, row, i);
         tool_files::print(sys, out, n);
-        i += 1;
     }
 }
 
@@ -66,11 +60,9 @@ fn show_or_skip(sys: &System, table: &[u8], form: u32, i: usize, out: &mut [u8; 
         return false;
     }
     let a = tool_form::length_of(form, i);
-    let e = a + tool_form::row_length(form);
-    if table.len() < e {
+    let Some(row) = table.get(a..a + tool_form::row_length(form)) else {
         return false;
-    }
-    let row = &table[a..e];
+    };
     if octets::all_zero(row) {
         return true;
     }
@@ -80,23 +72,13 @@ fn show_or_skip(sys: &System, table: &[u8], form: u32, i: usize, out: &mut [u8; 
     false
 }
 
-// One more, of at most 1,024.
-fn more(n: usize) -> usize {
-    if n < tool_form::MOST_ROWS {
-        return n + 1;
-    }
-    n
-}
-
 // All rows: how many are free.
 fn free_rows(sys: &System, table: &[u8], form: u32, out: &mut [u8; 4096]) -> usize {
-    let mut free: usize = 0;
-    let mut i: usize = 0;
-    while i < tool_form::MOST_ROWS {
+    let mut free = 0usize;
+    for i in 0..tool_form::MOST_ROWS {
         if show_or_skip(sys, table, form, i, out) {
-            free = more(free);
+            free = free.saturating_add(1);
         }
-        i += 1;
     }
     free
 }
@@ -104,7 +86,7 @@ fn free_rows(sys: &System, table: &[u8], form: u32, out: &mut [u8; 4096]) -> usi
 // The end of the last line: the form of the table.
 fn say_form(sys: &System, form: u32, out: &mut [u8; 4096], at: usize) {
     let a = say(out, at, b"form ");
-    let b = tool_words::number(out, a, form as u64);
+    let b = tool_words::number(out, a, u64::from(form));
     let c = say(out, b, b"\n");
     tool_files::print(sys, out, c);
 }
@@ -127,8 +109,7 @@ fn show_one(sys: &System, table: &[u8], form: u32, op: u32, name: &[u8], out: &m
         tool_files::refuse(sys, b"number 33: the operator is over 15");
         return;
     }
-    let found = table::lookup(table, form as usize, op, name);
-    let RowFound::At(i) = found else {
+    let Some(i) = table::lookup(table, form as usize, op, name) else {
         tool_files::refuse_word(sys, name, b": the operator has no such subscriber");
         return;
     };
@@ -138,33 +119,29 @@ fn show_one(sys: &System, table: &[u8], form: u32, op: u32, name: &[u8], out: &m
 
 // What is shown of the table at a path: the subscriber that word 3 names, or all where it names none.
 fn shown(sys: &System, path: &[u8], said: u32, op: u32, named: bool, table: &mut [u8]) {
-    let found = tool_form::read(sys, path, said, table);
-    let n = found.length;
-    if n < 1 {
+    let Some(found) = tool_form::read(sys, path, said, table) else {
         return;
-    }
-    if table.len() < n {
+    };
+    let Some(table) = table.get(..found.length) else {
         return;
-    }
+    };
     let mut out = [0u8; 4096];
     if !named {
-        show_all(sys, &table[0..n], found.form, &mut out);
+        show_all(sys, table, found.form, &mut out);
         return;
     }
     let mut name = io::buffer();
     let k = sys.arg(3, &mut name);
-    show_one(sys, &table[0..n], found.form, op, &name[..k], &mut out);
+    show_one(sys, table, found.form, op, &name[..k], &mut out);
 }
 
 // Whether word 3 is there and is a name. A form may stand in its place, and then nothing stands behind it.
 fn is_named(sys: &System) -> bool {
-    if sys.arg_count() < 4 {
-        return false;
+    match sys.arg_count() {
+        0..=3 => false,
+        4 => tool_operator::find(sys, 3, b"form=") != Some(3),
+        _ => true,
     }
-    if 4 < sys.arg_count() {
-        return true;
-    }
-    tool_operator::find(sys, 3, b"form=") != 3
 }
 
 // TABLE [form=F], or TABLE NAME [operator=N] [form=F].
@@ -172,12 +149,12 @@ pub fn show(sys: &System, table: &mut [u8]) {
     if !tool_form::check_both(sys, 4, 5) {
         return;
     }
-    let said = tool_operator::operator(sys, tool_operator::find(sys, 4, b"operator="));
-    let Number::Is(op) = said else {
+    let word = tool_operator::find(sys, 4, b"operator=");
+    let Some(op) = tool_operator::operator(sys, word) else {
         return;
     };
-    let word = tool_form::word(sys, tool_operator::find(sys, 3, b"form="));
-    let Number::Is(form) = word else {
+    let word = tool_operator::find(sys, 3, b"form=");
+    let Some(form) = tool_form::word(sys, word) else {
         return;
     };
     let mut path = io::buffer();

@@ -10,32 +10,14 @@ const PLAIN: u32 = 0o100000;
 
 const FOLDER: u32 = 0o040000;
 
-// What is known of no file.
-fn blank() -> Status {
-    Status {
-        device: 0,
-        inode: 0,
-        names: 0,
-        mode: 0,
-        owner: 0,
-        group: 0,
-    }
-}
-
-// What is known of the file that is open as `fd`; of none where it is not open.
+// What is known of the file that is open as `fd`; all zero where it is not open.
 pub fn of(sys: &System, fd: i32) -> Status {
-    match sys.fstat(fd) {
-        Some(s) => s,
-        None => blank(),
-    }
+    sys.fstat(fd).unwrap_or_default()
 }
 
 // Whether two files are one, whatever they are called.
 pub fn are_one(a: Status, b: Status) -> bool {
-    if a.device != b.device {
-        return false;
-    }
-    a.inode == b.inode
+    a.device == b.device && a.inode == b.inode
 }
 
 pub fn is_plain(s: Status) -> bool {

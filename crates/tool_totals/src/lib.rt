@@ -7,8 +7,7 @@ use message::Kind;
 use system::System;
 use tool_words::{number, say};
 
-// What was done so far, and of the messages how many were passed over, and how many came out otherwise than expected; `whole` is false once
-// something could not be read or written.
+// What was done so far, and of the messages how many were passed over, and how many came out otherwise than expected.
 #[derive(Clone, Copy)]
 pub struct Totals {
     pub messages: usize,
@@ -17,7 +16,6 @@ pub struct Totals {
     pub good: usize,
     pub silent: usize,
     pub cuts: usize,
-    pub whole: bool,
 }
 
 // Before the first message.
@@ -29,34 +27,20 @@ pub fn none() -> Totals {
         good: 0,
         silent: 0,
         cuts: 0,
-        whole: true,
     }
 }
 
 // One more, or as many as before.
 fn plus(n: usize, one: bool) -> usize {
-    if !one {
-        return n;
-    }
-    if n < 4294967296 {
-        return n + 1;
-    }
-    n
+    if one { n.saturating_add(1) } else { n }
 }
 
 fn is_silent(kind: Kind) -> bool {
-    match kind {
-        Kind::NoAnswer => true,
-        Kind::Plain => false,
-        Kind::Experimental => false,
-    }
+    matches!(kind, Kind::NoAnswer)
 }
 
-pub fn is_cut(cut: Cut) -> bool {
-    match cut {
-        Cut::NoCut => false,
-        Cut::Lengths(_, _, _) => true,
-    }
+pub fn is_cut(cut: Option<Cut>) -> bool {
+    cut.is_some()
 }
 
 // One message more, and whether it came out as expected.
@@ -65,12 +49,11 @@ pub fn counted(t: Totals, o: Outcome, expected: bool) -> Totals {
     let cut = o.cut;
     Totals {
         messages: plus(t.messages, true),
-        passed: t.passed,
         wrong: plus(t.wrong, !expected),
         good: plus(t.good, o.code == 2001),
         silent: plus(t.silent, is_silent(kind)),
         cuts: plus(t.cuts, is_cut(cut)),
-        whole: true,
+        ..t
     }
 }
 
@@ -79,29 +62,12 @@ pub fn passed(t: Totals) -> Totals {
     Totals {
         messages: plus(t.messages, true),
         passed: plus(t.passed, true),
-        wrong: t.wrong,
-        good: t.good,
-        silent: t.silent,
-        cuts: t.cuts,
-        whole: true,
+        ..t
     }
 }
 
-// Nothing more can be done.
-pub fn broken(t: Totals) -> Totals {
-    Totals {
-        messages: t.messages,
-        passed: t.passed,
-        wrong: t.wrong,
-        good: t.good,
-        silent: t.silent,
-        cuts: t.cuts,
-        whole: false,
-    }
-}
-
-// The running count, every 10,000 messages. How many there will be is 0 where nobody knows.
-pub fn progress(sys: &System, done: usize, all: usize) {
+// The running count, every 10,000 messages, with how many there will be where that is known.
+pub fn progress(sys: &System, done: usize, all: Option<usize>) {
     if done % 10000 != 0 {
         return;
     }
@@ -113,20 +79,12 @@ pub fn progress(sys: &System, done: usize, all: usize) {
     tool_files::note(sys, &out, d);
 }
 
-fn of_all(out: &mut [u8; 4096], at: usize, all: usize) -> usize {
-    if all == 0 {
+fn of_all(out: &mut [u8; 4096], at: usize, all: Option<usize>) -> usize {
+    let Some(n) = all else {
         return at;
-    }
+    };
     let a = say(out, at, b" of ");
-    number(out, a, all as u64)
-}
-
-// How many messages were served.
-fn served(t: Totals) -> usize {
-    if t.messages < t.passed {
-        return 0;
-    }
-    t.messages - t.passed
+    number(out, a, n as u64)
 }
 
 // What is said only if the command was asked for it.
@@ -142,7 +100,7 @@ fn other(out: &mut [u8; 4096], at: usize, what: &[u8], n: usize, asked: bool) ->
 // could be said.
 pub fn summary(sys: &System, t: Totals, some: bool, expected: bool) -> bool {
     let mut out = [0u8; 4096];
-    let a = number(&mut out, 0, served(t) as u64);
+    let a = number(&mut out, 0, t.messages.saturating_sub(t.passed) as u64);
     let b = say(&mut out, a, b" messages, ");
     let c = number(&mut out, b, t.good as u64);
     let d = say(&mut out, c, b" with success, ");

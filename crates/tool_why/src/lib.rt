@@ -2,27 +2,29 @@
 #![tactic(auto)]
 
 use reasons::{Reason, Why};
+use tool_avps::{base_name, our_name};
 use tool_words::{number, say};
 
 // The AVP of a slot by its name; the last four are 3GPP's.
 fn avp(out: &mut [u8; 4096], at: usize, slot: usize) -> usize {
-    match slot {
-        message::SESSION_ID => tool_avps::base_name(out, at, 263),
-        message::AUTH_APPLICATION_ID => tool_avps::base_name(out, at, 258),
-        message::ORIGIN_HOST => tool_avps::base_name(out, at, 264),
-        message::ORIGIN_REALM => tool_avps::base_name(out, at, 296),
-        message::DESTINATION_REALM => tool_avps::base_name(out, at, 283),
-        message::AUTH_REQUEST_TYPE => tool_avps::base_name(out, at, 274),
-        message::DESTINATION_HOST => tool_avps::base_name(out, at, 293),
-        message::USER_NAME => tool_avps::base_name(out, at, 1),
-        message::TERMINATION_CAUSE => tool_avps::base_name(out, at, 295),
-        message::PROXY_INFO => tool_avps::base_name(out, at, 284),
-        message::RE_AUTH_REQUEST_TYPE => tool_avps::base_name(out, at, 285),
-        message::VISITED_NETWORK => tool_avps::our_name(out, at, 600),
-        message::SESSION_REQUEST_TYPE => tool_avps::our_name(out, at, 311),
-        message::WLAN_APN_ID => tool_avps::our_name(out, at, 100),
-        _ => tool_avps::our_name(out, at, 312),
-    }
+    let name = match slot {
+        message::SESSION_ID => base_name(263),
+        message::AUTH_APPLICATION_ID => base_name(258),
+        message::ORIGIN_HOST => base_name(264),
+        message::ORIGIN_REALM => base_name(296),
+        message::DESTINATION_REALM => base_name(283),
+        message::AUTH_REQUEST_TYPE => base_name(274),
+        message::DESTINATION_HOST => base_name(293),
+        message::USER_NAME => base_name(1),
+        message::TERMINATION_CAUSE => base_name(295),
+        message::PROXY_INFO => base_name(284),
+        message::RE_AUTH_REQUEST_TYPE => base_name(285),
+        message::VISITED_NETWORK => our_name(600),
+        message::SESSION_REQUEST_TYPE => our_name(311),
+        message::WLAN_APN_ID => our_name(100),
+        _ => our_name(312),
+    };
+    say(out, at, name)
 }
 
 // What is wrong with the AVP at a byte.
@@ -40,17 +42,16 @@ fn in_list(out: &mut [u8; 4096], at: usize, wrong: &[u8], slot: usize) -> usize 
 
 // An AVP that stands too often. Of policies form 2 takes three, of everything else a request has one.
 fn too_many(out: &mut [u8; 4096], at: usize, slot: usize, form: u32) -> usize {
-    if slot == message::ROUTING_POLICY {
-        if form == 2 {
-            return in_list(out, at, b": more than three ", slot);
-        }
+    if slot == message::ROUTING_POLICY && form == 2 {
+        return in_list(out, at, b": more than three ", slot);
     }
     in_list(out, at, b": more than one ", slot)
 }
 
-// Reading.
-fn reading(out: &mut [u8; 4096], at: usize, reason: Reason, form: u32) -> usize {
+// A reason in words. The form is that of the table.
+pub fn reason(out: &mut [u8; 4096], at: usize, reason: Reason, form: u32) -> usize {
     match reason {
+        Reason::Passes => at,
         Reason::ReservedBits => say(out, at, b": reserved bits of the header are set"),
         Reason::ErrorBit => say(out, at, b": the E bit is set"),
         Reason::UnknownCommand => say(out, at, b": the command is not 265 or 275"),
@@ -69,13 +70,6 @@ fn reading(out: &mut [u8; 4096], at: usize, reason: Reason, form: u32) -> usize 
         Reason::Twice(slot) => too_many(out, at, slot, form),
         Reason::WrongLength(slot) => in_list(out, at, b": wrong length of ", slot),
         Reason::WrongValue(slot) => in_list(out, at, b": wrong value of ", slot),
-        _ => at,
-    }
-}
-
-// The row, and deciding on it.
-fn deciding(out: &mut [u8; 4096], at: usize, reason: Reason) -> usize {
-    match reason {
         Reason::NoRow => say(out, at, b": the operator has no subscriber of that name"),
         Reason::UnsoundRow => say(out, at, b": the subscriber's row is not sound"),
         Reason::NotEntered => say(out, at, b": the subscriber does not have that label"),
@@ -85,14 +79,7 @@ fn deciding(out: &mut [u8; 4096], at: usize, reason: Reason) -> usize {
         Reason::NoAccess => say(out, at, b": no access has the Session-Id"),
         Reason::GatewaySaysNo => say(out, at, b": the gateway says no"),
         Reason::Unused => say(out, at, b": no access has the Session-Id on that label"),
-        _ => at,
     }
-}
-
-// A reason belongs to one of the two. The form is that of the table.
-pub fn reason(out: &mut [u8; 4096], at: usize, reason: Reason, form: u32) -> usize {
-    let a = reading(out, at, reason, form);
-    deciding(out, a, reason)
 }
 
 // Why a call is answered as it is. The number of one that gets no answer is said with its meaning already.

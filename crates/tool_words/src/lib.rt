@@ -3,14 +3,12 @@
 #![tactic(auto)]
 
 pub fn say(out: &mut [u8; 4096], at: usize, text: &[u8]) -> usize {
-    if 4096 < at {
+    let end = at.saturating_add(text.len());
+    let Some(room) = out.get_mut(at..end) else {
         return at;
-    }
-    if 4096 - at < text.len() {
-        return at;
-    }
-    octets::put_bytes(out, at, text);
-    at + text.len()
+    };
+    room.copy_from_slice(text);
+    end
 }
 
 pub fn number(out: &mut [u8; 4096], at: usize, n: u64) -> usize {
@@ -21,29 +19,24 @@ pub fn number(out: &mut [u8; 4096], at: usize, n: u64) -> usize {
 
 // A digit of base 16, as document 01 writes it.
 fn digit(x: u8) -> u8 {
-    if x < 10 {
-        return 48 + x;
+    match x {
+        0..=9 => b'0' + x,
+        10..=15 => b'A' + (x - 10),
+        _ => b'?',
     }
-    if x < 16 {
-        return 55 + x;
-    }
-    63
 }
 
 // A byte, by two digits of base 16.
 pub fn octet(out: &mut [u8; 4096], at: usize, x: u8) -> usize {
-    let two = [digit(x / 16), digit(x % 16)];
-    say(out, at, &two)
+    say(out, at, &[digit(x / 16), digit(x % 16)])
 }
 
 // The bytes of `s`, each behind a blank.
 pub fn octets(out: &mut [u8; 4096], at: usize, s: &[u8]) -> usize {
     let mut a = at;
-    let mut i: usize = 0;
-    while i < s.len() {
+    for &x in s {
         let b = say(out, a, b" ");
-        a = octet(out, b, s[i]);
-        i += 1;
+        a = octet(out, b, x);
     }
     a
 }
@@ -51,19 +44,12 @@ pub fn octets(out: &mut [u8; 4096], at: usize, s: &[u8]) -> usize {
 // Whether a byte stands for itself in a text. What is no printable character of ASCII, and the backslash, goes by its number, so that
 // no text can pass for another or steer a terminal.
 fn is_plain(x: u8) -> bool {
-    if x < 32 {
-        return false;
-    }
-    if 126 < x {
-        return false;
-    }
-    x != 92
+    (b' '..=b'~').contains(&x) && x != b'\\'
 }
 
 fn letter(out: &mut [u8; 4096], at: usize, x: u8) -> usize {
     if is_plain(x) {
-        let one = [x];
-        return say(out, at, &one);
+        return say(out, at, &[x]);
     }
     let a = say(out, at, b"\\x");
     octet(out, a, x)
@@ -72,10 +58,8 @@ fn letter(out: &mut [u8; 4096], at: usize, x: u8) -> usize {
 // A text that came from outside.
 pub fn text(out: &mut [u8; 4096], at: usize, s: &[u8]) -> usize {
     let mut a = at;
-    let mut i: usize = 0;
-    while i < s.len() {
-        a = letter(out, a, s[i]);
-        i += 1;
+    for &x in s {
+        a = letter(out, a, x);
     }
     a
 }

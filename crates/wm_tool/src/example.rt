@@ -8,10 +8,8 @@ pub fn play(sys: &System) {
     let mut answer = [0u8; answers::ANSWER_LEAST];
     let mut notice = [0u8; answers::NOTICE_LENGTH];
     let mut out = [0u8; 4096];
-    let mut k: usize = 0;
-    while k < 41 {
+    for k in 0..41 {
         let n = tool_cases::step(k, &mut table, &mut room, &mut answer, &mut notice, &mut out);
         tool_files::print(sys, &out, n);
-        k += 1;
     }
 }

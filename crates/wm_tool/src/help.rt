@@ -300,135 +300,36 @@ pub fn say(sys: &System) {
 
 // HOW A COMMAND IS USED
 
-// Whether a word is a command; how it is used is then said.
-fn is_used(sys: &System, word: &[u8], name: &[u8], usage: &[u8]) -> bool {
-    if !octets::same_bytes(word, name) {
-        return false;
-    }
-    tool_files::refuse(sys, usage);
-    true
-}
-
-// A command that was called with too few words or too many.
-fn is_set_up(sys: &System, word: &[u8]) -> bool {
-    if is_used(
-        sys,
-        word,
-        b"new",
-        b"usage: play new TABLE ROWS [form=1|form=2]",
-    ) {
-        return true;
-    }
-    if is_used(
-        sys,
-        word,
-        b"enter",
-        b"usage: play enter TABLE NAME [operator=N] [shares=A,B,..] [form=1|form=2]",
-    ) {
-        return true;
-    }
-    is_used(
-        sys,
-        word,
-        b"add",
-        b"usage: play add TABLE NAME LABEL LIMIT [barred] [roam] [operator=N] [form=1|form=2]",
-    )
-}
-
-// Likewise, for those that set nothing up.
-fn is_other(sys: &System, word: &[u8]) -> bool {
-    if is_used(
-        sys,
-        word,
-        b"show",
-        b"usage: play show TABLE [NAME [operator=N]] [form=1|form=2]",
-    ) {
-        return true;
-    }
-    if is_used(
-        sys,
-        word,
-        b"move",
-        b"usage: play move TABLE TO [form=1|form=2]",
-    ) {
-        return true;
-    }
-    if is_used(
-        sys,
-        word,
-        b"handle",
-        b"usage: play handle TABLE REQUESTS ANSWERS NOTICES [hex] [quiet] [host=NAME] [realm=NAME] [wag=yes|wag=no|wags=FILE] [operator=N] [only=NAME] [codes=FILE] [board=SCREENS] [form=1|form=2]",
-    ) {
-        return true;
-    }
-    if is_used(
-        sys,
-        word,
-        b"decode",
-        b"usage: play decode FILE [hex|notices [form=1|form=2]]",
-    ) {
-        return true;
-    }
-    if is_used(
-        sys,
-        word,
-        b"judge",
-        b"usage: play judge CASES BEFORE AFTER HOST REALM [operator=N] [wag=yes|wag=no|wags=FILE] [form=1|form=2]",
-    ) {
-        return true;
-    }
-    if is_used(
-        sys,
-        word,
-        b"report",
-        b"usage: play report new|count|add|show|draw REPORT [TABLE REQUESTS HOURS [operator=N] [form=1|form=2]|OTHER]",
-    ) {
-        return true;
-    }
-    is_used(
-        sys,
-        word,
-        b"board",
-        b"usage: play board SCREENS TABLE REQUESTS [form=1|form=2]",
-    )
-}
-
-// Likewise, on what the server sends to a gateway.
-fn is_told(sys: &System, word: &[u8]) -> bool {
-    if is_used(
-        sys,
-        word,
-        b"abort",
-        b"usage: play abort NOTICES REQUESTS HOST REALM [first=N] [form=1|form=2]",
-    ) {
-        return true;
-    }
-    if is_used(
-        sys,
-        word,
-        b"abort-answers",
-        b"usage: play abort-answers REQUESTS ANSWERS",
-    ) {
-        return true;
-    }
-    is_used(
-        sys,
-        word,
-        b"reauth",
-        b"usage: play reauth REQUESTS ANSWERS AA-REQUESTS HOST REALM SESSION USER LABEL [visited=NETWORK] [first=N]",
-    )
-}
-
-// What was meant can not be done with these words.
+// What was meant can not be done with these words: they are no command, or one that was called with too few words or too many.
 pub fn refuse(sys: &System, word: &[u8]) {
-    if is_set_up(sys, word) {
-        return;
-    }
-    if is_told(sys, word) {
-        return;
-    }
-    if is_other(sys, word) {
-        return;
-    }
-    tool_files::refuse_word(sys, word, b": no such command: see play help");
+    let usage: &[u8] = match word {
+        b"new" => b"usage: play new TABLE ROWS [form=1|form=2]",
+        b"enter" => { b"usage: play enter TABLE NAME [operator=N] [shares=A,B,..] [form=1|form=2]" }
+        b"add" => {
+            b"usage: play add TABLE NAME LABEL LIMIT [barred] [roam] [operator=N] [form=1|form=2]"
+        }
+        b"show" => b"usage: play show TABLE [NAME [operator=N]] [form=1|form=2]",
+        b"move" => b"usage: play move TABLE TO [form=1|form=2]",
+        b"handle" => {
+            b"usage: play handle TABLE REQUESTS ANSWERS NOTICES [hex] [quiet] [host=NAME] [realm=NAME] [wag=yes|wag=no|wags=FILE] [operator=N] [only=NAME] [codes=FILE] [board=SCREENS] [form=1|form=2]"
+        }
+        b"decode" => b"usage: play decode FILE [hex|notices [form=1|form=2]]",
+        b"judge" => {
+            b"usage: play judge CASES BEFORE AFTER HOST REALM [operator=N] [wag=yes|wag=no|wags=FILE] [form=1|form=2]"
+        }
+        b"report" => {
+            b"usage: play report new|count|add|show|draw REPORT [TABLE REQUESTS HOURS [operator=N] [form=1|form=2]|OTHER]"
+        }
+        b"board" => b"usage: play board SCREENS TABLE REQUESTS [form=1|form=2]",
+        b"abort" => { b"usage: play abort NOTICES REQUESTS HOST REALM [first=N] [form=1|form=2]" }
+        b"abort-answers" => b"usage: play abort-answers REQUESTS ANSWERS",
+        b"reauth" => {
+            b"usage: play reauth REQUESTS ANSWERS AA-REQUESTS HOST REALM SESSION USER LABEL [visited=NETWORK] [first=N]"
+        }
+        _ => {
+            tool_files::refuse_word(sys, word, b": no such command: see play help");
+            return;
+        }
+    };
+    tool_files::refuse(sys, usage);
 }

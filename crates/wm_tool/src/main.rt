@@ -8,105 +8,25 @@ ghost use Rattle.std.specs.Prelude.{◌≤◌};
 
 use system::System;
 
-// What the command is called with, its own name included.
-fn is_called(sys: &System, word: &[u8], name: &[u8], least: usize, most: usize) -> bool {
-    if !octets::same_bytes(word, name) {
-        return false;
-    }
-    if sys.arg_count() < least {
-        return false;
-    }
-    sys.arg_count() <= most
-}
-
-// The word for help, as it stands in this tool and in others. What stands behind it does not matter.
-fn is_help(word: &[u8]) -> bool {
-    if octets::same_bytes(word, b"help") {
-        return true;
-    }
-    if octets::same_bytes(word, b"--help") {
-        return true;
-    }
-    octets::same_bytes(word, b"-h")
-}
-
-// The commands that set a table up; whether it is one of them.
-fn is_set_up(sys: &System, word: &[u8], table: &mut [u8]) -> bool {
-    if is_called(sys, word, b"new", 4, 5) {
-        tool_set_up::new(sys, table);
-        return true;
-    }
-    if is_called(sys, word, b"enter", 4, 7) {
-        tool_set_up::enter(sys, table);
-        return true;
-    }
-    if is_called(sys, word, b"add", 6, 10) {
-        tool_set_up::add(sys, table);
-        return true;
-    }
-    false
-}
-
-// The commands on what the server sends to a gateway, the disconnection of what was cut and the gateway's own part; whether it is one of them. The requests that were
-// sent stand in the room.
-fn is_told(sys: &System, word: &[u8], room: &mut [u8]) -> bool {
-    if is_called(sys, word, b"abort", 6, 8) {
-        tool_abort::run(sys);
-        return true;
-    }
-    if is_called(sys, word, b"abort-answers", 4, 4) {
-        tool_abort_answers::run(sys, room);
-        return true;
-    }
-    if is_called(sys, word, b"reauth", 10, 12) {
-        tool_reauth::run(sys);
-        return true;
-    }
-    false
-}
-
-// The commands of the products above the server: the disconnection, the gateway, the report and the board.
-fn run_above(sys: &System, word: &[u8], table: &mut [u8]) {
-    if is_told(sys, word, table) {
-        return;
-    }
-    if is_called(sys, word, b"report", 4, 9) {
-        tool_report::run(sys, table);
-        return;
-    }
-    if is_called(sys, word, b"board", 5, 6) {
-        tool_board::run(sys, table);
-        return;
-    }
-    help::refuse(sys, word);
-}
-
-// A command, with a room for its table, and one to spare for a command that makes or reads a second.
+// A command, with what it is called with, its own name included; a room for its table, in which the requests that were sent stand too; and one to spare for a command that
+// makes or reads a second table.
 fn run(sys: &System, word: &[u8], table: &mut [u8], spare: &mut [u8]) {
-    if is_set_up(sys, word, table) {
-        return;
+    match (word, sys.arg_count()) {
+        (b"new", 4..=5) => tool_set_up::new(sys, table),
+        (b"enter", 4..=7) => tool_set_up::enter(sys, table),
+        (b"add", 6..=10) => tool_set_up::add(sys, table),
+        (b"move", 4..=5) => tool_move::run(sys, table, spare),
+        (b"judge", 7..=10) => tool_judge::run(sys, table, spare),
+        (b"show", 3..=6) => tool_show::show(sys, table),
+        (b"handle", 6..=16) => tool_handle::handle(sys, table),
+        (b"decode", 3..=5) => tool_decode::decode(sys),
+        (b"abort", 6..=8) => tool_abort::run(sys),
+        (b"abort-answers", 4) => tool_abort_answers::run(sys, table),
+        (b"reauth", 10..=12) => tool_reauth::run(sys),
+        (b"report", 4..=9) => tool_report::run(sys, table),
+        (b"board", 5..=6) => tool_board::run(sys, table),
+        _ => help::refuse(sys, word),
     }
-    if is_called(sys, word, b"move", 4, 5) {
-        tool_move::run(sys, table, spare);
-        return;
-    }
-    if is_called(sys, word, b"judge", 7, 10) {
-        tool_judge::run(sys, table, spare);
-        return;
-    }
-    if is_called(sys, word, b"show", 3, 6) {
-        tool_show::show(sys, table);
-        return;
-    }
-    if is_called(sys, word, b"handle", 6, 16) {
-        tool_handle::handle(sys, table);
-        return;
-    }
-    if is_called(sys, word, b"decode", 3, 5) {
-        tool_decode::decode(sys);
-        return;
-    }
-    run_above(sys, word, table);
 }
 
 // THE ROOMS. They are on the stack. A room has one byte more than the longest table in it, by which a longer file is told.
@@ -119,13 +39,10 @@ fn is_large(sys: &System) -> bool {
 
 // How many rooms a command needs besides the first.
 fn more_rooms(word: &[u8]) -> usize {
-    if octets::same_bytes(word, b"move") {
-        return 1;
+    match word {
+        b"move" | b"judge" => 1,
+        _ => 0,
     }
-    if octets::same_bytes(word, b"judge") {
-        return 1;
-    }
-    0
 }
 
 // A command, with a room for 1,024 rows of either form.
@@ -180,12 +97,10 @@ fn is_whole(sys: &System, i: usize) -> bool {
 
 // The words that a command may have, all of them.
 fn are_whole(sys: &System) -> bool {
-    let mut i: usize = 1;
-    while i < 16 {
+    for i in 1..16 {
         if !is_whole(sys, i) {
             return false;
         }
-        i += 1;
     }
     true
 }
@@ -214,9 +129,9 @@ fn main(rt: HostRuntime) {
     }
     let mut word = io::buffer();
     let n = sys.arg(1, &mut word);
-    if is_help(&word[..n]) {
-        help::say(sys);
-        return;
+    match &word[..n] {
+        // The words for help, as they stand in this tool and in others. What stands behind them does not matter.
+        b"help" | b"--help" | b"-h" => help::say(sys),
+        command => start(sys, command),
     }
-    start(sys, &word[..n]);
 }

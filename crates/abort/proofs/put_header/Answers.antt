@@ -13,4 +13,4 @@ returns c =
     let pre-was = c.requires in
     let put-bytes-was = c.put_bytes in
     let first : given.n / 65536 % 256 ≡ 0 = omega (arith, pre-was.1) in
-    rw first put-bytes-was.ensures
+    rw first (rw (c.to_be_bytes.ensures, c.to_be_bytes-2.ensures, c.to_be_bytes-3.ensures) at put-bytes-was.ensures)

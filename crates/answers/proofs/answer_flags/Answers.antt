@@ -10,7 +10,7 @@ unfolding answer_flags pick
 returns-then-is_3xxx c =
     rw (sym c.is_3xxx.ensures ∙ c.if-is_3xxx.true)
 
-pub returns : goal.returns
+pub returns-else-is_3xxx : goal.returns-else-is_3xxx
 unfolding answer_flags pick
-returns c =
+returns-else-is_3xxx c =
     rw (sym c.is_3xxx.ensures ∙ c.if-is_3xxx.false) (omega arith)

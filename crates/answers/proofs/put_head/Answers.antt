@@ -5,4 +5,4 @@ use Rattle.answers.proofs.put_head.Goals as goal
 
 pub returns : goal.returns
 unfolding head_bytes in24 in32
-returns c = c.put_bytes.ensures
+returns c = rw (c.to_be_bytes.ensures, c.to_be_bytes-2.ensures) at c.put_bytes.ensures

@@ -23,6 +23,7 @@ returns c =
       first,
       c.put_bytes.ensures,
       c.answer_flags.ensures,
+      c.to_be_bytes.ensures,
     )
     (put_then a.room.now 0 five (part m 5 15) 5 refl
     (omega (arith, c.requires.1)))

@@ -13,4 +13,4 @@ returns c =
     let n = c.args.n in
     let first : n / 16777216 % 256 ≡ 0 = omega (arith, c.requires.1) in
     let second : n / 65536 % 256 ≡ 0 = omega (arith, c.requires.1) in
-    record { place = refl; bytes-put = rw (first, second) c.put_bytes.ensures }
+    record { place = refl; bytes-put = rw (first, second) (rw (c.to_be_bytes.ensures, c.to_be_bytes-2.ensures) at c.put_bytes.ensures) }

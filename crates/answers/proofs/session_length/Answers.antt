@@ -2,44 +2,44 @@
 use mathlib.Core.Path.{sym, ◌∙◌}
 use native.Mathlib.Omega.{arith}
 use Rattle.octets.specs.Numbers.{up4}
-use Rattle.answers.proofs.Sessions.{session-few, session-bits, session-v, session-code, session-short, session-long, session-past, session-found, session-none}
+use Rattle.answers.proofs.Sessions.{session-few, session-bits, session-v, session-code, session-short, session-long, session-past, session-found}
 use Rattle.answers.proofs.session_length.Goals as goal
 
 pub returns-then-m-lt28 : goal.returns-then-m-lt28
 returns-then-m-lt28 c =
     let m = c.args.m.now in
-    session-none m c.requires (session-few m c.if-m-lt28.true)
+    (session-few m c.if-m-lt28.true)
 
 pub returns-then-flags-ne0 : goal.returns-then-flags-ne0
 returns-then-flags-ne0 c =
     let m = c.args.m.now in
-    session-none m c.requires (session-bits m c.if-flags-ne0.true)
+    (session-bits m c.if-flags-ne0.true)
 
 pub returns-then-flags-ge128 : goal.returns-then-flags-ge128
 returns-then-flags-ge128 c =
     let m = c.args.m.now in
-    session-none m c.requires (session-v m c.if-flags-ge128.true)
+    (session-v m c.if-flags-ge128.true)
 
 pub returns-then-read32-ne263 : goal.returns-then-read32-ne263
 returns-then-read32-ne263 c =
     let m = c.args.m.now in
-    session-none m c.requires (session-code m c.if-flags-ge128.false (λ e. c.if-read32-ne263.true (c.read32.ensures ∙ e)))
+    (session-code m c.if-flags-ge128.false (λ e. c.if-read32-ne263.true (c.read32.ensures ∙ e)))
 
 pub returns-then-n-lt9 : goal.returns-then-n-lt9
 returns-then-n-lt9 c =
     let m = c.args.m.now in
-    session-none m c.requires (session-short m c.if-flags-ge128.false (omega (arith, c.read24-n.ensures.0, c.if-n-lt9.true)))
+    (session-short m c.if-flags-ge128.false (omega (arith, c.read24-n.ensures.0, c.if-n-lt9.true)))
 
 pub returns-then-n-gt136 : goal.returns-then-n-gt136
 returns-then-n-gt136 c =
     let m = c.args.m.now in
-    session-none m c.requires (session-long m c.if-flags-ge128.false (omega (arith, c.read24-n.ensures.0, c.if-n-gt136.true)))
+    (session-long m c.if-flags-ge128.false (omega (arith, c.read24-n.ensures.0, c.if-n-gt136.true)))
 
 pub returns-then-m-n : goal.returns-then-m-n
 unfolding up4
 returns-then-m-n c =
     let m = c.args.m.now in
-    session-none m c.requires (session-past m (omega (arith, c.read24-n.ensures.0, c.if-m-n.true)))
+    (session-past m (omega (arith, c.read24-n.ensures.0, c.if-m-n.true)))
 
 pub returns : goal.returns
 unfolding up4

@@ -29,8 +29,8 @@ returns-then-not-all_zero c =
     let test3 = c.if-not-all_zero in
     rw (access-parts given.b.now, passes_on access-lengths-was.ensures test1.false, le-leb (get_or given.b.now 4 0) 1 test2.false, fails all-zero-was.ensures test3.true)
 
-pub access_rooms-requires : goal.access_rooms-requires
-access_rooms-requires c =
+pub text_rooms-requires : goal.text_rooms-requires
+text_rooms-requires c =
     let given = c.args in
     let access-lengths-was = c.access_lengths in
     let test1 = c.if-not-access_lengths in
@@ -46,5 +46,5 @@ returns c =
     let test2 = c.if-b-gt1 in
     let all-zero-was = c.all_zero in
     let test3 = c.if-not-all_zero in
-    let access-rooms-was = c.access_rooms in
+    let access-rooms-was = c.text_rooms in
     rw (access-parts given.b.now, passes_on access-lengths-was.ensures test1.false, le-leb (get_or given.b.now 4 0) 1 test2.false, passes_on all-zero-was.ensures test3.false) access-rooms-was.ensures

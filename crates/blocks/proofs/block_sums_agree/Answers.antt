@@ -6,15 +6,15 @@ use Rattle.table.specs.Soundness.{sums_agree}
 use Rattle.table.proofs.Tests.{two_bytes}
 use Rattle.blocks.proofs.block_sums_agree.Goals as goal
 
-pub returns-then-half-second : goal.returns-then-half-second
+pub returns-then-from-second : goal.returns-then-from-second
 unfolding sums_agree
-returns-then-half-second c =
+returns-then-from-second c =
     let sums-of-was = c.sums_of-s in
     let given = c.args in
     let pre-was = c.requires in
-    let test1 = c.if-half-second in
-    let half-was = c.half in
-    sym (rw (← sums-of-was.ensures.0, two_bytes given.b.now sums-of-was.result.second sums-of-was.result.first pre-was, ne_eqb (get_or given.b.now 510 0) sums-of-was.result.second (λ e. test1.true (half-was.ensures.0 ∙ e))))
+    let test1 = c.if-from-second in
+    let from-was = c.from in
+    sym (rw (← sums-of-was.ensures.0, two_bytes given.b.now sums-of-was.result.second sums-of-was.result.first pre-was, ne_eqb (get_or given.b.now 510 0) sums-of-was.result.second (λ e. test1.true (from-was.ensures ∙ e))))
 
 pub returns : goal.returns
 unfolding sums_agree
@@ -22,7 +22,7 @@ returns c =
     let sums-of-was = c.sums_of-s in
     let given = c.args in
     let pre-was = c.requires in
-    let half-was = c.half in
-    let test1 = c.if-half-second in
-    let half2-was = c.half-2 in
-    rw (← sums-of-was.ensures.0, two_bytes given.b.now sums-of-was.result.second sums-of-was.result.first pre-was, eq-eqb (get_or given.b.now 510 0) sums-of-was.result.second (sym half-was.ensures.0 ∙ test1.false), half2-was.ensures.0)
+    let from-was = c.from in
+    let test1 = c.if-from-second in
+    let from2-was = c.from-2 in
+    rw (← sums-of-was.ensures.0, two_bytes given.b.now sums-of-was.result.second sums-of-was.result.first pre-was, eq-eqb (get_or given.b.now 510 0) sums-of-was.result.second (sym from-was.ensures ∙ test1.false), from2-was.ensures)

@@ -21,8 +21,8 @@ zero_behind-requires c =
     let given = c.args in
     let is-within-was = c.is_within in
     let test1 = c.if-not-is_within in
-    let long-was = c.long in
-    omega (arith, length_part given.e.now 1 100 (omega arith), within-high 1 100 (get_or given.e.now 0 0) (passes_on is-within-was.ensures test1.false), long-was.ensures.0)
+    let from-was = c.from in
+    omega (arith, length_part given.e.now 1 100 (omega arith), within-high 1 100 (get_or given.e.now 0 0) (passes_on is-within-was.ensures test1.false), from-was.ensures)
 
 pub returns-then-not-zero_behind : goal.returns-then-not-zero_behind
 unfolding entry_form
@@ -30,10 +30,10 @@ returns-then-not-zero_behind c =
     let is-within-was = c.is_within in
     let test1 = c.if-not-is_within in
     let given = c.args in
-    let long-was = c.long in
+    let from-was = c.from in
     let zero-behind-was = c.zero_behind in
     let test2 = c.if-not-zero_behind in
-    rw (passes_on is-within-was.ensures test1.false, fails (behind-said (part given.e.now 1 100) long-was.result (get_or given.e.now 0 0) long-was.ensures.0 zero-behind-was.ensures) test2.true)
+    rw (passes_on is-within-was.ensures test1.false, fails (behind-said (part given.e.now 1 100) from-was.result (get_or given.e.now 0 0) from-was.ensures zero-behind-was.ensures) test2.true)
 
 pub returns-then-e-gt3 : goal.returns-then-e-gt3
 unfolding entry_form
@@ -41,11 +41,11 @@ returns-then-e-gt3 c =
     let is-within-was = c.is_within in
     let test1 = c.if-not-is_within in
     let given = c.args in
-    let long-was = c.long in
+    let from-was = c.from in
     let zero-behind-was = c.zero_behind in
     let test2 = c.if-not-zero_behind in
     let test3 = c.if-e-gt3 in
-    rw (passes_on is-within-was.ensures test1.false, passes_on (behind-said (part given.e.now 1 100) long-was.result (get_or given.e.now 0 0) long-was.ensures.0 zero-behind-was.ensures) test2.false, lt-leb (get_or given.e.now 101 0) 3 test3.true)
+    rw (passes_on is-within-was.ensures test1.false, passes_on (behind-said (part given.e.now 1 100) from-was.result (get_or given.e.now 0 0) from-was.ensures zero-behind-was.ensures) test2.false, lt-leb (get_or given.e.now 101 0) 3 test3.true)
 
 pub returns-then-not-is_within-2 : goal.returns-then-not-is_within-2
 unfolding entry_form
@@ -53,13 +53,13 @@ returns-then-not-is_within-2 c =
     let is-within-was = c.is_within in
     let test1 = c.if-not-is_within in
     let given = c.args in
-    let long-was = c.long in
+    let from-was = c.from in
     let zero-behind-was = c.zero_behind in
     let test2 = c.if-not-zero_behind in
     let test3 = c.if-e-gt3 in
     let is-within2-was = c.is_within-2 in
     let test4 = c.if-not-is_within-2 in
-    rw (passes_on is-within-was.ensures test1.false, passes_on (behind-said (part given.e.now 1 100) long-was.result (get_or given.e.now 0 0) long-was.ensures.0 zero-behind-was.ensures) test2.false, le-leb (get_or given.e.now 101 0) 3 test3.false, fails is-within2-was.ensures test4.true)
+    rw (passes_on is-within-was.ensures test1.false, passes_on (behind-said (part given.e.now 1 100) from-was.result (get_or given.e.now 0 0) from-was.ensures zero-behind-was.ensures) test2.false, le-leb (get_or given.e.now 101 0) 3 test3.false, fails is-within2-was.ensures test4.true)
 
 pub returns : goal.returns
 unfolding entry_form
@@ -67,10 +67,10 @@ returns c =
     let is-within-was = c.is_within in
     let test1 = c.if-not-is_within in
     let given = c.args in
-    let long-was = c.long in
+    let from-was = c.from in
     let zero-behind-was = c.zero_behind in
     let test2 = c.if-not-zero_behind in
     let test3 = c.if-e-gt3 in
     let is-within2-was = c.is_within-2 in
     let test4 = c.if-not-is_within-2 in
-    rw (passes_on is-within-was.ensures test1.false, passes_on (behind-said (part given.e.now 1 100) long-was.result (get_or given.e.now 0 0) long-was.ensures.0 zero-behind-was.ensures) test2.false, le-leb (get_or given.e.now 101 0) 3 test3.false, passes_on is-within2-was.ensures test4.false)
+    rw (passes_on is-within-was.ensures test1.false, passes_on (behind-said (part given.e.now 1 100) from-was.result (get_or given.e.now 0 0) from-was.ensures zero-behind-was.ensures) test2.false, le-leb (get_or given.e.now 101 0) 3 test3.false, passes_on is-within2-was.ensures test4.false)

@@ -1,15 +1,10 @@
 -- `within` is the two tests in order.
+use borrow.Author.Tests.{lt-leb}
 use Rattle.table.proofs.Tests.{low-enough, too-low}
 use Rattle.blocks.proofs.is_within.Goals as goal
 
-pub returns-then-n-low : goal.returns-then-n-low
-returns-then-n-low c =
-    let given = c.args in
-    let test1 = c.if-n-low in
-    too-low given.low given.high given.n test1.true
+pub returns-then-low-n : goal.returns-then-low-n
+returns-then-low-n c = low-enough c.args.low c.args.high c.args.n c.if-low-n.true
 
-pub returns : goal.returns
-returns c =
-    let given = c.args in
-    let test1 = c.if-n-low in
-    low-enough given.low given.high given.n test1.false
+pub returns-else-low-n : goal.returns-else-low-n
+returns-else-low-n c = rw (lt-leb c.args.low c.args.n c.if-low-n.false) (too-low c.args.low c.args.high c.args.n c.if-low-n.false)

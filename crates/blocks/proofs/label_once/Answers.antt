@@ -16,8 +16,8 @@ label-this-requires c =
     let given = c.args in
     (pre-was.0, omega arith, label-size given.n given.i given.room.now pre-was.2 pre-was.3)
 
-pub label-other-requires : goal.label-other-requires
-label-other-requires c =
+pub label-requires : goal.label-requires
+label-requires c =
     let pre-was = c.requires in
     let given = c.args in
     let loop-was = c.loop-j in
@@ -28,7 +28,7 @@ returns-then-same_label c =
     let given = c.args in
     let same-label-was = c.same_label in
     let loop-was = c.loop-j in
-    let label2-was = c.label-other in
+    let label2-was = c.label in
     let label-was = c.label-this in
     let pre-was = c.requires in
     let test1 = c.if-same_label in
@@ -36,14 +36,14 @@ returns-then-same_label c =
     let said : same-label-was.result ≡ same_label (get_or all given.i []) (get_or all loop-was.j []) =
     same-label-was.ensures ∙ ap (λ (t : List ℕ). same_label t label2-was.result.now) (label-was.ensures ∙ sym (labels_at given.n given.i given.room.now pre-was.2))
     ∙ ap (same_label (get_or all given.i [])) (label2-was.ensures ∙ sym (labels_at given.n loop-was.j given.room.now (omega arith))) in
-    sym (every-out [] (λ y. not (same_label (get_or all given.i []) y)) all loop-was.j (omega (arith, length-labels given.n given.room.now)) (ap not (sym said ∙ test1.true))) ∙ loop-was.invariant.2
+    sym (every-out [] (λ y. not (same_label (get_or all given.i []) y)) all loop-was.j (omega (arith, length-labels given.n given.room.now)) (ap not (sym said ∙ test1.true))) ∙ loop-was.invariant
 
 pub loop-j-preserved : goal.loop-j-preserved
 loop-j-preserved c =
     let given = c.args in
     let same-label-was = c.same_label in
     let loop-was = c.loop-j in
-    let label2-was = c.label-other in
+    let label2-was = c.label in
     let label-was = c.label-this in
     let pre-was = c.requires in
     let test1 = c.if-same_label in
@@ -51,11 +51,11 @@ loop-j-preserved c =
     let said : same-label-was.result ≡ same_label (get_or all given.i []) (get_or all loop-was.j []) =
     same-label-was.ensures ∙ ap (λ (t : List ℕ). same_label t label2-was.result.now) (label-was.ensures ∙ sym (labels_at given.n given.i given.room.now pre-was.2))
     ∙ ap (same_label (get_or all given.i [])) (label2-was.ensures ∙ sym (labels_at given.n loop-was.j given.room.now (omega arith))) in
-    (omega arith, omega arith, every-on-true [] (λ y. not (same_label (get_or all given.i []) y)) all loop-was.j (omega (arith, length-labels given.n given.room.now)) (ap not (sym said ∙ test1.false)) ∙ loop-was.invariant.2)
+    (every-on-true [] (λ y. not (same_label (get_or all given.i []) y)) all loop-was.j (omega (arith, length-labels given.n given.room.now)) (ap not (sym said ∙ test1.false)) ∙ loop-was.invariant)
 
 pub returns : goal.returns
 returns c =
     let given = c.args in
     let loop-was = c.loop-j in
     let all : List (List ℕ) = labels (read_entries given.n given.room.now) in
-    sym (every-end [] (λ y. not (same_label (get_or all given.i []) y)) all loop-was.j (omega (arith, length-labels given.n given.room.now))) ∙ loop-was.invariant.2
+    sym (every-end [] (λ y. not (same_label (get_or all given.i []) y)) all loop-was.j (omega (arith, length-labels given.n given.room.now))) ∙ loop-was.invariant

@@ -2,7 +2,7 @@
 use mathlib.Core.Path.{◌≡◌}
 use mathlib.Core.Bool.{not}
 use mathlib.Core.List.{[]}
-use Prim.Native.Nat.{◌+◌, ◌-◌, ◌<◌, ◌≤◌}
+use Prim.Native.Nat.{◌+◌}
 use lib.ListN.{drop, get_or}
 use Rattle.octets.specs.Lists.{every}
 use Rattle.table.specs.Soundness.{labels, same_label}
@@ -10,7 +10,4 @@ use Rattle.table.specs.TheTable.{read_entries}
 use Rattle.blocks.proofs.label_once.Given as goal
 
 abbrev pub invariant-loop-j : goal.invariant-loop-j
-invariant-loop-j l = (l.i < l.j) × (l.j ≤ l.n) × (every (λ y. not (same_label (get_or (labels (read_entries l.n l.room)) l.i []) y)) (drop l.j (labels (read_entries l.n l.room))) ≡ every (λ y. not (same_label (get_or (labels (read_entries l.n l.room)) l.i []) y)) (drop (l.i + 1) (labels (read_entries l.n l.room))))
-
-abbrev pub decreases-loop-j : goal.decreases-loop-j
-decreases-loop-j l = l.n - l.j
+invariant-loop-j l = (every (λ y. not (same_label (get_or (labels (read_entries l.n l.room)) l.i []) y)) (drop l.j (labels (read_entries l.n l.room))) ≡ every (λ y. not (same_label (get_or (labels (read_entries l.n l.room)) l.i []) y)) (drop (l.i + 1) (labels (read_entries l.n l.room))))

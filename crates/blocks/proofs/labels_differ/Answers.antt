@@ -20,7 +20,7 @@ loop-i-preserved c =
     let test1 = c.if-not-label_once in
     let all : List (List ℕ) = labels (read_entries given.n given.room.now) in
     let said : every (λ y. not (same_label (get_or all loop-was.i []) y)) (drop (loop-was.i + 1) all) ≡ true = passes_on label-once-was.ensures test1.false in
-    (omega arith, sym (distinct-turn [] same_label all loop-was.i (omega (arith, length-labels given.n given.room.now)) ∙ rw said) ∙ loop-was.invariant.1)
+    (sym (distinct-turn [] same_label all loop-was.i (omega (arith, length-labels given.n given.room.now)) ∙ rw said) ∙ loop-was.invariant)
 
 pub returns-then-not-label_once : goal.returns-then-not-label_once
 returns-then-not-label_once c =
@@ -30,11 +30,11 @@ returns-then-not-label_once c =
     let test1 = c.if-not-label_once in
     let all : List (List ℕ) = labels (read_entries given.n given.room.now) in
     let said : every (λ y. not (same_label (get_or all loop-was.i []) y)) (drop (loop-was.i + 1) all) ≡ false = fails label-once-was.ensures test1.true in
-    sym (distinct-turn [] same_label all loop-was.i (omega (arith, length-labels given.n given.room.now)) ∙ rw said) ∙ loop-was.invariant.1
+    sym (distinct-turn [] same_label all loop-was.i (omega (arith, length-labels given.n given.room.now)) ∙ rw said) ∙ loop-was.invariant
 
 pub returns : goal.returns
 returns c =
     let given = c.args in
     let loop-was = c.loop-i in
     let all : List (List ℕ) = labels (read_entries given.n given.room.now) in
-    sym (distinct-end [] same_label all loop-was.i (omega (arith, length-labels given.n given.room.now))) ∙ loop-was.invariant.1
+    sym (distinct-end [] same_label all loop-was.i (omega (arith, length-labels given.n given.room.now))) ∙ loop-was.invariant

@@ -1,6 +1,5 @@
 -- The invariant: the test of what is left has the answer of the whole test.
 use mathlib.Core.Path.{◌≡◌}
-use Prim.Native.Nat.{◌-◌, ◌≤◌}
 use lib.ListN.{drop}
 use Rattle.octets.specs.Lists.{distinct}
 use Rattle.table.specs.Soundness.{labels, same_label}
@@ -8,7 +7,4 @@ use Rattle.table.specs.TheTable.{read_entries}
 use Rattle.blocks.proofs.labels_differ.Given as goal
 
 abbrev pub invariant-loop-i : goal.invariant-loop-i
-invariant-loop-i l = (l.i ≤ l.n) × (distinct same_label (drop l.i (labels (read_entries l.n l.room))) ≡ distinct same_label (labels (read_entries l.n l.room)))
-
-abbrev pub decreases-loop-i : goal.decreases-loop-i
-decreases-loop-i l = l.n - l.i
+invariant-loop-i l = (distinct same_label (drop l.i (labels (read_entries l.n l.room))) ≡ distinct same_label (labels (read_entries l.n l.room)))

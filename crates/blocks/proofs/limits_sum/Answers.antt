@@ -18,12 +18,11 @@ pub loop-i-preserved : goal.loop-i-preserved
 loop-i-preserved c =
     let given = c.args in
     let loop-was = c.loop-i in
-    let wide-was = c.wide-sum in
     let limit-was = c.limit in
     let all : List ℕ = limits (read_entries given.n given.room.now) in
     let turn : sum_of (drop loop-was.i all) ≡ get_or all loop-was.i 0 + sum_of (drop (loop-was.i + 1) all) = sum-turn all loop-was.i (omega (arith, length-limits-read given.n given.room.now)) in
-    let this : wide-was.result ≡ get_or all loop-was.i 0 = wide-was.ensures.0 ∙ limit-was.ensures ∙ sym (limits-at given.n loop-was.i given.room.now (omega arith)) in
-    (omega arith, omega (arith, wide-was.ensures.1), omega arith)
+    let this : c.from-sum.result ≡ get_or all loop-was.i 0 = c.from-sum.ensures ∙ limit-was.ensures ∙ sym (limits-at given.n loop-was.i given.room.now (omega arith)) in
+    (omega arith, omega arith)
 
 pub returns : goal.returns
 returns c =

@@ -1,6 +1,6 @@
 -- The limits passed and the sum of those behind are the sum of all.
 use mathlib.Core.Path.{◌≡◌}
-use Prim.Native.Nat.{◌+◌, ◌-◌, ◌*◌, ◌≤◌}
+use Prim.Native.Nat.{◌+◌, ◌*◌, ◌≤◌}
 use lib.ListN.{drop}
 use Rattle.octets.specs.Lists.{sum_of}
 use Rattle.table.specs.Soundness.{limits}
@@ -8,7 +8,4 @@ use Rattle.table.specs.TheTable.{read_entries}
 use Rattle.blocks.proofs.limits_sum.Given as goal
 
 abbrev pub invariant-loop-i : goal.invariant-loop-i
-invariant-loop-i l = (l.i ≤ l.n) × (l.sum ≤ 255 * l.i) × (l.sum + sum_of (drop l.i (limits (read_entries l.n l.room))) ≡ sum_of (limits (read_entries l.n l.room)))
-
-abbrev pub decreases-loop-i : goal.decreases-loop-i
-decreases-loop-i l = l.n - l.i
+invariant-loop-i l = (l.sum ≤ 255 * l.i) × (l.sum + sum_of (drop l.i (limits (read_entries l.n l.room))) ≡ sum_of (limits (read_entries l.n l.room)))

@@ -25,19 +25,19 @@ slice_bounds-digits-end c =
     let given = c.args in
     let is-within-was = c.is_within in
     let test1 = c.if-not-is_within in
-    let long-was = c.long-n in
-    omega (arith, within-high 1 15 (get_or given.b.now 1 0) (passes_on is-within-was.ensures test1.false), long-was.ensures.0)
+    let from-was = c.from-n in
+    omega (arith, within-high 1 15 (get_or given.b.now 1 0) (passes_on is-within-was.ensures test1.false), from-was.ensures)
 
 pub returns-then-not-digits : goal.returns-then-not-digits
 returns-then-not-digits c =
     let given = c.args in
-    let long-was = c.long-n in
+    let from-was = c.from-n in
     let digits-was = c.digits in
     let test2 = c.if-not-digits in
     let pre-was = c.requires in
     let is-within-was = c.is_within in
     let test1 = c.if-not-is_within in
-    let text : every is_digit (part given.b.now 2 (get_or given.b.now 1 0)) ≡ false = ap (every is_digit) (sym (lent-part given.b.now 2 long-was.result (get_or given.b.now 1 0) long-was.ensures.0)) ∙ fails digits-was.ensures test2.true in
+    let text : every is_digit (part given.b.now 2 (get_or given.b.now 1 0)) ≡ false = ap (every is_digit) (sym (lent-part given.b.now 2 from-was.result (get_or given.b.now 1 0) from-was.ensures)) ∙ fails digits-was.ensures test2.true in
     rw (name-is given.b.now (get_or given.b.now 1 0) pre-was, passes_on is-within-was.ensures test1.false, text)
 
 pub zero_behind-requires : goal.zero_behind-requires
@@ -45,18 +45,18 @@ zero_behind-requires c =
     let given = c.args in
     let is-within-was = c.is_within in
     let test1 = c.if-not-is_within in
-    let long-was = c.long-n in
-    omega (arith, length_part given.b.now 2 15 (omega arith), within-high 1 15 (get_or given.b.now 1 0) (passes_on is-within-was.ensures test1.false), long-was.ensures.0)
+    let from-was = c.from-n in
+    omega (arith, length_part given.b.now 2 15 (omega arith), within-high 1 15 (get_or given.b.now 1 0) (passes_on is-within-was.ensures test1.false), from-was.ensures)
 
 pub returns : goal.returns
 returns c =
     let given = c.args in
-    let long-was = c.long-n in
+    let from-was = c.from-n in
     let digits-was = c.digits in
     let test2 = c.if-not-digits in
     let pre-was = c.requires in
     let is-within-was = c.is_within in
     let test1 = c.if-not-is_within in
     let zero-behind-was = c.zero_behind in
-    let text : every is_digit (part given.b.now 2 (get_or given.b.now 1 0)) ≡ true = ap (every is_digit) (sym (lent-part given.b.now 2 long-was.result (get_or given.b.now 1 0) long-was.ensures.0)) ∙ passes_on digits-was.ensures test2.false in
-    rw (name-is given.b.now (get_or given.b.now 1 0) pre-was, passes_on is-within-was.ensures test1.false, text) (behind-said (part given.b.now 2 15) long-was.result (get_or given.b.now 1 0) long-was.ensures.0 zero-behind-was.ensures)
+    let text : every is_digit (part given.b.now 2 (get_or given.b.now 1 0)) ≡ true = ap (every is_digit) (sym (lent-part given.b.now 2 from-was.result (get_or given.b.now 1 0) from-was.ensures)) ∙ passes_on digits-was.ensures test2.false in
+    rw (name-is given.b.now (get_or given.b.now 1 0) pre-was, passes_on is-within-was.ensures test1.false, text) (behind-said (part given.b.now 2 15) from-was.result (get_or given.b.now 1 0) from-was.ensures zero-behind-was.ensures)

@@ -1,19 +1,14 @@
 -- With no bytes, and with some.
-use borrow.Author.Tests.{le-leb, lt-leb}
+use native.Mathlib.Omega.{arith}
+use borrow.Author.Tests.{eq-eqb, le-leb, lt-leb}
 use Rattle.octets.specs.Choice.{pick}
 use Rattle.table.specs.Soundness.{only_behind}
 use Rattle.blocks.proofs.only_behind.Goals as goal
 
-pub returns-then-n-lt1 : goal.returns-then-n-lt1
+pub returns-then-n-eq0 : goal.returns-then-n-eq0
 unfolding only_behind pick
-returns-then-n-lt1 c =
-    let given = c.args in
-    let test1 = c.if-n-lt1 in
-    rw (lt-leb 1 given.n test1.true)
+returns-then-n-eq0 c = rw (lt-leb 1 c.args.n (omega arith), eq-eqb c.args.n 0 c.if-n-eq0.true)
 
-pub returns : goal.returns
+pub returns-else-n-eq0 : goal.returns-else-n-eq0
 unfolding only_behind pick
-returns c =
-    let given = c.args in
-    let test1 = c.if-n-lt1 in
-    rw (le-leb 1 given.n test1.false)
+returns-else-n-eq0 c = rw (le-leb 1 c.args.n (omega arith))

@@ -1,18 +1,15 @@
--- The two cases of the mark.
-use borrow.Author.Tests.{le-leb, lt-leb}
+-- The mark is the test as a number.
+use mathlib.Core.Path.{◌≡◌, refl, ap, ◌∙◌}
+use mathlib.Core.Bool.{Bool, true, false}
+use lib.Dec.{eqb, leb}
+use Rattle.std.specs.Int.{from_bool}
 use Rattle.octets.specs.Choice.{pick}
 use Rattle.blocks.proofs.policy_marked.Goals as goal
 
-pub returns-then-size-lt1 : goal.returns-then-size-lt1
+as-number : (b : Bool) → from_bool b ≡ pick b 1 0
 unfolding pick
-returns-then-size-lt1 c =
-    let given = c.args in
-    let test1 = c.if-size-lt1 in
-    rw (lt-leb 1 given.size test1.true)
+as-number true = refl
+as-number false = refl
 
 pub returns : goal.returns
-unfolding pick
-returns c =
-    let given = c.args in
-    let test1 = c.if-size-lt1 in
-    rw (le-leb 1 given.size test1.false)
+returns c = ap (eqb c.args.mark) (c.from.ensures ∙ as-number (leb 1 c.args.size))

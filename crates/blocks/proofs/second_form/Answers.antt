@@ -29,8 +29,8 @@ returns-then-not-all_zero c =
     let test3 = c.if-not-all_zero in
     rw (second_parts given.c.now, passes_on second-lengths-was.ensures test1.false, eq-eqb (get_or given.c.now 2 0) 0 test2.false, fails all-zero-was.ensures test3.true)
 
-pub second_rooms-requires : goal.second_rooms-requires
-second_rooms-requires c =
+pub text_rooms-requires : goal.text_rooms-requires
+text_rooms-requires c =
     let given = c.args in
     let second-lengths-was = c.second_lengths in
     let test1 = c.if-not-second_lengths in
@@ -46,5 +46,5 @@ returns c =
     let test2 = c.if-c-ne0 in
     let all-zero-was = c.all_zero in
     let test3 = c.if-not-all_zero in
-    let second-rooms-was = c.second_rooms in
+    let second-rooms-was = c.text_rooms in
     rw (second_parts given.c.now, passes_on second-lengths-was.ensures test1.false, eq-eqb (get_or given.c.now 2 0) 0 test2.false, passes_on all-zero-was.ensures test3.false) second-rooms-was.ensures

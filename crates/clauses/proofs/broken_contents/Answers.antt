@@ -40,9 +40,9 @@ labels_differ-requires c =
     let entries-room-was = c.entries_room-entries in
     let given = c.args in
     let pre-was = c.requires in
-    let long-was = c.long-n in
+    let long-was = c.from-n in
     let entry-count-was = c.entry_count in
-    (ap length entries-room-was.ensures ∙ length-room given.r.now (row-least given.r.now pre-was.0), omega (arith, head-count given.r.now (form-holds given.r.now pre-was.1).0, long-was.ensures.0 ∙ entry-count-was.ensures), entries-form-said given.r.now long-was.result entries-room-was.result.now (long-was.ensures.0 ∙ entry-count-was.ensures) entries-room-was.ensures (form-holds given.r.now pre-was.1).1)
+    (ap length entries-room-was.ensures ∙ length-room given.r.now (row-least given.r.now pre-was.0), omega (arith, head-count given.r.now (form-holds given.r.now pre-was.1).0, long-was.ensures ∙ entry-count-was.ensures), entries-form-said given.r.now long-was.result entries-room-was.result.now (long-was.ensures ∙ entry-count-was.ensures) entries-room-was.ensures (form-holds given.r.now pre-was.1).1)
 
 pub returns-then-not-labels_differ : goal.returns-then-not-labels_differ
 unfolding clause_number
@@ -50,21 +50,21 @@ returns-then-not-labels_differ c =
     let given = c.args in
     let line-exact-was = c.line_exact in
     let test1 = c.if-not-line_exact in
-    let long-was = c.long-n in
+    let long-was = c.from-n in
     let entries-room-was = c.entries_room-entries in
     let entry-count-was = c.entry_count in
     let labels-differ-was = c.labels_differ in
     let test2 = c.if-not-labels_differ in
-    breaks-6 given.r.now (passes_on line-exact-was.ensures test1.false) (labels-are given.r.now long-was.result entries-room-was.result.now (long-was.ensures.0 ∙ entry-count-was.ensures) entries-room-was.ensures ∙ fails labels-differ-was.ensures test2.true)
+    breaks-6 given.r.now (passes_on line-exact-was.ensures test1.false) (labels-are given.r.now long-was.result entries-room-was.result.now (long-was.ensures ∙ entry-count-was.ensures) entries-room-was.ensures ∙ fails labels-differ-was.ensures test2.true)
 
 pub limits_sum-requires : goal.limits_sum-requires
 limits_sum-requires c =
     let entries-room-was = c.entries_room-entries in
     let given = c.args in
     let pre-was = c.requires in
-    let long-was = c.long-n in
+    let long-was = c.from-n in
     let entry-count-was = c.entry_count in
-    (ap length entries-room-was.ensures ∙ length-room given.r.now (row-least given.r.now pre-was.0), omega (arith, head-count given.r.now (form-holds given.r.now pre-was.1).0, long-was.ensures.0 ∙ entry-count-was.ensures))
+    (ap length entries-room-was.ensures ∙ length-room given.r.now (row-least given.r.now pre-was.0), omega (arith, head-count given.r.now (form-holds given.r.now pre-was.1).0, long-was.ensures ∙ entry-count-was.ensures))
 
 pub returns-then-limits_sum-gt8 : goal.returns-then-limits_sum-gt8
 unfolding clause_number
@@ -72,14 +72,14 @@ returns-then-limits_sum-gt8 c =
     let given = c.args in
     let line-exact-was = c.line_exact in
     let test1 = c.if-not-line_exact in
-    let long-was = c.long-n in
+    let long-was = c.from-n in
     let entries-room-was = c.entries_room-entries in
     let entry-count-was = c.entry_count in
     let labels-differ-was = c.labels_differ in
     let test2 = c.if-not-labels_differ in
     let limits-sum-was = c.limits_sum in
     let test3 = c.if-limits_sum-gt8 in
-    breaks-7 given.r.now (passes_on line-exact-was.ensures test1.false) (labels-are given.r.now long-was.result entries-room-was.result.now (long-was.ensures.0 ∙ entry-count-was.ensures) entries-room-was.ensures ∙ passes_on labels-differ-was.ensures test2.false) (limits-over given.r.now long-was.result entries-room-was.result.now (long-was.ensures.0 ∙ entry-count-was.ensures) entries-room-was.ensures (omega (arith, limits-sum-was.ensures.0, test3.true)))
+    breaks-7 given.r.now (passes_on line-exact-was.ensures test1.false) (labels-are given.r.now long-was.result entries-room-was.result.now (long-was.ensures ∙ entry-count-was.ensures) entries-room-was.ensures ∙ passes_on labels-differ-was.ensures test2.false) (limits-over given.r.now long-was.result entries-room-was.result.now (long-was.ensures ∙ entry-count-was.ensures) entries-room-was.ensures (omega (arith, limits-sum-was.ensures.0, test3.true)))
 
 pub sessions_differ-requires : goal.sessions_differ-requires
 sessions_differ-requires c =
@@ -94,7 +94,7 @@ returns-then-not-sessions_differ c =
     let given = c.args in
     let line-exact-was = c.line_exact in
     let test1 = c.if-not-line_exact in
-    let long-was = c.long-n in
+    let long-was = c.from-n in
     let entries-room-was = c.entries_room-entries in
     let entry-count-was = c.entry_count in
     let labels-differ-was = c.labels_differ in
@@ -103,7 +103,7 @@ returns-then-not-sessions_differ c =
     let test3 = c.if-limits_sum-gt8 in
     let sessions-differ-was = c.sessions_differ in
     let test4 = c.if-not-sessions_differ in
-    breaks-8 given.r.now (passes_on line-exact-was.ensures test1.false) (labels-are given.r.now long-was.result entries-room-was.result.now (long-was.ensures.0 ∙ entry-count-was.ensures) entries-room-was.ensures ∙ passes_on labels-differ-was.ensures test2.false) (limits-fit given.r.now long-was.result entries-room-was.result.now (long-was.ensures.0 ∙ entry-count-was.ensures) entries-room-was.ensures (omega (arith, limits-sum-was.ensures.0, test3.false))) (fails sessions-differ-was.ensures test4.true)
+    breaks-8 given.r.now (passes_on line-exact-was.ensures test1.false) (labels-are given.r.now long-was.result entries-room-was.result.now (long-was.ensures ∙ entry-count-was.ensures) entries-room-was.ensures ∙ passes_on labels-differ-was.ensures test2.false) (limits-fit given.r.now long-was.result entries-room-was.result.now (long-was.ensures ∙ entry-count-was.ensures) entries-room-was.ensures (omega (arith, limits-sum-was.ensures.0, test3.false))) (fails sessions-differ-was.ensures test4.true)
 
 pub entries_exist-requires : goal.entries_exist-requires
 entries_exist-requires c =
@@ -118,7 +118,7 @@ returns-then-not-entries_exist c =
     let given = c.args in
     let line-exact-was = c.line_exact in
     let test1 = c.if-not-line_exact in
-    let long-was = c.long-n in
+    let long-was = c.from-n in
     let entries-room-was = c.entries_room-entries in
     let entry-count-was = c.entry_count in
     let labels-differ-was = c.labels_differ in
@@ -129,17 +129,17 @@ returns-then-not-entries_exist c =
     let test4 = c.if-not-sessions_differ in
     let entries-exist-was = c.entries_exist in
     let test5 = c.if-not-entries_exist in
-    breaks-9 given.r.now (passes_on line-exact-was.ensures test1.false) (labels-are given.r.now long-was.result entries-room-was.result.now (long-was.ensures.0 ∙ entry-count-was.ensures) entries-room-was.ensures ∙ passes_on labels-differ-was.ensures test2.false) (limits-fit given.r.now long-was.result entries-room-was.result.now (long-was.ensures.0 ∙ entry-count-was.ensures) entries-room-was.ensures (omega (arith, limits-sum-was.ensures.0, test3.false))) (passes_on sessions-differ-was.ensures test4.false) (fails entries-exist-was.ensures test5.true)
+    breaks-9 given.r.now (passes_on line-exact-was.ensures test1.false) (labels-are given.r.now long-was.result entries-room-was.result.now (long-was.ensures ∙ entry-count-was.ensures) entries-room-was.ensures ∙ passes_on labels-differ-was.ensures test2.false) (limits-fit given.r.now long-was.result entries-room-was.result.now (long-was.ensures ∙ entry-count-was.ensures) entries-room-was.ensures (omega (arith, limits-sum-was.ensures.0, test3.false))) (passes_on sessions-differ-was.ensures test4.false) (fails entries-exist-was.ensures test5.true)
 
 pub under_limits-requires : goal.under_limits-requires
 under_limits-requires c =
     let pre-was = c.requires in
     let line-exact-was = c.line_exact in
     let test1 = c.if-not-line_exact in
-    let long-was = c.long-n in
+    let long-was = c.from-n in
     let entry-count-was = c.entry_count in
     let given = c.args in
-    (pre-was.0, (passes_on line-exact-was.ensures test1.false), long-was.ensures.0 ∙ entry-count-was.ensures, omega (arith, head-count given.r.now (form-holds given.r.now pre-was.1).0, long-was.ensures.0 ∙ entry-count-was.ensures))
+    (pre-was.0, (passes_on line-exact-was.ensures test1.false), long-was.ensures ∙ entry-count-was.ensures, omega (arith, head-count given.r.now (form-holds given.r.now pre-was.1).0, long-was.ensures ∙ entry-count-was.ensures))
 
 pub returns-then-not-under_limits : goal.returns-then-not-under_limits
 unfolding clause_number
@@ -147,7 +147,7 @@ returns-then-not-under_limits c =
     let given = c.args in
     let line-exact-was = c.line_exact in
     let test1 = c.if-not-line_exact in
-    let long-was = c.long-n in
+    let long-was = c.from-n in
     let entries-room-was = c.entries_room-entries in
     let entry-count-was = c.entry_count in
     let labels-differ-was = c.labels_differ in
@@ -160,7 +160,7 @@ returns-then-not-under_limits c =
     let test5 = c.if-not-entries_exist in
     let under-limits-was = c.under_limits in
     let test6 = c.if-not-under_limits in
-    breaks-10 given.r.now (passes_on line-exact-was.ensures test1.false) (labels-are given.r.now long-was.result entries-room-was.result.now (long-was.ensures.0 ∙ entry-count-was.ensures) entries-room-was.ensures ∙ passes_on labels-differ-was.ensures test2.false) (limits-fit given.r.now long-was.result entries-room-was.result.now (long-was.ensures.0 ∙ entry-count-was.ensures) entries-room-was.ensures (omega (arith, limits-sum-was.ensures.0, test3.false))) (passes_on sessions-differ-was.ensures test4.false) (passes_on entries-exist-was.ensures test5.false) (fails under-limits-was.ensures test6.true)
+    breaks-10 given.r.now (passes_on line-exact-was.ensures test1.false) (labels-are given.r.now long-was.result entries-room-was.result.now (long-was.ensures ∙ entry-count-was.ensures) entries-room-was.ensures ∙ passes_on labels-differ-was.ensures test2.false) (limits-fit given.r.now long-was.result entries-room-was.result.now (long-was.ensures ∙ entry-count-was.ensures) entries-room-was.ensures (omega (arith, limits-sum-was.ensures.0, test3.false))) (passes_on sessions-differ-was.ensures test4.false) (passes_on entries-exist-was.ensures test5.false) (fails under-limits-was.ensures test6.true)
 
 pub policies_marked-requires : goal.policies_marked-requires
 policies_marked-requires c =
@@ -175,7 +175,7 @@ returns-then-not-policies_marked c =
     let given = c.args in
     let line-exact-was = c.line_exact in
     let test1 = c.if-not-line_exact in
-    let long-was = c.long-n in
+    let long-was = c.from-n in
     let entries-room-was = c.entries_room-entries in
     let entry-count-was = c.entry_count in
     let labels-differ-was = c.labels_differ in
@@ -190,7 +190,7 @@ returns-then-not-policies_marked c =
     let test6 = c.if-not-under_limits in
     let policies-marked-was = c.policies_marked in
     let test7 = c.if-not-policies_marked in
-    breaks-11 given.r.now (passes_on line-exact-was.ensures test1.false) (labels-are given.r.now long-was.result entries-room-was.result.now (long-was.ensures.0 ∙ entry-count-was.ensures) entries-room-was.ensures ∙ passes_on labels-differ-was.ensures test2.false) (limits-fit given.r.now long-was.result entries-room-was.result.now (long-was.ensures.0 ∙ entry-count-was.ensures) entries-room-was.ensures (omega (arith, limits-sum-was.ensures.0, test3.false))) (passes_on sessions-differ-was.ensures test4.false) (passes_on entries-exist-was.ensures test5.false) (passes_on under-limits-was.ensures test6.false) (fails policies-marked-was.ensures test7.true)
+    breaks-11 given.r.now (passes_on line-exact-was.ensures test1.false) (labels-are given.r.now long-was.result entries-room-was.result.now (long-was.ensures ∙ entry-count-was.ensures) entries-room-was.ensures ∙ passes_on labels-differ-was.ensures test2.false) (limits-fit given.r.now long-was.result entries-room-was.result.now (long-was.ensures ∙ entry-count-was.ensures) entries-room-was.ensures (omega (arith, limits-sum-was.ensures.0, test3.false))) (passes_on sessions-differ-was.ensures test4.false) (passes_on entries-exist-was.ensures test5.false) (passes_on under-limits-was.ensures test6.false) (fails policies-marked-was.ensures test7.true)
 
 pub policies_ordered-requires : goal.policies_ordered-requires
 policies_ordered-requires c =
@@ -205,7 +205,7 @@ returns-then-not-policies_ordered c =
     let given = c.args in
     let line-exact-was = c.line_exact in
     let test1 = c.if-not-line_exact in
-    let long-was = c.long-n in
+    let long-was = c.from-n in
     let entries-room-was = c.entries_room-entries in
     let entry-count-was = c.entry_count in
     let labels-differ-was = c.labels_differ in
@@ -222,7 +222,7 @@ returns-then-not-policies_ordered c =
     let test7 = c.if-not-policies_marked in
     let policies-ordered-was = c.policies_ordered in
     let test8 = c.if-not-policies_ordered in
-    breaks-12 given.r.now (passes_on line-exact-was.ensures test1.false) (labels-are given.r.now long-was.result entries-room-was.result.now (long-was.ensures.0 ∙ entry-count-was.ensures) entries-room-was.ensures ∙ passes_on labels-differ-was.ensures test2.false) (limits-fit given.r.now long-was.result entries-room-was.result.now (long-was.ensures.0 ∙ entry-count-was.ensures) entries-room-was.ensures (omega (arith, limits-sum-was.ensures.0, test3.false))) (passes_on sessions-differ-was.ensures test4.false) (passes_on entries-exist-was.ensures test5.false) (passes_on under-limits-was.ensures test6.false) (passes_on policies-marked-was.ensures test7.false) (fails policies-ordered-was.ensures test8.true)
+    breaks-12 given.r.now (passes_on line-exact-was.ensures test1.false) (labels-are given.r.now long-was.result entries-room-was.result.now (long-was.ensures ∙ entry-count-was.ensures) entries-room-was.ensures ∙ passes_on labels-differ-was.ensures test2.false) (limits-fit given.r.now long-was.result entries-room-was.result.now (long-was.ensures ∙ entry-count-was.ensures) entries-room-was.ensures (omega (arith, limits-sum-was.ensures.0, test3.false))) (passes_on sessions-differ-was.ensures test4.false) (passes_on entries-exist-was.ensures test5.false) (passes_on under-limits-was.ensures test6.false) (passes_on policies-marked-was.ensures test7.false) (fails policies-ordered-was.ensures test8.true)
 
 pub returns : goal.returns
 unfolding clause_number
@@ -230,7 +230,7 @@ returns c =
     let given = c.args in
     let line-exact-was = c.line_exact in
     let test1 = c.if-not-line_exact in
-    let long-was = c.long-n in
+    let long-was = c.from-n in
     let entries-room-was = c.entries_room-entries in
     let entry-count-was = c.entry_count in
     let labels-differ-was = c.labels_differ in
@@ -247,4 +247,4 @@ returns c =
     let test7 = c.if-not-policies_marked in
     let policies-ordered-was = c.policies_ordered in
     let test8 = c.if-not-policies_ordered in
-    contents-kept given.r.now (passes_on line-exact-was.ensures test1.false) (labels-are given.r.now long-was.result entries-room-was.result.now (long-was.ensures.0 ∙ entry-count-was.ensures) entries-room-was.ensures ∙ passes_on labels-differ-was.ensures test2.false) (limits-fit given.r.now long-was.result entries-room-was.result.now (long-was.ensures.0 ∙ entry-count-was.ensures) entries-room-was.ensures (omega (arith, limits-sum-was.ensures.0, test3.false))) (passes_on sessions-differ-was.ensures test4.false) (passes_on entries-exist-was.ensures test5.false) (passes_on under-limits-was.ensures test6.false) (passes_on policies-marked-was.ensures test7.false) (passes_on policies-ordered-was.ensures test8.false)
+    contents-kept given.r.now (passes_on line-exact-was.ensures test1.false) (labels-are given.r.now long-was.result entries-room-was.result.now (long-was.ensures ∙ entry-count-was.ensures) entries-room-was.ensures ∙ passes_on labels-differ-was.ensures test2.false) (limits-fit given.r.now long-was.result entries-room-was.result.now (long-was.ensures ∙ entry-count-was.ensures) entries-room-was.ensures (omega (arith, limits-sum-was.ensures.0, test3.false))) (passes_on sessions-differ-was.ensures test4.false) (passes_on entries-exist-was.ensures test5.false) (passes_on under-limits-was.ensures test6.false) (passes_on policies-marked-was.ensures test7.false) (passes_on policies-ordered-was.ensures test8.false)

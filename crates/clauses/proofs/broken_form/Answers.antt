@@ -55,9 +55,9 @@ entries_form-requires c =
     let head-form-was = c.head_form in
     let head-was = c.head in
     let test1 = c.if-not-head_form in
-    let long-was = c.long in
+    let long-was = c.from in
     let entry-count-was = c.entry_count in
-    (ap length entries-room-was.ensures ∙ length-room given.r.now (row-least given.r.now pre-was), omega (arith, head-count given.r.now (passes_on (head-form-was.ensures ∙ ap head_form head-was.ensures) test1.false), long-was.ensures.0 ∙ entry-count-was.ensures))
+    (ap length entries-room-was.ensures ∙ length-room given.r.now (row-least given.r.now pre-was), omega (arith, head-count given.r.now (passes_on (head-form-was.ensures ∙ ap head_form head-was.ensures) test1.false), long-was.ensures ∙ entry-count-was.ensures))
 
 pub returns-then-not-entries_form : goal.returns-then-not-entries_form
 unfolding clause_number
@@ -68,11 +68,11 @@ returns-then-not-entries_form c =
     let head-was = c.head in
     let test1 = c.if-not-head_form in
     let entries-form-was = c.entries_form in
-    let long-was = c.long in
+    let long-was = c.from in
     let entries-room-was = c.entries_room in
     let entry-count-was = c.entry_count in
     let test2 = c.if-not-entries_form in
-    breaks-2 given.r.now pre-was (passes_on (head-form-was.ensures ∙ ap head_form head-was.ensures) test1.false) (fails (entries-form-was.ensures ∙ ap (entries_form long-was.result) entries-room-was.ensures ∙ ap (λ (n : ℕ). entries_form n (entries_room given.r.now)) (long-was.ensures.0 ∙ entry-count-was.ensures)) test2.true)
+    breaks-2 given.r.now pre-was (passes_on (head-form-was.ensures ∙ ap head_form head-was.ensures) test1.false) (fails (entries-form-was.ensures ∙ ap (entries_form long-was.result) entries-room-was.ensures ∙ ap (λ (n : ℕ). entries_form n (entries_room given.r.now)) (long-was.ensures ∙ entry-count-was.ensures)) test2.true)
 
 pub returns-then-not-places_form : goal.returns-then-not-places_form
 unfolding clause_number
@@ -83,13 +83,13 @@ returns-then-not-places_form c =
     let head-was = c.head in
     let test1 = c.if-not-head_form in
     let entries-form-was = c.entries_form in
-    let long-was = c.long in
+    let long-was = c.from in
     let entries-room-was = c.entries_room in
     let entry-count-was = c.entry_count in
     let test2 = c.if-not-entries_form in
     let places-form-was = c.places_form in
     let test3 = c.if-not-places_form in
-    breaks-3 given.r.now pre-was (passes_on (head-form-was.ensures ∙ ap head_form head-was.ensures) test1.false) (passes_on (entries-form-was.ensures ∙ ap (entries_form long-was.result) entries-room-was.ensures ∙ ap (λ (n : ℕ). entries_form n (entries_room given.r.now)) (long-was.ensures.0 ∙ entry-count-was.ensures)) test2.false) (fails places-form-was.ensures test3.true)
+    breaks-3 given.r.now pre-was (passes_on (head-form-was.ensures ∙ ap head_form head-was.ensures) test1.false) (passes_on (entries-form-was.ensures ∙ ap (entries_form long-was.result) entries-room-was.ensures ∙ ap (λ (n : ℕ). entries_form n (entries_room given.r.now)) (long-was.ensures ∙ entry-count-was.ensures)) test2.false) (fails places-form-was.ensures test3.true)
 
 pub returns-then-not-sums_agree : goal.returns-then-not-sums_agree
 unfolding clause_number
@@ -100,7 +100,7 @@ returns-then-not-sums_agree c =
     let head-was = c.head in
     let test1 = c.if-not-head_form in
     let entries-form-was = c.entries_form in
-    let long-was = c.long in
+    let long-was = c.from in
     let entries-room-was = c.entries_room in
     let entry-count-was = c.entry_count in
     let test2 = c.if-not-entries_form in
@@ -108,7 +108,7 @@ returns-then-not-sums_agree c =
     let test3 = c.if-not-places_form in
     let sums-agree-was = c.sums_agree in
     let test4 = c.if-not-sums_agree in
-    breaks-4 given.r.now pre-was (passes_on (head-form-was.ensures ∙ ap head_form head-was.ensures) test1.false) (passes_on (entries-form-was.ensures ∙ ap (entries_form long-was.result) entries-room-was.ensures ∙ ap (λ (n : ℕ). entries_form n (entries_room given.r.now)) (long-was.ensures.0 ∙ entry-count-was.ensures)) test2.false) (passes_on places-form-was.ensures test3.false) (fails sums-agree-was.ensures test4.true)
+    breaks-4 given.r.now pre-was (passes_on (head-form-was.ensures ∙ ap head_form head-was.ensures) test1.false) (passes_on (entries-form-was.ensures ∙ ap (entries_form long-was.result) entries-room-was.ensures ∙ ap (λ (n : ℕ). entries_form n (entries_room given.r.now)) (long-was.ensures ∙ entry-count-was.ensures)) test2.false) (passes_on places-form-was.ensures test3.false) (fails sums-agree-was.ensures test4.true)
 
 pub returns : goal.returns
 unfolding clause_number
@@ -119,7 +119,7 @@ returns c =
     let head-was = c.head in
     let test1 = c.if-not-head_form in
     let entries-form-was = c.entries_form in
-    let long-was = c.long in
+    let long-was = c.from in
     let entries-room-was = c.entries_room in
     let entry-count-was = c.entry_count in
     let test2 = c.if-not-entries_form in
@@ -127,4 +127,4 @@ returns c =
     let test3 = c.if-not-places_form in
     let sums-agree-was = c.sums_agree in
     let test4 = c.if-not-sums_agree in
-    form-kept given.r.now pre-was (passes_on (head-form-was.ensures ∙ ap head_form head-was.ensures) test1.false) (passes_on (entries-form-was.ensures ∙ ap (entries_form long-was.result) entries-room-was.ensures ∙ ap (λ (n : ℕ). entries_form n (entries_room given.r.now)) (long-was.ensures.0 ∙ entry-count-was.ensures)) test2.false) (passes_on places-form-was.ensures test3.false) (passes_on sums-agree-was.ensures test4.false)
+    form-kept given.r.now pre-was (passes_on (head-form-was.ensures ∙ ap head_form head-was.ensures) test1.false) (passes_on (entries-form-was.ensures ∙ ap (entries_form long-was.result) entries-room-was.ensures ∙ ap (λ (n : ℕ). entries_form n (entries_room given.r.now)) (long-was.ensures ∙ entry-count-was.ensures)) test2.false) (passes_on places-form-was.ensures test3.false) (passes_on sums-agree-was.ensures test4.false)

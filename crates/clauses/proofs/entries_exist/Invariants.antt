@@ -1,6 +1,6 @@
 -- The invariant: the test of what is left has the answer of the whole test, place by place along the line: `names_at` of Laws.
 use mathlib.Core.Path.{◌≡◌}
-use Prim.Native.Nat.{◌-◌, ◌≤◌}
+use Prim.Native.Nat.{◌≤◌}
 use lib.ListN.{drop}
 use Rattle.octets.specs.Lists.{every}
 use Rattle.table.specs.TheTable.{order_line}
@@ -9,6 +9,3 @@ use Rattle.clauses.proofs.entries_exist.Given as goal
 
 abbrev pub invariant-loop-i : goal.invariant-loop-i
 invariant-loop-i l = (l.i ≤ l.n) × (every (names_entry l.r) (drop l.i (order_line l.r)) ≡ every (names_entry l.r) (order_line l.r))
-
-abbrev pub decreases-loop-i : goal.decreases-loop-i
-decreases-loop-i l = l.n - l.i

@@ -8,6 +8,3 @@ use Rattle.clauses.proofs.places_form.Given as goal
 
 abbrev pub invariant-loop-k : goal.invariant-loop-k
 invariant-loop-k l = (1 ≤ l.k) × (l.k ≤ 9) × (every (place_form l.r) (counted l.k (9 - l.k)) ≡ every (place_form l.r) places)
-
-abbrev pub decreases-loop-k : goal.decreases-loop-k
-decreases-loop-k l = 9 - l.k

@@ -9,6 +9,3 @@ use Rattle.clauses.proofs.sums_agree.Given as goal
 
 abbrev pub invariant-loop-place : goal.invariant-loop-place
 invariant-loop-place l = (1 ≤ l.place) × (l.place ≤ 9) × (sums_agree (head l.r) ≡ true) × (every (place_sums l.r) (counted l.place (9 - l.place)) ≡ every (place_sums l.r) places)
-
-abbrev pub decreases-loop-place : goal.decreases-loop-place
-decreases-loop-place l = 9 - l.place

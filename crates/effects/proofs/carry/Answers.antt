@@ -1,7 +1,8 @@
 -- Case by case of the plan: what it means is what the change leaves.
-use Rattle.effects.specs.declared.Cut.TheVariants.{NoCut}
-use mathlib.Core.Path.{◌≡◌, refl, sym}
+use Rattle.std.specs.Prelude.{Some, None}
+use mathlib.Core.Path.{◌≡◌, refl, sym, ap, ◌∙◌}
 use mathlib.Core.Bool.{true, false, ◌&&◌}
+use mathlib.Core.Logic.{inl, inr}
 use Prim.Native.Nat.{◌<◌, ◌≤◌}
 use native.Mathlib.Omega.{arith}
 use borrow.Author.Tests.{eq-eqb, leb-true, ltb-true, ne_eqb}
@@ -21,64 +22,56 @@ use Rattle.effects.specs.Carrying.{cut_for, done_for}
 use Rattle.effects.proofs.Rooms.{row_stays}
 use Rattle.effects.proofs.carry.Goals as goal
 
-pub overflow_cast-n : goal.overflow_cast-n
+pub overflow_cast-entry : goal.overflow_cast-entry
 unfolding fit_plan
-overflow_cast-n c =
+overflow_cast-entry c =
     let a = c.args in
-    let t = c.args.table.now in
-    let r = row_at (lent a.form t) a.i in
-    let n = c.in-Open.n in
-    let k = c.in-Open.k in
-    let is : a.plan ≡ Open n k = c.in-Open.is in
-    let fit : within 1 4 n && pick (eqb k 0) (ltb (length (read_row r).accesses) 8) (is_on (order_line r) k) ≡ true = rw is at c.requires.4 in
+    let r = row_at (lent a.form c.args.table.now) a.i in
+    let n = c.in-Open-default-None.entry in
+    let is : a.plan ≡ Open n None = c.in-Open-default-None.is ∙ ap (Open n) (rw c.in-Open-default-None.is at c.in-Open-default-None.cut-is) in
+    let fit : within 1 4 n && ltb (length (read_row r).accesses) 8 ≡ true = rw is at c.requires.4 in
     let four : n ≤ 4 = within-high 1 4 n (and_left (within 1 4 n) _ fit) in
     omega (arith, four)
 
 pub open-place-requires : goal.open-place-requires
-unfolding fit_plan pick
+unfolding fit_plan
 open-place-requires c =
     let a = c.args in
-    let t = c.args.table.now in
-    let r = row_at (lent a.form t) a.i in
-    let n = c.in-Open.n in
-    let k = c.in-Open.k in
-    let is : a.plan ≡ Open n k = c.in-Open.is in
-    let fit : within 1 4 n && pick (eqb k 0) (ltb (length (read_row r).accesses) 8) (is_on (order_line r) k) ≡ true = rw is at c.requires.4 in
-    let four : n ≤ 4 = within-high 1 4 n (and_left (within 1 4 n) _ fit) in
-    let zero : eqb k 0 ≡ true = eq-eqb k 0 c.if-k-eq0.true in
-    let few : length (read_row r).accesses < 8 = ltb-true (length (read_row r).accesses) 8 (rw zero at (and_right (within 1 4 n) _ fit)) in
+    let r = row_at (lent a.form c.args.table.now) a.i in
+    let n = c.in-Open-default-None.entry in
+    let is : a.plan ≡ Open n None = c.in-Open-default-None.is ∙ ap (Open n) (rw c.in-Open-default-None.is at c.in-Open-default-None.cut-is) in
+    let fit : within 1 4 n && ltb (length (read_row r).accesses) 8 ≡ true = rw is at c.requires.4 in
+    let few : length (read_row r).accesses < 8 = ltb-true (length (read_row r).accesses) 8 (and_right (within 1 4 n) _ fit) in
     (c.requires.1, c.requires.2, c.requires.3, few, c.requires.5, c.requires.6, c.requires.7)
 
-pub returns-then-k-eq0 : goal.returns-then-k-eq0
+pub returns-in-Open-default-None : goal.returns-in-Open-default-None
 unfolding planned plan_code refuse grant open_on table_after notice_room done_for cut_for pick number_of
-returns-then-k-eq0 c =
-    let is = c.in-Open.is in
-    let zero : eqb c.in-Open.k 0 ≡ true = eq-eqb _ 0 c.if-k-eq0.true in
+returns-in-Open-default-None c =
+    let n = c.in-Open-default-None.entry in
+    let is : c.args.plan ≡ Open n None = c.in-Open-default-None.is ∙ ap (Open n) (rw c.in-Open-default-None.is at c.in-Open-default-None.cut-is) in
     let new = c.open-place in
-    rw (is, zero) (new.ensures.0, refl, λ j. record { place = new.ensures.1 j; cut = NoCut })
+    rw is (new.ensures.0, refl, λ j. record { place = new.ensures.1 j; cut = None })
 
 pub open_with_cut-requires : goal.open_with_cut-requires
-unfolding fit_plan pick
+unfolding fit_plan
 open_with_cut-requires c =
     let a = c.args in
-    let t = c.args.table.now in
-    let r = row_at (lent a.form t) a.i in
-    let n = c.in-Open.n in
-    let k = c.in-Open.k in
-    let is : a.plan ≡ Open n k = c.in-Open.is in
-    let fit : within 1 4 n && pick (eqb k 0) (ltb (length (read_row r).accesses) 8) (is_on (order_line r) k) ≡ true = rw is at c.requires.4 in
+    let r = row_at (lent a.form c.args.table.now) a.i in
+    let n = c.in-Open-default-Some.entry in
+    let k = c.in-Open-default-Some.k in
+    let is : a.plan ≡ Open n (Some k) = c.in-Open-default-Some.is ∙ ap (Open n) (rw c.in-Open-default-Some.is at c.in-Open-default-Some.cut-is) in
+    let fit : within 1 4 n && is_on (order_line r) k ≡ true = rw is at c.requires.4 in
     let four : n ≤ 4 = within-high 1 4 n (and_left (within 1 4 n) _ fit) in
-    let some : eqb k 0 ≡ false = ne_eqb k 0 c.if-k-eq0.false in
-    let on : is_on (order_line r) k ≡ true = rw some at (and_right (within 1 4 n) _ fit) in
-    (c.requires.0, c.requires.1, c.requires.2, c.requires.3, on, four, c.requires.5, c.requires.6, c.requires.7)
+    (c.requires.0, c.requires.1, c.requires.2, c.requires.3, and_right (within 1 4 n) _ fit, four, c.requires.5, c.requires.6, c.requires.7)
 
-pub returns-in-Open : goal.returns-in-Open
+pub returns-in-Open-default-Some : goal.returns-in-Open-default-Some
 unfolding planned plan_code refuse grant open_on table_after done_for pick number_of
-returns-in-Open c =
-    let is = c.in-Open.is in
-    let some : eqb c.in-Open.k 0 ≡ false = ne_eqb _ 0 c.if-k-eq0.false in
+returns-in-Open-default-Some c =
+    let n = c.in-Open-default-Some.entry in
+    let k = c.in-Open-default-Some.k in
+    let is : c.args.plan ≡ Open n (Some k) = c.in-Open-default-Some.is ∙ ap (Open n) (rw c.in-Open-default-Some.is at c.in-Open-default-Some.cut-is) in
     let new = c.open_with_cut in
-    rw (is, some) (new.ensures.0, new.ensures.1, new.ensures.2)
+    rw is (new.ensures.0, new.ensures.1, new.ensures.2)
 
 pub route-requires : goal.route-requires
 unfolding fit_plan fit_policies
@@ -124,39 +117,25 @@ returns-in-Free c =
     let is = c.in-Free.is in
     rw is (c.free.ensures, refl, c.nothing-in-Free.ensures)
 
+-- a refusal, or an access that goes on
 pub returns-in-NotSubscribed : goal.returns-in-NotSubscribed
 unfolding planned plan_code refuse grant open_on table_after notice_room done_for cut_for pick number_of
 returns-in-NotSubscribed c =
-    let is = c.in-NotSubscribed.is in
-    rw is (refl, refl, c.nothing-in-NotSubscribed.ensures)
-
-pub returns-in-Barred : goal.returns-in-Barred
-unfolding planned plan_code refuse grant open_on table_after notice_room done_for cut_for pick number_of
-returns-in-Barred c =
-    let is = c.in-Barred.is in
-    rw is (refl, refl, c.nothing-in-Barred.ensures)
-
-pub returns-in-RoamingNotAllowed : goal.returns-in-RoamingNotAllowed
-unfolding planned plan_code refuse grant open_on table_after notice_room done_for cut_for pick number_of
-returns-in-RoamingNotAllowed c =
-    let is = c.in-RoamingNotAllowed.is in
-    rw is (refl, refl, c.nothing-in-RoamingNotAllowed.ensures)
-
-pub returns-in-UnableToComply : goal.returns-in-UnableToComply
-unfolding planned plan_code refuse grant open_on table_after notice_room done_for cut_for pick number_of
-returns-in-UnableToComply c =
-    let is = c.in-UnableToComply.is in
-    rw is (refl, refl, c.nothing-in-UnableToComply.ensures)
-
-pub returns-in-UnusedByUser : goal.returns-in-UnusedByUser
-unfolding planned plan_code refuse grant open_on table_after notice_room done_for cut_for pick number_of
-returns-in-UnusedByUser c =
-    let is = c.in-UnusedByUser.is in
-    rw is (refl, refl, c.nothing-in-UnusedByUser.ensures)
-
-pub returns-in-Stands : goal.returns-in-Stands
-unfolding planned plan_code grant notice_room done_for cut_for
-returns-in-Stands c =
     let a = c.args in
-    let is = c.in-Stands.is in
-    rw is (sym (row_stays (lent a.form a.table.now) a.i c.requires.2 c.requires.3), refl, c.nothing-in-Stands.ensures)
+    let none = c.nothing-in-NotSubscribed.ensures in
+    elim c.in-NotSubscribed.is [
+      | inl not_subscribed ↦ rw not_subscribed (refl, refl, none)
+      | inr others ↦ elim others [
+        | inl barred ↦ rw barred (refl, refl, none)
+        | inr others ↦ elim others [
+          | inl roaming ↦ rw roaming (refl, refl, none)
+          | inr others ↦ elim others [
+            | inl unable ↦ rw unable (refl, refl, none)
+            | inr others ↦ elim others [
+              | inl unused ↦ rw unused (refl, refl, none)
+              | inr stands ↦ rw stands (sym (row_stays (lent a.form a.table.now) a.i c.requires.2 c.requires.3), refl, none)
+            ]
+          ]
+        ]
+      ]
+    ]

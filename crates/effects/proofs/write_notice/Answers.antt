@@ -14,7 +14,7 @@ use Rattle.table.proofs.Form.{length-first-of, sized}
 use Rattle.row.proofs.Entries.{row_of}
 use Rattle.rules.specs.Calls.{notice_room}
 use Rattle.effects.specs.Carrying.{cut_for}
-use Rattle.effects.specs.declared.Cut.TheVariants.{Lengths}
+use Rattle.std.specs.Prelude.{Some}
 use Rattle.effects.proofs.Rooms.{at_least, at_most, at-place-is, form-there, notice-least, notice-long, notice-one, notice-two, realm-none, texts-are}
 use Rattle.effects.proofs.write_notice.Goals as goal
 
@@ -76,7 +76,7 @@ returns-then-form-ne2 c =
     let session-is : length session-was.result.now ≡ length x.session = ap length (session-was.ensures ∙ ap (λ (s : List ℕ). (access_at s k).session) at-was.ensures) in
     let host-is : length host-was.result.now ≡ length x.host = ap length (host-was.ensures ∙ ap (λ (s : List ℕ). (access_at s k).host) at-was.ensures) in
     let realm-is : 0 ≡ length x.realm = sym (realm-none r pre-was.3 k pre-was.4 (λ e. c.if-form-ne2.true (sym (form-there t given.i pre-was.2) ∙ e))) in
-    rw (at-place-is r pre-was.3 k pre-was.4) (written, λ j. Lengths (session-is j) (host-is j) (realm-is j))
+    rw (at-place-is r pre-was.3 k pre-was.4) (written, λ j. Some (record { session = session-is j; host = host-is j; realm = realm-is j }))
 
 pub write_realm-realm-requires : goal.write_realm-realm-requires
 write_realm-realm-requires c =
@@ -118,4 +118,4 @@ returns c =
     let session-is : length session-was.result.now ≡ length x.session = ap length (session-was.ensures ∙ ap (λ (s : List ℕ). (access_at s k).session) at-was.ensures) in
     let host-is : length host-was.result.now ≡ length x.host = ap length (host-was.ensures ∙ ap (λ (s : List ℕ). (access_at s k).host) at-was.ensures) in
     let realm-is : write-realm-was.result ≡ length x.realm = write-realm-was.ensures.1 ∙ ap (λ (s : List ℕ). length (access_at s k).realm) at-was.ensures in
-    rw (at-place-is r pre-was.3 k pre-was.4) (written, λ j. Lengths (session-is j) (host-is j) (realm-is j))
+    rw (at-place-is r pre-was.3 k pre-was.4) (written, λ j. Some (record { session = session-is j; host = host-is j; realm = realm-is j }))

@@ -1,54 +1,49 @@
 -- The list, then the Session-Id.
-use mathlib.Core.Path.{◌≡◌, sym, ap, ◌∙◌}
+use mathlib.Core.Path.{refl, sym, ◌∙◌}
 use native.Mathlib.Omega.{arith}
+use Rattle.std.proofs.lemmas.Result.{err_from_is_err_and}
 use Rattle.message.specs.ReadingAMessage.{avps}
-use Rattle.message.specs.Spans.{failed_with}
-use Rattle.gateway.specs.TheGateway.{list_code}
+use Rattle.message.specs.declared.Failure.TheVariants.{UnknownSessionId}
+use Rattle.message.specs.Failures.{failure_code, failed_with}
 use Rattle.gateway.specs.Code.{fields_code}
 use Rattle.gateway.proofs.Reading.{fields-failed, fields-held, own_same, session-behind, session-other, session-own}
 use Rattle.gateway.proofs.fields.Goals as goal
 
+pub returns-in_err-from : goal.returns-in_err-from
+unfolding failed_with
+returns-in_err-from c =
+    let a = c.args in
+    let xs = avps a.m.now in
+    let p = err_from_is_err_and c.from_residual.result c.from_residual.ensures.1 in
+    let f = c.in_err-from.field-0.0 in
+    rw (p.1, p.2) (fields-failed a.m.now (fields_code a.own.now xs) f (session-behind a.own.now xs f (c.in_err-from.ensures).code_is))
+
 pub overflow_add-e : goal.overflow_add-e
 overflow_add-e c =
-    let list-was = c.list-b in
-    let h = list-was.ensures.session c.in-Held.session c.in-Held.host c.in-Held.realm c.in-Held.is in
+    let h = (c.in_ok-from.ensures).session c.in_ok-from.from refl in
     omega (arith, h.inside, c.well_formed.0)
 
 pub slice_bounds-same_bytes-end : goal.slice_bounds-same_bytes-end
 slice_bounds-same_bytes-end c =
-    let list-was = c.list-b in
-    let h = list-was.ensures.session c.in-Held.session c.in-Held.host c.in-Held.realm c.in-Held.is in
+    let h = (c.in_ok-from.ensures).session c.in_ok-from.from refl in
     omega (arith, h.inside)
 
 pub returns-then-not-same_bytes : goal.returns-then-not-same_bytes
-unfolding failed_with
+unfolding failure_code failed_with
 returns-then-not-same_bytes c =
-    let list-was = c.list-b in
-    let given = c.args in
-    let same-bytes-was = c.same_bytes in
-    let test1 = c.if-not-same_bytes in
-    let h = list-was.ensures.session c.in-Held.session c.in-Held.host c.in-Held.realm c.in-Held.is in
-    let z : list_code (avps given.m.now) ≡ 0 = list-was.ensures.code_is ∙ ap failed_with c.in-Held.is in
-    let t = own_same given.m.now given.own.now c.in-Held.session same-bytes-was.result h same-bytes-was.ensures in
-    fields-failed given.m.now (fields_code given.own.now (avps given.m.now)) 5002 (session-other given.own.now (avps given.m.now) z (sym t ∙ test1.true)) (omega arith)
+    let a = c.args in
+    let xs = avps a.m.now in
+    let l = c.in_ok-from.ensures in
+    let s = c.in_ok-from.from in
+    let t = own_same a.m.now a.own.now s.session c.same_bytes.result (l.session s refl) c.same_bytes.ensures in
+    fields-failed a.m.now (fields_code a.own.now xs) UnknownSessionId (session-other a.own.now xs l.code_is (sym t ∙ c.if-not-same_bytes.true))
 
-pub returns-in-Failed : goal.returns-in-Failed
+pub returns : goal.returns
 unfolding failed_with
-returns-in-Failed c =
-    let list-was = c.list-b in
-    let given = c.args in
-    let n = c.in-Failed.n in
-    let h = list-was.ensures.real n c.in-Failed.is in
-    fields-failed given.m.now (fields_code given.own.now (avps given.m.now)) n (session-behind given.own.now (avps given.m.now) n (list-was.ensures.code_is ∙ ap failed_with c.in-Failed.is) h) h
-
-pub returns-else-not-same_bytes : goal.returns-else-not-same_bytes
-unfolding failed_with
-returns-else-not-same_bytes c =
-    let list-was = c.list-b in
-    let given = c.args in
-    let same-bytes-was = c.same_bytes in
-    let test1 = c.if-not-same_bytes in
-    let h = list-was.ensures.session c.in-Held.session c.in-Held.host c.in-Held.realm c.in-Held.is in
-    let z : list_code (avps given.m.now) ≡ 0 = list-was.ensures.code_is ∙ ap failed_with c.in-Held.is in
-    let t = own_same given.m.now given.own.now c.in-Held.session same-bytes-was.result h same-bytes-was.ensures in
-    fields-held given.m.now (fields_code given.own.now (avps given.m.now)) c.in-Held.session c.in-Held.host c.in-Held.realm (session-own given.own.now (avps given.m.now) z (sym t ∙ test1.false)) h (list-was.ensures.host c.in-Held.session c.in-Held.host c.in-Held.realm c.in-Held.is) (list-was.ensures.realm c.in-Held.session c.in-Held.host c.in-Held.realm c.in-Held.is)
+returns c =
+    let a = c.args in
+    let xs = avps a.m.now in
+    let l = c.in_ok-from.ensures in
+    let s = c.in_ok-from.from in
+    let t = own_same a.m.now a.own.now s.session c.same_bytes.result (l.session s refl) c.same_bytes.ensures in
+    fields-held a.m.now (fields_code a.own.now xs) s (session-own a.own.now xs l.code_is (sym t ∙ c.if-not-same_bytes.false)) (l.session s refl) (l.host s refl) (l.realm s refl)

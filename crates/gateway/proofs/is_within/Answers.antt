@@ -1,19 +1,12 @@
 -- Both ends of the range.
-use native.Mathlib.Omega.{arith}
 use borrow.Author.Tests.{le-leb, lt-leb}
 use Rattle.octets.specs.Choice.{within}
 use Rattle.gateway.proofs.is_within.Goals as goal
 
-pub returns-then-n-low : goal.returns-then-n-low
+pub returns-then-low-n : goal.returns-then-low-n
 unfolding within
-returns-then-n-low c =
-    let given = c.args in
-    let test1 = c.if-n-low in
-    rw (lt-leb given.low given.n test1.true)
+returns-then-low-n c = rw (le-leb c.args.low c.args.n c.if-low-n.true)
 
-pub returns : goal.returns
+pub returns-else-low-n : goal.returns-else-low-n
 unfolding within
-returns c =
-    let given = c.args in
-    let test1 = c.if-n-low in
-    rw (le-leb given.low given.n (omega (arith, test1.false)))
+returns-else-low-n c = rw (lt-leb c.args.low c.args.n c.if-low-n.false)

@@ -1,37 +1,32 @@
 -- The five, then the two behind them.
-use mathlib.Core.Path.{sym, ap, ◌∙◌}
+use mathlib.Core.Path.{refl, sym, ◌∙◌}
+use Rattle.std.proofs.lemmas.Result.{err_from_is_err_and}
 use Rattle.message.specs.ReadingAMessage.{avps}
-use Rattle.message.specs.Spans.{failed_with}
-use Rattle.message.proofs.Listing.{above_zero}
+use Rattle.message.specs.Failures.{failed_with}
 use Rattle.gateway.specs.TheGateway.{list_code}
 use Rattle.gateway.proofs.Reading.{fields-failed, fields-held, list-failed, list-rest}
 use Rattle.gateway.proofs.list.Goals as goal
 
-pub returns-then-n-ne0 : goal.returns-then-n-ne0
+pub returns-in_err-from : goal.returns-in_err-from
 unfolding failed_with
-returns-then-n-ne0 c =
-    let given = c.args in
-    let first-five-was = c.first_five-b in
-    let rest-code-was = c.rest_code-n in
-    let test1 = c.if-n-ne0 in
-    let z = list-rest (avps given.m.now) (first-five-was.ensures.code ∙ ap failed_with c.in-Held.is) in
-    fields-failed given.m.now (list_code (avps given.m.now)) rest-code-was.result (z ∙ sym rest-code-was.ensures) (above_zero rest-code-was.result test1.true)
+returns-in_err-from c =
+    let xs = avps c.args.m.now in
+    let p = err_from_is_err_and c.from_residual.result c.from_residual.ensures.1 in
+    let f = c.in_err-from.field-0.0 in
+    rw (p.1, p.2) (fields-failed c.args.m.now (list_code xs) f (list-failed xs f (c.in_err-from.ensures).code))
 
-pub returns-in-Failed : goal.returns-in-Failed
+pub returns-in_err-test_rest : goal.returns-in_err-test_rest
 unfolding failed_with
-returns-in-Failed c =
-    let first-five-was = c.first_five-b in
-    let given = c.args in
-    let n = c.in-Failed.n in
-    let h = first-five-was.ensures.real n c.in-Failed.is in
-    fields-failed given.m.now (list_code (avps given.m.now)) n (list-failed (avps given.m.now) n (first-five-was.ensures.code ∙ ap failed_with c.in-Failed.is) h) h
+returns-in_err-test_rest c =
+    let xs = avps c.args.m.now in
+    let p = err_from_is_err_and c.from_residual-in_err-test_rest.result c.from_residual-in_err-test_rest.ensures.1 in
+    let z = list-rest xs (c.in_ok-from.ensures).code in
+    rw (p.1, p.2) (fields-failed c.args.m.now (list_code xs) c.in_err-test_rest.field-0.0 (z ∙ sym (c.in_err-test_rest.ensures)))
 
-pub returns-else-n-ne0 : goal.returns-else-n-ne0
+pub returns : goal.returns
 unfolding failed_with
-returns-else-n-ne0 c =
-    let given = c.args in
-    let first-five-was = c.first_five-b in
-    let rest-code-was = c.rest_code-n in
-    let test1 = c.if-n-ne0 in
-    let z = list-rest (avps given.m.now) (first-five-was.ensures.code ∙ ap failed_with c.in-Held.is) in
-    fields-held given.m.now (list_code (avps given.m.now)) c.in-Held.session c.in-Held.host c.in-Held.realm (z ∙ sym rest-code-was.ensures ∙ test1.false) (first-five-was.ensures.session c.in-Held.session c.in-Held.host c.in-Held.realm c.in-Held.is) (first-five-was.ensures.host c.in-Held.session c.in-Held.host c.in-Held.realm c.in-Held.is) (first-five-was.ensures.realm c.in-Held.session c.in-Held.host c.in-Held.realm c.in-Held.is)
+returns c =
+    let xs = avps c.args.m.now in
+    let h = c.in_ok-from.ensures in
+    let s = c.in_ok-from.from in
+    fields-held c.args.m.now (list_code xs) s (list-rest xs h.code ∙ sym (c.in_ok-test_rest.ensures)) (h.session s refl) (h.host s refl) (h.realm s refl)

@@ -5,6 +5,4 @@ use Rattle.gateway.proofs.put_code.Goals as goal
 
 pub returns : goal.returns
 unfolding result_avp in32
-returns c =
-    let put-avp-was = c.put_avp in
-    put-avp-was.ensures
+returns c = rw c.to_be_bytes.ensures at c.put_avp.ensures

@@ -9,8 +9,5 @@ use Rattle.gateway.proofs.put_request_head.Goals as goal
 pub returns : goal.returns
 unfolding request_head in24 in32
 returns c =
-    let given = c.args in
-    let pre-was = c.requires in
-    let put-bytes-was = c.put_bytes in
-    let first : given.n / 65536 % 256 ≡ 0 = omega (arith, pre-was.1) in
-    rw first put-bytes-was.ensures
+    let first : c.args.n / 65536 % 256 ≡ 0 = omega (arith, c.requires.1) in
+    rw first (rw (c.to_be_bytes.ensures, c.to_be_bytes-2.ensures, c.to_be_bytes-3.ensures) at c.put_bytes.ensures)

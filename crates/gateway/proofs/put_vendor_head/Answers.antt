@@ -5,6 +5,4 @@ use Rattle.gateway.proofs.put_vendor_head.Goals as goal
 
 pub returns : goal.returns
 unfolding vendor_head in24 in32
-returns c =
-    let put-bytes-was = c.put_bytes in
-    put-bytes-was.ensures
+returns c = rw (c.to_be_bytes.ensures, c.to_be_bytes-2.ensures) at c.put_bytes.ensures

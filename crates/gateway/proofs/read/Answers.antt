@@ -1,38 +1,39 @@
 -- The header, the walk, then list and Session-Id.
-use mathlib.Core.Path.{refl, sym, ◌∙◌}
+use mathlib.Core.Path.{refl, sym}
 use Rattle.octets.specs.Texts.{zeros}
+use Rattle.message.specs.Failures.{failed_with}
 use Rattle.gateway.proofs.Reading.{copying-is, heard-header, heard-walk, reading-is}
 use Rattle.gateway.proofs.read.Goals as goal
 
-pub returns-then-h-ne0 : goal.returns-then-h-ne0
-returns-then-h-ne0 c =
-    let given = c.args in
-    let header-code-was = c.header_code-h in
-    let test1 = c.if-h-ne0 in
-    heard-header given.own.now given.m.now header-code-was.result (sym header-code-was.ensures) test1.true
+pub returns-in-Err : goal.returns-in-Err
+unfolding failed_with
+returns-in-Err c =
+    let a = c.args in
+    rw c.refused.ensures (heard-header a.own.now a.m.now c.in-Err.f (sym (c.in-Err.ensures)))
 
-pub gather-w-requires : goal.gather-w-requires
+pub gather-requires : goal.gather-requires
 unfolding zeros
-gather-w-requires c =
-    let pre-was = c.requires in
-    (pre-was, refl)
+gather-requires c = (c.requires, refl)
 
-pub returns-then-w-ne0 : goal.returns-then-w-ne0
-returns-then-w-ne0 c =
-    let given = c.args in
-    let header-code-was = c.header_code-h in
-    let test1 = c.if-h-ne0 in
-    let gather-was = c.gather-w in
-    let test2 = c.if-w-ne0 in
-    heard-walk given.own.now given.m.now (sym header-code-was.ensures ∙ test1.false) gather-was.result (sym gather-was.ensures.0) test2.true
+pub returns-in-Err-gather : goal.returns-in-Err-gather
+unfolding failed_with
+returns-in-Err-gather c =
+    let a = c.args in
+    rw c.refused-in-Err-gather.ensures (heard-walk a.own.now a.m.now (sym (c.in_default.ensures)) c.in-Err-gather.f (sym (c.in-Err-gather.ensures).0))
+
+pub fields-fields-requires : goal.fields-fields-requires
+unfolding failed_with
+fields-fields-requires c =
+    let g = c.in_default-gather.ensures in
+    (c.requires, sym g.0, g.1)
 
 pub returns : goal.returns
+unfolding failed_with
 returns c =
-    let given = c.args in
-    let header-code-was = c.header_code-h in
-    let test1 = c.if-h-ne0 in
-    let gather-was = c.gather-w in
-    let test2 = c.if-w-ne0 in
-    let fields-was = c.fields-fields in
-    let proxies-seen-was = c.proxies_seen-proxies in
-    record { reading = rw (reading-is given.own.now given.m.now (sym header-code-was.ensures ∙ test1.false) (sym gather-was.ensures.0 ∙ test2.false)) fields-was.ensures; copying = copying-is given.own.now given.m.now (sym header-code-was.ensures ∙ test1.false) (sym gather-was.ensures.0 ∙ test2.false) proxies-seen-was.result proxies-seen-was.ensures }
+    let a = c.args in
+    let h = sym (c.in_default.ensures) in
+    let g = c.in_default-gather.ensures in
+    record {
+      reading = rw (reading-is a.own.now a.m.now h (sym g.0)) c.fields-fields.ensures;
+      copying = copying-is a.own.now a.m.now h (sym g.0) c.proxies_seen-proxies.result c.proxies_seen-proxies.ensures;
+    }

@@ -29,4 +29,4 @@ returns c =
     let handle-was = c.handle-o in
     let first-mismatch-was = c.first_mismatch in
     let notice-told-was = c.notice_told-told in
-    held-is (case_of given.form given.row.now given.after.now (call_of given.op given.message.now given.host.now given.realm.now given.answer.now given.notice.now given.wag) given.theirs.now given.their_notice.now) handle-was.result handle-was.new.table handle-was.new.answer handle-was.new.notice handle-was.ensures first-mismatch-was.result (first-mismatch-was.ensures ∙ mismatch-is (case_of given.form given.row.now given.after.now (call_of given.op given.message.now given.host.now given.realm.now given.answer.now given.notice.now given.wag) given.theirs.now given.their_notice.now) handle-was.result handle-was.new.table handle-was.new.answer handle-was.new.notice handle-was.ensures notice-told-was.result notice-told-was.ensures)
+    held-is (case_of given.form given.row.now given.after.now (call_of given.op given.message.now given.host.now given.realm.now given.answer.now given.notice.now given.wag) given.theirs.now given.their_notice.now) handle-was.result handle-was.new.table handle-was.new.answer handle-was.new.notice handle-was.ensures c.found_by.result (c.found_by.ensures ∙ first-mismatch-was.ensures ∙ mismatch-is (case_of given.form given.row.now given.after.now (call_of given.op given.message.now given.host.now given.realm.now given.answer.now given.notice.now given.wag) given.theirs.now given.their_notice.now) handle-was.result handle-was.new.table handle-was.new.answer handle-was.new.notice handle-was.ensures notice-told-was.result notice-told-was.ensures)

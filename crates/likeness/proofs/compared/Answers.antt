@@ -4,7 +4,7 @@ use mathlib.Core.Bool.{true, false}
 use Rattle.octets.specs.Choice.{pick}
 use Rattle.octets.specs.Texts.{same}
 use Rattle.likeness.specs.TheSameAnswer.{unless, compared}
-use Rattle.likeness.specs.Code.{said}
+use Rattle.likeness.specs.Code.{mismatch_number, said}
 use Rattle.likeness.proofs.compared.Goals as goal
 
 pub returns-then-same_throughout : goal.returns-then-same_throughout

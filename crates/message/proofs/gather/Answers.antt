@@ -4,10 +4,12 @@ use Prim.Native.Nat.{◌+◌}
 use native.Mathlib.Omega.{arith}
 use lib.ListN.{length, drop, length-set}
 use Rattle.message.specs.ReadingAMessage.{avp_of, supported}
-use Rattle.message.specs.Positions.{slots, head_at}
+use Rattle.message.specs.Positions.{slots, HeadAt}
 use Rattle.octets.proofs.Texts.{length-zeros}
-use Rattle.message.specs.declared.Head.TheVariants.{One}
+use Rattle.std.specs.Prelude.{Ok, Err}
+use Rattle.message.specs.Failures.{failure_code, failed_with}
 use Rattle.message.proofs.Gathering.{started, at-end, at-bad, at-unsupported, slot_is, length-is, slot-supported, supported-by, stepped-over, noted-first, noted-again, next_place}
+use Rattle.std.proofs.lemmas.Result.{err_from_is_err_and}
 use Rattle.message.proofs.gather.Goals as goal
 use Rattle.message.proofs.gather.Goals.{then-seen-eq0, else-seen-eq0}
 
@@ -21,38 +23,38 @@ walk-init c =
 pub loop-left-init : goal.loop-left-init
 loop-left-init c = (omega arith, c.walk.invariant.0, c.walk.invariant.1)
 
-pub head_at-h-requires : goal.head_at-h-requires
-head_at-h-requires c = c.loop-left.invariant.2
+pub head_at-requires : goal.head_at-requires
+head_at-requires c = c.loop-left.invariant.2
 
-pub overflow_sub-left-in-One : goal.overflow_sub-left-in-One
-overflow_sub-left-in-One c =
+pub overflow_sub-left-in-loop-left : goal.overflow_sub-left-in-loop-left
+overflow_sub-left-in-loop-left c =
     let m = c.args.m.now in
-    let a = c.in-One.a in
-    let o : head_at m c.loop-left.at ≡ One a = sym c.head_at-h.ensures ∙ c.in-One.is in
+    let a = c.in_ok-a.a in
+    let o : HeadAt m c.loop-left.at (Ok a) = rw c.in_ok-a.was at c.head_at.ensures in
     let n = next_place m c.loop-left.at a c.loop-left.invariant.1.inside o in
     omega (arith, n.0)
 
-pub overflow_sub-left-in-One-2 : goal.overflow_sub-left-in-One-2
-overflow_sub-left-in-One-2 c =
+pub overflow_sub-left-in-loop-left-2 : goal.overflow_sub-left-in-loop-left-2
+overflow_sub-left-in-loop-left-2 c =
     let m = c.args.m.now in
-    let a = c.in-One.a in
-    let o : head_at m c.loop-left.at ≡ One a = sym c.head_at-h.ensures ∙ c.in-One.is in
+    let a = c.in_ok-a.a in
+    let o : HeadAt m c.loop-left.at (Ok a) = rw c.in_ok-a.was at c.head_at.ensures in
     let n = next_place m c.loop-left.at a c.loop-left.invariant.1.inside o in
     omega (arith, n.0, n.1, c.loop-left.invariant.2)
 
 pub loop-left-smaller : goal.loop-left-smaller
 loop-left-smaller c =
     let m = c.args.m.now in
-    let a = c.in-One.a in
-    let o : head_at m c.loop-left.at ≡ One a = sym c.head_at-h.ensures ∙ c.in-One.is in
+    let a = c.in_ok-a.a in
+    let o : HeadAt m c.loop-left.at (Ok a) = rw c.in_ok-a.was at c.head_at.ensures in
     let n = next_place m c.loop-left.at a c.loop-left.invariant.1.inside o in
     omega (arith, n.0, n.1, c.loop-left.invariant.2)
 
 pub loop-left-preserved : goal.loop-left-preserved
 loop-left-preserved c =
     let m = c.args.m.now in
-    let a = c.in-One.a in
-    let o : head_at m c.loop-left.at ≡ One a = sym c.head_at-h.ensures ∙ c.in-One.is in
+    let a = c.in_ok-a.a in
+    let o : HeadAt m c.loop-left.at (Ok a) = rw c.in_ok-a.was at c.head_at.ensures in
     let n = next_place m c.loop-left.at a c.loop-left.invariant.1.inside o in
     let u : supported (avp_of (drop c.loop-left.at m)) ≡ true = supported-by m c.loop-left.at a o ∙ sym c.is_supported.ensures ∙ c.if-not-is_supported.false in
     (omega (arith, n.0, c.loop-left.invariant.0), stepped-over m c.walk.index c.loop-left.at a c.loop-left.invariant.1 o u c.if-a-lt-SLOTS.false, omega (arith, n.0, n.1, c.loop-left.invariant.2))
@@ -87,32 +89,32 @@ bounds-index-slot-else-seen-eq0 c = simp length-set (omega (arith, c.loop-left.i
 pub overflow_sub-left-in-walk : goal.overflow_sub-left-in-walk
 overflow_sub-left-in-walk c =
     let m = c.args.m.now in
-    let a = c.in-One.a in
-    let o : head_at m c.loop-left.at ≡ One a = sym c.head_at-h.ensures ∙ c.in-One.is in
+    let a = c.in_ok-a.a in
+    let o : HeadAt m c.loop-left.at (Ok a) = rw c.in_ok-a.was at c.head_at.ensures in
     let n = next_place m c.loop-left.at a c.loop-left.invariant.1.inside o in
     omega (arith, n.0)
 
 pub overflow_sub-left-in-walk-2 : goal.overflow_sub-left-in-walk-2
 overflow_sub-left-in-walk-2 c =
     let m = c.args.m.now in
-    let a = c.in-One.a in
-    let o : head_at m c.loop-left.at ≡ One a = sym c.head_at-h.ensures ∙ c.in-One.is in
+    let a = c.in_ok-a.a in
+    let o : HeadAt m c.loop-left.at (Ok a) = rw c.in_ok-a.was at c.head_at.ensures in
     let n = next_place m c.loop-left.at a c.loop-left.invariant.1.inside o in
     omega (arith, n.0, n.1, c.loop-left.invariant.2)
 
 pub walk-smaller : goal.walk-smaller
 walk-smaller c =
     let m = c.args.m.now in
-    let a = c.in-One.a in
-    let o : head_at m c.loop-left.at ≡ One a = sym c.head_at-h.ensures ∙ c.in-One.is in
+    let a = c.in_ok-a.a in
+    let o : HeadAt m c.loop-left.at (Ok a) = rw c.in_ok-a.was at c.head_at.ensures in
     let n = next_place m c.loop-left.at a c.loop-left.invariant.1.inside o in
     omega (arith, n.0, n.1, c.loop-left.invariant.0, c.loop-left.invariant.2, c.walk.invariant.1)
 
 pub walk-preserved : goal.walk-preserved
 walk-preserved c =
     let m = c.args.m.now in
-    let a = c.in-One.a in
-    let o : head_at m c.loop-left.at ≡ One a = sym c.head_at-h.ensures ∙ c.in-One.is in
+    let a = c.in_ok-a.a in
+    let o : HeadAt m c.loop-left.at (Ok a) = rw c.in_ok-a.was at c.head_at.ensures in
     let n = next_place m c.loop-left.at a c.loop-left.invariant.1.inside o in
     let s = c.if-a-lt-SLOTS.true in
     let u = slot-supported (drop c.loop-left.at m) (λ z. omega (arith, z, s, slot_is m c.loop-left.at a o)) in (
@@ -127,23 +129,25 @@ pub shape_of-index-then-left-eq0 : goal.shape_of-index-then-left-eq0
 shape_of-index-then-left-eq0 c = omega (arith, c.loop-left.invariant.1.size, ap length c.requires.1, length-zeros (slots + slots))
 
 pub returns-then-left-eq0 : goal.returns-then-left-eq0
+unfolding failed_with
 returns-then-left-eq0 c = at-end c.args.m.now c.walk.index c.loop-left.at c.loop-left.invariant.1 (omega (arith, c.if-left-eq0.true, c.loop-left.invariant.2))
 
-pub shape_of-index-in-Bad : goal.shape_of-index-in-Bad
-shape_of-index-in-Bad c = omega (arith, c.loop-left.invariant.1.size, ap length c.requires.1, length-zeros (slots + slots))
-
-pub returns-in-Bad : goal.returns-in-Bad
-returns-in-Bad c =
-    at-bad c.args.m.now c.walk.index c.loop-left.at c.in-Bad.code c.loop-left.invariant.1 (omega (arith, c.if-left-eq0.false, c.loop-left.invariant.2))
-    (sym c.head_at-h.ensures ∙ c.in-Bad.is)
+pub returns-in_err-a : goal.returns-in_err-a
+unfolding failed_with
+returns-in_err-a c =
+    let p = err_from_is_err_and c.from_residual.result c.from_residual.ensures.1 in
+    rw (p.1, p.2)
+    (at-bad c.args.m.now c.walk.index c.loop-left.at c.in_err-a.field-0.0 c.loop-left.invariant.1 (omega (arith, c.if-left-eq0.false, c.loop-left.invariant.2))
+    c.in_err-a.ensures)
 
 pub shape_of-index-then-not-is_supported : goal.shape_of-index-then-not-is_supported
 shape_of-index-then-not-is_supported c = omega (arith, c.loop-left.invariant.1.size, ap length c.requires.1, length-zeros (slots + slots))
 
 pub returns-then-not-is_supported : goal.returns-then-not-is_supported
+unfolding failed_with failure_code
 returns-then-not-is_supported c =
     let m = c.args.m.now in
-    let a = c.in-One.a in
-    let o : head_at m c.loop-left.at ≡ One a = sym c.head_at-h.ensures ∙ c.in-One.is in
+    let a = c.in_ok-a.a in
+    let o : HeadAt m c.loop-left.at (Ok a) = rw c.in_ok-a.was at c.head_at.ensures in
     let u : supported (avp_of (drop c.loop-left.at m)) ≡ false = supported-by m c.loop-left.at a o ∙ sym c.is_supported.ensures ∙ c.if-not-is_supported.true in
     at-unsupported m c.walk.index c.loop-left.at a c.loop-left.invariant.1 (omega (arith, c.if-left-eq0.false, c.loop-left.invariant.2)) o u

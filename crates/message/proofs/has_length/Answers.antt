@@ -18,6 +18,6 @@ pub returns : goal.returns
 unfolding net24
 returns c =
     let m = c.args.m.now in
-    let two : c.long.result * 256 + c.long-2.result ≡ get_or m 1 0 * 65536 + get_or m 2 0 * 256 + get_or m 3 0 =
-    omega (arith, c.long.ensures.0, c.long-2.ensures.0, c.if-m-ne0.false) in
+    let two : c.from.result * 256 + c.from-2.result ≡ get_or m 1 0 * 65536 + get_or m 2 0 * 256 + get_or m 3 0 =
+    omega (arith, c.from.ensures, c.from-2.ensures, c.if-m-ne0.false) in
     ap (λ (x : ℕ). eqb x c.args.n) two

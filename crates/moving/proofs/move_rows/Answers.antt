@@ -3,7 +3,7 @@ use Prim.Native.Nat.{◌+◌, ◌-◌, ◌*◌}
 use native.Mathlib.Omega.{arith}
 use lib.ListN.{length}
 use Rattle.table.specs.Answers.{lent}
-use Rattle.table.proofs.Rows.{lent_length, rows-most, width-least}
+use Rattle.table.proofs.Rows.{lent_length, width-least}
 use Rattle.moving.proofs.Built.{back-built, back-length, built-start}
 use Rattle.moving.proofs.Loops.{is-row-at, row_ends}
 use Rattle.moving.proofs.Steps.{part-row, piece_inside, room_most, row_by, row_inside, row_from, rows-moved, source-right, to-small}
@@ -81,15 +81,6 @@ move_row-requires c =
     let loop-test-was = c.loop-i-test in
     let at-was = c.at in
     (is-row-at (lent (3 - given.form) given.table.now) (source-right given.form given.table.now given.target.now pre-was) loop-was.i _ _ refl refl (row_inside given.form given.table.now given.target.now pre-was row-length-was.result row-length-was.ensures loop-was.i loop-test-was.true) at-was.result.now at-was.ensures, part-row given.form given.table.now given.target.now pre-was row-length-was.result row-length-was.ensures _ (lent_length loop-was.target (row-length-was.result * loop-was.i) row-length-was.result (omega (arith, (piece_inside given.form given.table.now given.target.now pre-was row-length-was.result row-length-was.ensures loop-was.i loop-test-was.true), loop-was.invariant.1))))
-
-pub overflow_add-i : goal.overflow_add-i
-overflow_add-i c =
-    let given = c.args in
-    let pre-was = c.requires in
-    let row-length-was = c.row_length-width in
-    let loop-was = c.loop-i in
-    let loop-test-was = c.loop-i-test in
-    omega (arith, row_inside given.form given.table.now given.target.now pre-was row-length-was.result row-length-was.ensures loop-was.i loop-test-was.true, rows-most (lent (3 - given.form) given.table.now) (source-right given.form given.table.now given.target.now pre-was))
 
 pub loop-i-preserved : goal.loop-i-preserved
 loop-i-preserved c =

@@ -4,7 +4,7 @@ use Prim.Native.Nat.{ℕ, ◌/◌}
 use native.Mathlib.Omega.{arith}
 use lib.ListN.{length}
 use Rattle.table.specs.Answers.{lent}
-use Rattle.table.proofs.Rows.{form-top, rows-most, width-least}
+use Rattle.table.proofs.Rows.{form-top, width-least}
 use Rattle.moving.specs.Moving.{movable}
 use Rattle.moving.proofs.Loops.{every-all, every-on, every-over, every-stop, is-row-at, row_ends, row-there, said_at}
 use Rattle.moving.proofs.rows_movable.Goals as goal
@@ -62,24 +62,6 @@ returns-then-not-row_movable c =
     let t = lent given.form given.t.now in
     let there = row-there t pre-was loop-was.i _ row-length-was.result row-length-was.ensures refl loop-test-was.true in
     sym (every-stop movable t loop-was.i there (said_at movable t loop-was.i at-was.result.now row-movable-was.result false at-was.ensures row-movable-was.ensures (test1.true))) ∙ loop-was.invariant.1
-
-pub overflow_add-i : goal.overflow_add-i
-overflow_add-i c =
-    let given = c.args in
-    let pre-was = c.requires in
-    let t = lent given.form given.t.now in
-    omega (arith, rows-most t pre-was)
-
-pub loop-i-smaller : goal.loop-i-smaller
-loop-i-smaller c =
-    let given = c.args in
-    let pre-was = c.requires in
-    let loop-was = c.loop-i in
-    let row-length-was = c.row_length in
-    let loop-test-was = c.loop-i-test in
-    let t = lent given.form given.t.now in
-    let there = row-there t pre-was loop-was.i _ row-length-was.result row-length-was.ensures refl loop-test-was.true in
-    omega (arith, row-there t pre-was loop-was.i _ row-length-was.result row-length-was.ensures refl loop-test-was.true)
 
 pub loop-i-preserved : goal.loop-i-preserved
 loop-i-preserved c =

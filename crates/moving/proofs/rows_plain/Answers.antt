@@ -5,7 +5,7 @@ use native.Mathlib.Omega.{arith}
 use lib.ListN.{length}
 use Rattle.table.specs.Answers.{lent}
 use Rattle.table.specs.Soundness.{is_row}
-use Rattle.table.proofs.Rows.{form-top, rows-most, width-least}
+use Rattle.table.proofs.Rows.{form-top, width-least}
 use Rattle.moving.specs.Moving.{fits_form1}
 use Rattle.moving.proofs.Loops.{every-all, every-on, every-over, every-stop, is-row-at, row_ends, row-there, said_at}
 use Rattle.moving.proofs.Steps.{exact-at}
@@ -79,24 +79,6 @@ returns-then-not-row_plain c =
     let t = lent given.form given.t.now in
     let there = row-there t pre-was.0 loop-was.i _ row-length-was.result row-length-was.ensures refl loop-test-was.true in
     sym (every-stop fits_form1 t loop-was.i there (said_at fits_form1 t loop-was.i at-was.result.now row-plain-was.result false at-was.ensures row-plain-was.ensures (test1.true))) ∙ loop-was.invariant.1
-
-pub overflow_add-i : goal.overflow_add-i
-overflow_add-i c =
-    let given = c.args in
-    let pre-was = c.requires in
-    let t = lent given.form given.t.now in
-    omega (arith, rows-most t pre-was.0)
-
-pub loop-i-smaller : goal.loop-i-smaller
-loop-i-smaller c =
-    let given = c.args in
-    let pre-was = c.requires in
-    let loop-was = c.loop-i in
-    let row-length-was = c.row_length in
-    let loop-test-was = c.loop-i-test in
-    let t = lent given.form given.t.now in
-    let there = row-there t pre-was.0 loop-was.i _ row-length-was.result row-length-was.ensures refl loop-test-was.true in
-    omega (arith, there)
 
 pub returns : goal.returns
 returns c =

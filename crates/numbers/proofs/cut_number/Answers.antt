@@ -1,11 +1,8 @@
--- Each case of a cut has its number.
-use Rattle.decision.specs.Outcomes.{cut_made}
+-- 1 where there is a cut.
+use mathlib.Core.Path.{ap, ◌∙◌}
+use Rattle.std.specs.Int.{from_bool}
+use Rattle.numbers.proofs.Cuts.{made}
 use Rattle.numbers.proofs.cut_number.Goals as goal
 
-pub returns-in-NoCut : goal.returns-in-NoCut
-unfolding cut_made
-returns-in-NoCut c = rw c.in-NoCut.is
-
-pub returns-in-Lengths : goal.returns-in-Lengths
-unfolding cut_made
-returns-in-Lengths c = rw c.in-Lengths.is
+pub returns : goal.returns
+returns c = c.from.ensures ∙ ap from_bool c.is_some.ensures ∙ made c.args.cut

@@ -14,9 +14,6 @@ pub loop-i-init : goal.loop-i-init
 unfolding zeros
 loop-i-init c = (search rules, search rules, refl)
 
-pub loop-i-smaller : goal.loop-i-smaller
-loop-i-smaller c = omega arith
-
 pub loop-i-preserved : goal.loop-i-preserved
 unfolding zeros
 loop-i-preserved c = (

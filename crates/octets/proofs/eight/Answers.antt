@@ -1,17 +1,19 @@
--- Two numbers of four bytes, side by side.
-use Prim.Native.Nat.{◌-◌, ◌/◌}
+-- Eight bytes as a number, by the definition, each of them a byte.
+use mathlib.Core.Path.{◌≡◌}
+use Prim.Native.Nat.{◌+◌}
 use native.Mathlib.Omega.{arith}
 use borrow.Author.Rules.{rules}
-use Rattle.octets.specs.Numbers.{low64}
-use Rattle.octets.proofs.Words.{fits32}
+use Rattle.octets.specs.Numbers.{low32, low64}
 use Rattle.octets.proofs.eight.Goals as goal
 
-pub overflow_mul-result : goal.overflow_mul-result
-overflow_mul-result c = omega (arith, c.four-2.ensures.0, fits32 _ _ c.four-2.ensures.1)
-
-pub overflow_add-result : goal.overflow_add-result
-overflow_add-result c = omega (arith, c.four-2.ensures.0, fits32 _ _ c.four-2.ensures.1, c.four.ensures.0, fits32 _ _ c.four.ensures.1)
-
 pub returns : goal.returns
-unfolding low64
-returns c = (omega (arith, c.four-2.ensures.0, c.four.ensures.0), c.four.ensures.1, c.four-2.ensures.1)
+unfolding low32 low64
+returns c =
+    let at = c.args.at in
+    let five : at + 4 + 1 ≡ at + 5 = omega arith in
+    let six : at + 4 + 2 ≡ at + 6 = omega arith in
+    let seven : at + 4 + 3 ≡ at + 7 = omega arith in (
+      rw (five, six, seven) (omega arith),
+      record { byte0 = search rules; byte1 = search rules; byte2 = search rules; byte3 = search rules },
+      record { byte0 = search rules; byte1 = search rules; byte2 = search rules; byte3 = search rules },
+    )

@@ -1,9 +1,8 @@
 -- Four bytes as a number, by the definition.
-use Rattle.octets.specs.Numbers.{net24, net32}
-use Prim.Native.Nat.{◌-◌}
-use borrow.Author.Rules.{rules}
+use native.Mathlib.Omega.{arith}
+use Rattle.octets.specs.Numbers.{net32}
 use Rattle.octets.proofs.read32.Goals as goal
 
 pub returns : goal.returns
-unfolding net24 net32
-returns c = search rules
+unfolding net32
+returns c = omega arith

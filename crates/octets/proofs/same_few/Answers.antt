@@ -1,26 +1,15 @@
-use Rattle.octets.specs.Texts.{same}
-use Rattle.octets.proofs.Texts.{same_step, same-differ, same_end}
-use mathlib.Core.Path.{◌≡◌, sym, ◌∙◌}
-use Prim.Native.Nat.{◌-◌, ◌≤◌}
-use native.Mathlib.Omega.{arith}
-use lib.ListN.{length, drop}
+-- Two texts of one length are the same exactly where all pairs of their bytes are.
+use mathlib.Core.Path.{◌≡◌}
 use borrow.Author.Rules.{rules}
+use borrow.Author.Tests.{tests}
+use Rattle.std.proofs.lemmas.Iterator.{YieldsList-from_slice, YieldsList-from_zip, same_from_all}
+use Rattle.octets.proofs.Texts.{same-decides}
 use Rattle.octets.proofs.same_few.Goals as goal
-
-pub returns-then-a-i : goal.returns-then-a-i
-returns-then-a-i c =
-    let a = c.args.a.now in
-    let b = c.args.b.now in
-    sym (same-differ a b c.loop-i.i (omega arith) (omega arith) c.if-a-i.true) ∙ c.loop-i.invariant.1
-
-pub loop-i-preserved : goal.loop-i-preserved
-loop-i-preserved c =
-    let a = c.args.a.now in
-    let b = c.args.b.now in
-    (omega arith, same_step a b c.loop-i.i (omega arith) (omega arith) c.if-a-i.false ∙ c.loop-i.invariant.1)
 
 pub returns : goal.returns
 returns c =
     let a = c.args.a.now in
     let b = c.args.b.now in
-    sym (same_end a b c.loop-i.i (omega arith) (omega arith)) ∙ c.loop-i.invariant.1
+    same-decides a b _ (same_from_all c.all.new.self _ c.all.result a b c.all.ensures.ran
+    (YieldsList-from_zip (YieldsList-from_slice a cc) (YieldsList-from_slice b cc)) c.requires
+    (λ x q k. search (rules, tests)) (λ x q k. search (rules, tests)))

@@ -25,16 +25,16 @@ reading_failed-requires c =
     let most-policies-was = c.most_policies-most in
     (pre-was.1, most-policies-was.ensures.1, most-policies-was.ensures.2)
 
-pub returns-in-Refused : goal.returns-in-Refused
+pub returns-in-Err : goal.returns-in-Err
 unfolding says call_of
-returns-in-Refused c =
+returns-in-Err c =
     let given = c.args in
     let most-policies-was = c.most_policies-most in
     let read-was = c.read-heard in
     let reading-failed-was = c.reading_failed in
     let m = c.args.m.now in
     let most : most-policies-was.result ≡ most_policies given.form = most-policies-was.ensures.0 in
-    let is : read (most_policies given.form) m ≡ refused _ = ap (λ (n : ℕ). read n m) (sym most) ∙ sym read-was.ensures.reading ∙ ap (says m) c.in-Refused.is in
+    let is : read (most_policies given.form) m ≡ refused _ = ap (λ (n : ℕ). read n m) (sym most) ∙ sym read-was.ensures.reading ∙ ap (says m) c.in-Err.is in
     λ host realm answer notice.
     reading-failed-was.ensures
     ∙ ap (λ (n : ℕ). first_failed (reading_checks n m)) most
@@ -46,22 +46,22 @@ request_failed-requires c =
     let read-was = c.read-heard in
     let pre-was = c.requires in
     let m = c.args.m.now in
-    let user = c.in-Request.user in
-    let asked = c.in-Request.asked in
-    let all : is_inside m user && every (is_inside m) (spans_in asked) ≡ true = rw c.in-Request.is at read-was.ensures.inside in
+    let user = c.in-Ok.q.user in
+    let asked = c.in-Ok.q.asked in
+    let all : is_inside m user && every (is_inside m) (spans_in asked) ≡ true = rw c.in-Ok.is at read-was.ensures.inside in
     (pre-was.0, and_right (is_inside m user) _ all, and_left (is_inside m user) _ all)
 
-pub returns-in-Request : goal.returns-in-Request
+pub returns-in-Ok : goal.returns-in-Ok
 unfolding says call_of account
-returns-in-Request c =
+returns-in-Ok c =
     let given = c.args in
     let most-policies-was = c.most_policies-most in
     let read-was = c.read-heard in
     let request-failed-was = c.request_failed in
     let m = c.args.m.now in
-    let user = c.in-Request.user in
-    let asked = c.in-Request.asked in
+    let user = c.in-Ok.q.user in
+    let asked = c.in-Ok.q.asked in
     let is : read (most_policies given.form) m ≡ request (record { user = bytes_of m user; ask = asks m asked }) =
-    ap (λ (n : ℕ). read n m) (sym most-policies-was.ensures.0) ∙ sym read-was.ensures.reading ∙ ap (says m) c.in-Request.is in
+    ap (λ (n : ℕ). read n m) (sym most-policies-was.ensures.0) ∙ sym read-was.ensures.reading ∙ ap (says m) c.in-Ok.is in
     λ host realm answer notice.
     request-failed-was.ensures ∙ was_read (lent given.form given.table.now) (call_of given.op m host realm answer notice given.wag) _ is

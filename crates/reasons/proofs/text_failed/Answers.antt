@@ -1,5 +1,5 @@
 -- The field has the code that its reader gives.
-use mathlib.Core.Path.{refl, sym, ◌∙◌}
+use mathlib.Core.Path.{refl, ◌∙◌}
 use Rattle.message.specs.ReadingAMessage.{avps, having, field_code}
 use Rattle.message.specs.Positions.{name_at}
 use Rattle.message.specs.Spans.{bytes_field}
@@ -11,6 +11,5 @@ unfolding bytes_field field_code
 returns c =
     let a = c.args in
     let f = bytes_field (name_at a.slot) a.required a.low a.high in
-    c.field_failed.ensures f (having (name_at a.slot) (avps a.m.now)) refl
-    ((c.text_field-g.ensures a.required).code ∙ sym c.code_in.ensures)
+    c.field_failed.ensures f (having (name_at a.slot) (avps a.m.now)) refl (c.text_field-g.ensures a.required).code
     ∙ field-one a.m.now f

@@ -1,11 +1,7 @@
--- Each share is read within the record.
-use Prim.Native.Nat.{◌-◌, ◌≤◌}
+-- The shares stay as many as they are.
 use mathlib.Core.Path.{◌≡◌}
 use lib.ListN.{length}
 use Rattle.replay_calls.proofs.read_shares.Given as goal
 
 abbrev pub invariant-loop-i : goal.invariant-loop-i
-invariant-loop-i l = (l.i ≤ l.n) × (length l.shares ≡ 17)
-
-abbrev pub decreases-loop-i : goal.decreases-loop-i
-decreases-loop-i l = l.n - l.i
+invariant-loop-i l = length l.shares ≡ 17

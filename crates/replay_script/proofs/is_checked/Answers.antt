@@ -9,4 +9,4 @@ pub returns : goal.returns
 returns c =
     let w = c.args.whole.now in
     let from-0 : length w - 4 - 0 ≡ length w - 4 = omega arith in
-    rw (c.digest.ensures.0, c.read32-expected.ensures, from-0)
+    rw (c.digest.ensures.0, c.from-expected.ensures, c.read32.ensures, from-0)

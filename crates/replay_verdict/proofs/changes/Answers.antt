@@ -21,25 +21,27 @@ returns-then-s-e c =
     let a = c.args in
     sym (changes-short l.left a.table.now a.s.now l.p (omega arith) (omega (arith, c.text_end-e.ensures.0))) ∙ l.invariant.1
 
-pub returns-then-not-agrees : goal.returns-then-not-agrees
-returns-then-not-agrees c =
+pub returns-then-not-is_ok : goal.returns-then-not-is_ok
+unfolding agreed
+returns-then-not-is_ok c =
     let l = c.loop-left in
     let a = c.args in
     let e = c.text_end-e in
     let n = c.number in
     let v = c.change-v.ensures in
-    let no = sym c.agrees.ensures ∙ c.if-not-agrees.true in
+    let no = sym c.is_ok.ensures.value ∙ c.if-not-is_ok.true in
     let other = sym (change-lent a.table.now a.s.now n.result l.p (l.p + 8) e.result n.ensures.0 (omega arith) e.ensures.0) ∙ (sym v ∙ no) in
     no ∙ (sym (changes-other l.left a.table.now a.s.now l.p (omega arith) (omega (arith, e.ensures.0)) other) ∙ l.invariant.1)
 
 pub loop-left-preserved : goal.loop-left-preserved
+unfolding agreed
 loop-left-preserved c =
     let l = c.loop-left in
     let a = c.args in
     let e = c.text_end-e in
     let n = c.number in
     let v = c.change-v.ensures in
-    let yes = sym c.agrees.ensures ∙ c.if-not-agrees.false in
+    let yes = sym c.is_ok.ensures.value ∙ c.if-not-is_ok.false in
     let stands = sym (change-lent a.table.now a.s.now n.result l.p (l.p + 8) e.result n.ensures.0 (omega arith) e.ensures.0) ∙ (sym v ∙ yes) in
     let turn = changes-turn l.left a.table.now a.s.now l.p (omega arith) (omega (arith, e.ensures.0)) stands in
     (omega arith, rw e.ensures.0 (sym turn ∙ l.invariant.1))

@@ -11,34 +11,33 @@ use Rattle.report.proofs.Loops.{next, none_left}
 use Rattle.report.proofs.Counting.{length-with, with_none, with-with, first-right, rest-right, first-held}
 use Rattle.report.proofs.count_all.Goals as goal
 
-pub loop-i-init : goal.loop-i-init
-loop-i-init c = (omega arith, c.requires.0, c.requires.1, refl)
+pub loop-t-init : goal.loop-t-init
+loop-t-init c = (c.requires.0, c.requires.1, refl)
 
 pub count_one-requires : goal.count_one-requires
 unfolding told_of
 count_one-requires c = let told = c.args.told.now in
-    let t = told_of (get_or told c.loop-i.i []) in
-    let list : told_by (drop c.loop-i.i told) ≡ t ∷ told_by (drop (c.loop-i.i + 1) told) = next told c.loop-i.i (omega arith) in
-    let right : every hour_right (t ∷ told_by (drop (c.loop-i.i + 1) told)) ≡ true = rw list at c.loop-i.invariant.2 in
-    let all : held (with c.loop-i.report (t ∷ told_by (drop (c.loop-i.i + 1) told))) ≡ true =
-    rw (← list, c.loop-i.invariant.3) c.requires.2 in
-    (c.loop-i.invariant.1, first-right t _ right, first-held c.loop-i.report t _ right all)
+    let t = told_of (get_or told c.loop-t.t-index []) in
+    let list : told_by (drop c.loop-t.t-index told) ≡ t ∷ told_by (drop (c.loop-t.t-index + 1) told) = next told c.loop-t.t-index (omega arith) in
+    let right : every hour_right (t ∷ told_by (drop (c.loop-t.t-index + 1) told)) ≡ true = rw list at c.loop-t.invariant.1 in
+    let all : held (with c.loop-t.report (t ∷ told_by (drop (c.loop-t.t-index + 1) told))) ≡ true =
+    rw (← list, c.loop-t.invariant.2) c.requires.2 in
+    (c.loop-t.invariant.0, first-right t _ right, first-held c.loop-t.report t _ right all)
 
-pub loop-i-preserved : goal.loop-i-preserved
-loop-i-preserved c = let told = c.args.told.now in
-    let t = told_of (get_or told c.loop-i.i []) in
-    let rest = told_by (drop (c.loop-i.i + 1) told) in
-    let list : told_by (drop c.loop-i.i told) ≡ t ∷ rest = next told c.loop-i.i (omega arith) in
-    let right : every hour_right (t ∷ rest) ≡ true = rw list at c.loop-i.invariant.2 in
-    let now-is : c.count_one.new.report ≡ with c.loop-i.report (t ∷ []) = c.count_one.ensures in
-    let onward : with c.loop-i.report (t ∷ rest) ≡ with c.args.report.now (told_by told) = rw list at c.loop-i.invariant.3 in (
-      omega arith,
-      ap length now-is ∙ length-with c.loop-i.report (t ∷ []),
+pub loop-t-preserved : goal.loop-t-preserved
+loop-t-preserved c = let told = c.args.told.now in
+    let t = told_of (get_or told c.loop-t.t-index []) in
+    let rest = told_by (drop (c.loop-t.t-index + 1) told) in
+    let list : told_by (drop c.loop-t.t-index told) ≡ t ∷ rest = next told c.loop-t.t-index (omega arith) in
+    let right : every hour_right (t ∷ rest) ≡ true = rw list at c.loop-t.invariant.1 in
+    let now-is : c.count_one.new.report ≡ with c.loop-t.report (t ∷ []) = c.count_one.ensures in
+    let onward : with c.loop-t.report (t ∷ rest) ≡ with c.args.report.now (told_by told) = rw list at c.loop-t.invariant.2 in (
+      ap length now-is ∙ length-with c.loop-t.report (t ∷ []),
       rest-right t rest right,
-      ap (λ (r : List ℕ). with r rest) now-is ∙ with-with c.loop-i.report (t ∷ []) rest ∙ onward,
+      ap (λ (r : List ℕ). with r rest) now-is ∙ with-with c.loop-t.report (t ∷ []) rest ∙ onward,
     )
 
 pub returns : goal.returns
 returns c = let told = c.args.told.now in
-    let none : told_by (drop c.loop-i.i told) ≡ [] = none_left told c.loop-i.i (omega arith) in
-    sym (with_none c.loop-i.report c.loop-i.invariant.1) ∙ rw none at c.loop-i.invariant.3
+    let none : told_by (drop c.loop-t.t-index told) ≡ [] = none_left told c.loop-t.t-index (omega arith) in
+    sym (with_none c.loop-t.report c.loop-t.invariant.0) ∙ rw none at c.loop-t.invariant.2

@@ -1,10 +1,7 @@
 -- The columns passed have a year that 64 bits hold.
-use Prim.Native.Nat.{ℕ, ◌-◌, ◌<◌, ◌≤◌}
+use Prim.Native.Nat.{ℕ, ◌<◌}
 use Rattle.report.specs.TheReport.{year, plus}
 use Rattle.report.proofs.holds_both.Given as goal
 
 abbrev pub invariant-loop-k : goal.invariant-loop-k
-invariant-loop-k l = (l.k ≤ 4) × ((j : ℕ) → j < l.k → year (plus l.report l.more) j < 18446744073709551616)
-
-abbrev pub decreases-loop-k : goal.decreases-loop-k
-decreases-loop-k l = 4 - l.k
+invariant-loop-k l = (j : ℕ) → j < l.k → year (plus l.report l.more) j < 18446744073709551616

@@ -27,8 +27,8 @@ loop-k-preserved c =
     let here = was-in _ (sym y.ensures ∙ c.if-not-year_holds.false) in
     let less : year (with a.report.now (told_by a.told.now)) k < 18446744073709551616 =
     omega (arith, here, year-with a.report.now (told_by a.told.now) k (omega arith) c.requires.1) in
-    (omega arith, below_more (λ (j : ℕ). year (with a.report.now (told_by a.told.now)) j < 18446744073709551616) k c.loop-k.invariant.1 less)
+    below_more (λ (j : ℕ). year (with a.report.now (told_by a.told.now)) j < 18446744073709551616) k c.loop-k.invariant less
 
 pub returns : goal.returns
 returns c =
-    sym (held-if _ (λ k q. c.loop-k.invariant.1 k (omega arith)))
+    sym (held-if _ (λ k q. c.loop-k.invariant k (omega arith)))

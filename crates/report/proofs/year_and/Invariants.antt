@@ -1,12 +1,9 @@
 -- What is summed so far and the hours that are left are the whole.
 use mathlib.Core.Path.{◌≡◌}
-use Prim.Native.Nat.{◌+◌, ◌-◌, ◌<◌, ◌≤◌}
+use Prim.Native.Nat.{◌+◌, ◌<◌}
 use Rattle.report.specs.TheReport.{year}
 use Rattle.report.proofs.Loops.{from_hour}
 use Rattle.report.proofs.year_and.Given as goal
 
 abbrev pub invariant-loop-hour : goal.invariant-loop-hour
-invariant-loop-hour l = (l.hour ≤ 24) × (l.sum + from_hour l.report l.k l.hour ≡ l.more + year l.report l.k) × (l.sum < 18446744073709551616)
-
-abbrev pub decreases-loop-hour : goal.decreases-loop-hour
-decreases-loop-hour l = 24 - l.hour
+invariant-loop-hour l = (l.sum + from_hour l.report l.k l.hour ≡ l.more + year l.report l.k) × (l.sum < 18446744073709551616)

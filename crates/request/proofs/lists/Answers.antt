@@ -1,60 +1,38 @@
 -- The five fields of both requests, then those of the command: each way out is a law of Listing.
-use mathlib.Core.Path.{◌≡◌, sym, ap, ◌∙◌}
-use Rattle.message.specs.ReadingAMessage.{command, avps, reading_code, request_of}
-use Rattle.message.specs.Spans.{failed_with}
-use Rattle.message.specs.declared.Told.TheVariants.{Refused}
-use Rattle.message.proofs.Listing.{heard-lists, listed-refused, lists-failed, lists-rest, other-command}
+use mathlib.Core.Path.{◌≡◌, refl, sym, ◌∙◌}
+use Rattle.std.specs.Prelude.{Ok}
+use Rattle.message.specs.ReadingAMessage.{command}
+use Rattle.message.specs.Failures.{failed_with}
+use Rattle.message.proofs.Listing.{lists-read, listed-refused, lists-failed, lists-rest, other-command}
 use Rattle.request.proofs.lists.Goals as goal
 
-pub proxies_seen-proxies-requires : goal.proxies_seen-proxies-requires
-proxies_seen-proxies-requires c =
+pub returns-in_err-from : goal.returns-in_err-from
+unfolding failed_with
+returns-in_err-from c =
+    let m = c.args.m.now in
     let p = c.requires in
-    (p.1, p.2, p.3)
+    lists-read c.args.most m _ (listed-refused _ c.from_residual.ensures.1 (lists-failed c.args.most m c.in_err-from.field-0.0 p.1 p.2 c.in_err-from.ensures.code))
 
-pub first_five-b-requires : goal.first_five-b-requires
-first_five-b-requires c =
+pub list_265-requires : goal.list_265-requires
+list_265-requires c =
+    let r = c.in_ok-from.ensures in
+    let s = c.in_ok-from.from in
     let p = c.requires in
-    (p.0, p.2, p.3)
-
-pub list_265-told-requires : goal.list_265-told-requires
-list_265-told-requires c =
-    let r = c.first_five-b.ensures in
-    let p = c.requires in
-    let s = c.in-Held.session in
-    let h = c.in-Held.host in
-    let l = c.in-Held.realm in
-    (p.3, r.session s h l c.in-Held.is, r.host s h l c.in-Held.is, r.realm s h l c.in-Held.is, p.0, p.2, p.4, p.5)
+    (p.3, r.session s refl, r.host s refl, r.realm s refl, p.0, p.2, p.4, p.5)
 
 pub returns-then-read24-eq265 : goal.returns-then-read24-eq265
 unfolding failed_with
 returns-then-read24-eq265 c =
     let m = c.args.m.now in
     let k : command m ≡ 265 = sym c.read24.ensures.0 ∙ c.if-read24-eq265.true in
-    let p = c.proxies_seen-proxies in
-    let z = lists-rest c.args.most m c.requires.1 c.requires.2 (c.first_five-b.ensures.code ∙ ap failed_with c.in-Held.is) in
-    heard-lists c.args.most m c.list_265-told.result p.result p.ensures (rw (z, k) c.list_265-told.ensures)
+    lists-read c.args.most m _ (rw (lists-rest c.args.most m c.requires.1 c.requires.2 c.in_ok-from.ensures.code, k) c.list_265.ensures)
 
-pub list_275-told-requires : goal.list_275-told-requires
-list_275-told-requires c =
-    let r = c.first_five-b.ensures in
-    (c.requires.3, r.session c.in-Held.session c.in-Held.host c.in-Held.realm c.in-Held.is)
+pub list_275-requires : goal.list_275-requires
+list_275-requires c = (c.requires.3, c.in_ok-from.ensures.session c.in_ok-from.from refl)
 
-pub returns-in-Failed : goal.returns-in-Failed
+pub returns : goal.returns
 unfolding failed_with
-returns-in-Failed c =
-    let m = c.args.m.now in
-    let r = c.first_five-b.ensures in
-    let p = c.proxies_seen-proxies in
-    let n = c.in-Failed.n in
-    heard-lists c.args.most m (Refused n) p.result p.ensures
-    (listed-refused m (reading_code c.args.most m) (request_of (command m) (avps m)) n
-    (lists-failed c.args.most m n c.requires.1 c.requires.2 (r.code ∙ ap failed_with c.in-Failed.is) (r.real n c.in-Failed.is)) (r.real n c.in-Failed.is))
-
-pub returns-else-read24-eq265 : goal.returns-else-read24-eq265
-unfolding failed_with
-returns-else-read24-eq265 c =
+returns c =
     let m = c.args.m.now in
     let k : command m ≡ 275 = other-command m c.requires.1 (λ q. c.if-read24-eq265.false (c.read24.ensures.0 ∙ q)) in
-    let p = c.proxies_seen-proxies in
-    let z = lists-rest c.args.most m c.requires.1 c.requires.2 (c.first_five-b.ensures.code ∙ ap failed_with c.in-Held.is) in
-    heard-lists c.args.most m c.list_275-told.result p.result p.ensures (rw (z, k) (c.list_275-told.ensures c.args.most))
+    lists-read c.args.most m _ (rw (lists-rest c.args.most m c.requires.1 c.requires.2 c.in_ok-from.ensures.code, k) (c.list_275.ensures c.args.most))

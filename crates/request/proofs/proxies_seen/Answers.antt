@@ -1,10 +1,6 @@
 -- The slot of Proxy-Info: `proxies-are`.
-use native.Mathlib.Omega.{arith}
 use Rattle.message.proofs.Listing.{proxies-are}
 use Rattle.request.proofs.proxies_seen.Goals as goal
-
-pub bounds-index-9 : goal.bounds-index-9
-bounds-index-9 c = omega (arith, c.requires.2.size)
 
 pub returns : goal.returns
 returns c =

@@ -1,23 +1,33 @@
 -- The header, the walk, then both lists.
-use mathlib.Core.Path.{refl, sym, ◌∙◌}
+use mathlib.Core.Path.{refl, sym}
 use Rattle.octets.specs.Texts.{zeros}
+use Rattle.message.specs.Failures.{failed_with}
 use Rattle.message.proofs.Listing.{heard-header, heard-walk}
 use Rattle.request.proofs.read.Goals as goal
 
-pub returns-then-h-ne0 : goal.returns-then-h-ne0
-returns-then-h-ne0 c = heard-header c.args.most c.args.m.now c.header_code-h.result (sym c.header_code-h.ensures) c.if-h-ne0.true
+pub returns-in-Err : goal.returns-in-Err
+unfolding failed_with
+returns-in-Err c = rw c.refused.ensures (heard-header c.args.most c.args.m.now c.in-Err.f (sym c.in-Err.ensures))
 
-pub gather-w-requires : goal.gather-w-requires
+pub gather-requires : goal.gather-requires
 unfolding zeros
-gather-w-requires c = (c.requires.0, refl)
+gather-requires c = (c.requires.0, refl)
 
-pub returns-then-w-ne0 : goal.returns-then-w-ne0
-returns-then-w-ne0 c =
-    let g = c.gather-w in
-    heard-walk c.args.most c.args.m.now g.result (sym c.header_code-h.ensures ∙ c.if-h-ne0.false) (sym g.ensures.0) c.if-w-ne0.true
+pub returns-in-Err-gather : goal.returns-in-Err-gather
+unfolding failed_with
+returns-in-Err-gather c =
+    rw c.refused-in-Err-gather.ensures
+    (heard-walk c.args.most c.args.m.now c.in-Err-gather.f (sym c.in_default.ensures) (sym c.in-Err-gather.ensures.0))
 
 pub lists-requires : goal.lists-requires
+unfolding failed_with
 lists-requires c =
-    let g = c.gather-w.ensures in
+    let g = c.in_default-gather.ensures in
     let p = c.requires in
-    (p.0, sym c.header_code-h.ensures ∙ c.if-h-ne0.false, sym g.0 ∙ c.if-w-ne0.false, g.1, p.1, p.2)
+    (p.0, sym c.in_default.ensures, sym g.0, g.1, p.1, p.2)
+
+pub proxies_seen-requires : goal.proxies_seen-requires
+unfolding failed_with
+proxies_seen-requires c =
+    let g = c.in_default-gather.ensures in
+    (sym c.in_default.ensures, sym g.0, g.1)

@@ -1,22 +1,13 @@
 -- In a message whose walk passed, the AVP at byte 20 is the first of the walk.
-use mathlib.Core.Path.{◌≡◌, sym, ◌∙◌}
-use Prim.Native.Nat.{ℕ}
+use mathlib.Core.Path.{sym, ◌∙◌}
 use lib.ListN.{drop}
 use lib.Seq.{get_or-drop}
-use lib.Dec.{eqb}
 use Rattle.message.specs.ReadingAMessage.{same_name, session_id}
 use Rattle.octets.specs.Numbers.{net32}
-use Rattle.octets.proofs.Lists.{by-test}
-use borrow.Author.Tests.{eqb-true, eqb-false, eq-eqb, ne_eqb}
+use Rattle.octets.proofs.Lists.{eqb_comm}
 use Rattle.message.proofs.Heads.{name-v, name-base, net32-drop}
 use Rattle.message.proofs.Listing.{starts-few, starts-one}
 use Rattle.request.proofs.starts.Goals as goal
-
-eqb-sym : (a b : ℕ) → eqb a b ≡ eqb b a
-eqb-sym a b =
-    by-test (eqb a b)
-    (λ t. t ∙ sym (eq-eqb b a (sym (eqb-true a b t))))
-    (λ t. t ∙ sym (ne_eqb b a (λ z. eqb-false a b t (sym z))))
 
 pub returns-then-m-lt28 : goal.returns-then-m-lt28
 returns-then-m-lt28 c = sym (starts-few c.args.m.now c.if-m-lt28.true)
@@ -32,6 +23,6 @@ unfolding same_name
 returns c =
     let m = c.args.m.now in
     rw c.read32.ensures
-    (eqb-sym (net32 m 20) 263
+    (eqb_comm (net32 m 20) 263
     ∙ sym (starts-one m session_id c.if-m-lt28.false c.requires.1
     ∙ rw (name-base (drop 20 m) (rw get_or-drop c.if-m-ge128.false), net32-drop 20 0 m)))

@@ -1,57 +1,43 @@
 -- The W-APN is required and policies are not: each way out gives the code of the first that fails, or what is asked.
-use borrow.Enum.Refused.{opened}
-use mathlib.Core.Path.{◌≡◌, refl, sym, ◌∙◌}
+use mathlib.Core.Path.{◌≡◌, refl, ap, ◌∙◌}
 use mathlib.Core.List.{List, [], ◌∷◌}
 use Prim.Native.Nat.{ℕ}
 use mathlib.Core.Bool.{true, false}
+use Rattle.std.specs.Prelude.{Ok}
 use Rattle.octets.specs.Choice.{first_of}
-use Rattle.message.specs.ReadingAMessage.{Avp, avps, field_code, label_field, texts_field, wlan_apn_id, routing_policy}
+use Rattle.message.specs.ReadingAMessage.{Avp, avps, field_code, label_field, texts_field, routing_policy}
 use Rattle.message.specs.Positions.{names, name_at}
-use Rattle.message.specs.Spans.{bytes_field, tunnel_code, tunnel_of}
-use Rattle.message.proofs.Listing.{above_zero, first-go, first-stop, go_on, stop, listed-refused, told-tunnel}
+use Rattle.message.specs.Spans.{bytes_field, tunnel_code}
+use Rattle.message.proofs.Listing.{go_on, stop, missing, routes-may-go, routes-stop, listed-refused, told-tunnel}
 use Rattle.request.proofs.tunnel_end.Goals as goal
-use Rattle.request.proofs.tunnel_end.Goals.{In-Found}
+use Rattle.request.proofs.tunnel_end.Goals.{In-Some}
 
-abbrev behind_label : ℕ → List Avp → List ℕ
-behind_label most xs = field_code xs (texts_field most routing_policy false) ∷ []
+abbrev behind_label : ℕ → List Avp → ℕ
+behind_label most xs = first_of (field_code xs (texts_field most routing_policy false) ∷ [])
 
-labelled : (p : In-Found) (most : ℕ) → tunnel_code most (avps p.args.m.now) ≡ first_of (behind_label most (avps p.args.m.now))
+after_label : (p : In-Some) (most : ℕ) → tunnel_code most (avps p.args.m.now) ≡ behind_label most (avps p.args.m.now)
 unfolding tunnel_code label_field bytes_field name_at names
-labelled p most =
-    let a = p.args in
-    let m = a.m.now in
-    go_on m (label_field wlan_apn_id true) (behind_label most (avps m)) p.text_field-g1.result p.in-Found.label
-    (p.text_field-g1.ensures true) p.in-Found.is
+after_label p most = go_on _ (p.in_ok-label.ensures true) p.in-Some.is
+
+pub returns-in_err-label : goal.returns-in_err-label
+unfolding tunnel_code label_field bytes_field name_at names
+returns-in_err-label c = λ most r. listed-refused _ c.from_residual.ensures.1 (stop _ (c.in_err-label.ensures true))
 
 pub returns-in_default : goal.returns-in_default
 unfolding tunnel_code label_field bytes_field name_at names
-returns-in_default c =
-    λ most e.
-    let a = c.args in
-    let m = c.args.m.now in
-    let st = stop m (label_field wlan_apn_id true) (behind_label most (avps m)) c.text_field-g1.result c.refusal.result
-    (c.text_field-g1.ensures true) refl (opened c.in_default.in_default-own.keys2) c.refusal.ensures in
-    listed-refused m (tunnel_code most (avps m)) (tunnel_of a.visited (avps m)) c.refusal.result st.0 st.1
+returns-in_default c = λ most r. listed-refused _ refl (missing _ (c.in_ok-label.ensures true) refl c.in_default.is)
 
-pub returns-then-wrong-ne0 : goal.returns-then-wrong-ne0
-returns-then-wrong-ne0 c =
-    let w = goal.at.returns-then-wrong-ne0 c in
-    λ most e.
-    let a = c.args in
-    let m = c.args.m.now in
-    let h = above_zero a.wrong c.if-wrong-ne0.true in
-    listed-refused m (tunnel_code most (avps m)) (tunnel_of a.visited (avps m)) a.wrong
-    (labelled w.In-Found most ∙ first-stop (field_code (avps m) (texts_field most routing_policy false)) a.wrong [] (sym e) h) h
+pub returns-in_err-routes : goal.returns-in_err-routes
+returns-in_err-routes c =
+    let w = goal.at.returns-in_err-routes c in
+    λ most r.
+    listed-refused _ c.from_residual-in_err-routes.ensures.1 (after_label w.In-Some most ∙ routes-stop [] false (rw c.in_err-routes.was at r))
 
 pub returns : goal.returns
-unfolding label_field bytes_field name_at names first_of
+unfolding first_of bytes_field name_at names
 returns c =
     let w = goal.at.returns c in
-    λ most e.
-    let a = c.args in
-    let m = c.args.m.now in
-    let label = c.in-Found.label in
-    let z : field_code (avps m) (texts_field most routing_policy false) ≡ 0 = sym e ∙ c.if-wrong-ne0.false in
-    told-tunnel most m a.user a.session a.host a.realm label a.visited c.requires.1 c.requires.2 c.requires.3 c.requires.4
-    ((c.text_field-g1.ensures true).found label c.in-Found.is)
-    (labelled w.In-Found most ∙ first-go (field_code (avps m) (texts_field most routing_policy false)) [] z)
+    λ most r.
+    let p = c.requires in
+    told-tunnel most p.1 p.2 p.3 p.4 ((c.in_ok-label.ensures true).found _ (ap Ok c.in-Some.is))
+    (after_label w.In-Some most ∙ routes-may-go [] (rw c.in_ok-routes.was at r))

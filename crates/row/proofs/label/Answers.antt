@@ -9,5 +9,5 @@ unfolding read_entry
 returns c =
     let given = c.args in
     let asked = c.requires in
-    let size = c.long in
-    label-lent given.room.now given.i size.result size.ensures.0 (omega (arith, size.ensures.0, asked.2))
+    let size = c.from in
+    label-lent given.room.now given.i size.result size.ensures (omega (arith, size.ensures, asked.2))

@@ -45,9 +45,9 @@ pub overflow_mul-a : goal.overflow_mul-a
 overflow_mul-a c =
     let given = c.args in
     let w = c.row_length-width in
-    let i = c.in-At.i in
+    let i = c.in-Some.i in
     let here = c.lookup in
-    let at = c.in-At.is in
+    let at = c.in-Some.is in
     let ends : row_length given.form * i + row_length given.form ≤ length given.table.now = omega (arith, here.ensures.1, ap (row_end given.form) at) in
     omega (arith, ap (λ (x : ℕ). x * i) w.ensures, w.ensures)
 
@@ -55,9 +55,9 @@ pub overflow_add-e : goal.overflow_add-e
 overflow_add-e c =
     let given = c.args in
     let w = c.row_length-width in
-    let i = c.in-At.i in
+    let i = c.in-Some.i in
     let here = c.lookup in
-    let at = c.in-At.is in
+    let at = c.in-Some.is in
     let ends : row_length given.form * i + row_length given.form ≤ length given.table.now = omega (arith, here.ensures.1, ap (row_end given.form) at) in
     omega (arith, ap (λ (x : ℕ). x * i) w.ensures, w.ensures)
 
@@ -65,9 +65,9 @@ pub slice_bounds-entry_number-end : goal.slice_bounds-entry_number-end
 slice_bounds-entry_number-end c =
     let given = c.args in
     let w = c.row_length-width in
-    let i = c.in-At.i in
+    let i = c.in-Some.i in
     let here = c.lookup in
-    let at = c.in-At.is in
+    let at = c.in-Some.is in
     let ends : row_length given.form * i + row_length given.form ≤ length given.table.now = omega (arith, here.ensures.1, ap (row_end given.form) at) in
     omega (arith, ap (λ (x : ℕ). x * i) w.ensures, w.ensures)
 
@@ -76,9 +76,9 @@ entry_number-m-requires c =
     let given = c.args in
     let first = sym c.number_for-n.ensures ∙ c.if-n-ne0.false in
     let w = c.row_length-width in
-    let i = c.in-At.i in
+    let i = c.in-Some.i in
     let here = c.lookup in
-    let at = c.in-At.is in
+    let at = c.in-Some.is in
     let ends : row_length given.form * i + row_length given.form ≤ length given.table.now = omega (arith, here.ensures.1, ap (row_end given.form) at) in
     let t : Table = lent given.form given.table.now in
     lent-is-row given.form w.result given.table.now i w.ensures ends (form_in t (first-table t given.op first))
@@ -91,9 +91,9 @@ returns-then-m-ne0 c =
     let a : Account = record { operator = given.op; name = given.name.now } in
     let e : Entry = record { label = given.label.now; flags = given.flags; limit = given.limit } in
     let w = c.row_length-width in
-    let i = c.in-At.i in
+    let i = c.in-Some.i in
     let here = c.lookup in
-    let at = c.in-At.is in
+    let at = c.in-Some.is in
     let ends : row_length given.form * i + row_length given.form ≤ length given.table.now = omega (arith, here.ensures.1, ap (row_end given.form) at) in
     let said : c.entry_number-m.result ≡ entry_number (row_at t i) e =
     c.entry_number-m.ensures ∙ ap (λ (r : List ℕ). entry_number r e) (lent_row t w.result (w.result * i) i w.ensures (ap (λ (x : ℕ). x * i) w.ensures)) in
@@ -107,9 +107,9 @@ add_entry-requires c =
     let a : Account = record { operator = given.op; name = given.name.now } in
     let e : Entry = record { label = given.label.now; flags = given.flags; limit = given.limit } in
     let w = c.row_length-width in
-    let i = c.in-At.i in
+    let i = c.in-Some.i in
     let here = c.lookup in
-    let at = c.in-At.is in
+    let at = c.in-Some.is in
     let ends : row_length given.form * i + row_length given.form ≤ length given.table.now = omega (arith, here.ensures.1, ap (row_end given.form) at) in
     let said : c.entry_number-m.result ≡ entry_number (row_at t i) e =
     c.entry_number-m.ensures ∙ ap (λ (r : List ℕ). entry_number r e) (lent_row t w.result (w.result * i) i w.ensures (ap (λ (x : ℕ). x * i) w.ensures)) in
@@ -124,9 +124,9 @@ returns c =
     let a : Account = record { operator = given.op; name = given.name.now } in
     let e : Entry = record { label = given.label.now; flags = given.flags; limit = given.limit } in
     let w = c.row_length-width in
-    let i = c.in-At.i in
+    let i = c.in-Some.i in
     let here = c.lookup in
-    let at = c.in-At.is in
+    let at = c.in-Some.is in
     let ends : row_length given.form * i + row_length given.form ≤ length given.table.now = omega (arith, here.ensures.1, ap (row_end given.form) at) in
     let said : c.entry_number-m.result ≡ entry_number (row_at t i) e =
     c.entry_number-m.ensures ∙ ap (λ (r : List ℕ). entry_number r e) (lent_row t w.result (w.result * i) i w.ensures (ap (λ (x : ℕ). x * i) w.ensures)) in

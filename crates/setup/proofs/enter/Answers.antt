@@ -44,7 +44,7 @@ enter_row-requires c =
     let enter-number-was = c.enter_number-n in
     let test1 = c.if-n-ne0 in
     let passed = share-passed (lent given.form given.table.now) given.shares.now (record { operator = given.op; name = given.name.now }) (sym enter-number-was.ensures ∙ test1.false) in
-    (form-top (lent given.form given.table.now) (first-table (lent given.form given.table.now) given.op passed.first), omega (arith, first-zero-row-was.ensures.1, ap (row_end given.form) c.in-At.is), name-length given.name.now passed.name-fits)
+    (form-top (lent given.form given.table.now) (first-table (lent given.form given.table.now) given.op passed.first), omega (arith, first-zero-row-was.ensures.1, ap (row_end given.form) c.in-Some.is), name-length given.name.now passed.name-fits)
 
 pub returns : goal.returns
 returns c =
@@ -53,4 +53,4 @@ returns c =
     let enter-number-was = c.enter_number-n in
     let test1 = c.if-n-ne0 in
     let first-zero-row-was = c.first_zero_row in
-    enter-done (lent given.form given.table.now) given.shares.now (record { operator = given.op; name = given.name.now }) c.in-At.i (lent given.form enter-row-was.new.table) (sym enter-number-was.ensures ∙ test1.false) (sym first-zero-row-was.ensures.0 ∙ ap found c.in-At.is) enter-row-was.ensures
+    enter-done (lent given.form given.table.now) given.shares.now (record { operator = given.op; name = given.name.now }) c.in-Some.i (lent given.form enter-row-was.new.table) (sym enter-number-was.ensures ∙ test1.false) (sym first-zero-row-was.ensures.0 ∙ ap found c.in-Some.is) enter-row-was.ensures

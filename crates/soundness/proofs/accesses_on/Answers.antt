@@ -9,7 +9,7 @@ use Rattle.soundness.proofs.Line.{line_low, line-most, place-high}
 use Rattle.soundness.proofs.Accesses.{at_entry, is_at, keep-hit, keep-miss, keep-over, on_line}
 use Rattle.row.proofs.Entries.{row-least}
 use Rattle.soundness.proofs.accesses_on.Goals as goal
-use Rattle.soundness.proofs.accesses_on.Goals.{then-long-e, else-long-e}
+use Rattle.soundness.proofs.accesses_on.Goals.{then-from-e, else-from-e}
 
 pub accesses_in_use-n-requires : goal.accesses_in_use-n-requires
 accesses_in_use-n-requires c =
@@ -37,15 +37,15 @@ pub loop-i-preserved : goal.loop-i-preserved
 loop-i-preserved c =
     let loop-was = c.loop-i in
     let given = c.args in
-    let long-was = c.long in
+    let from-was = c.from in
     let line-place-was = c.line_place in
     let entry-of-was = c.entry_of-on in
-    let test1 = c.if-long-e in
+    let test1 = c.if-from-e in
     let inside : loop-was.i < length (order_line given.r.now) = omega arith in
-    let this : is_at given.r.now given.e (get_or (order_line given.r.now) loop-was.i 0) ≡ eqb long-was.result given.e = at_entry given.r.now loop-was.i line-place-was.result long-was.result given.e inside line-place-was.ensures.0 (long-was.ensures.0 ∙ entry-of-was.ensures) in
+    let this : is_at given.r.now given.e (get_or (order_line given.r.now) loop-was.i 0) ≡ eqb from-was.result given.e = at_entry given.r.now loop-was.i line-place-was.result from-was.result given.e inside line-place-was.ensures.0 (from-was.ensures ∙ entry-of-was.ensures) in
     elim test1.branch [
-      | then-long-e w ↦ let hit = keep-hit (is_at given.r.now given.e) (order_line given.r.now) loop-was.i inside (this ∙ eq-eqb long-was.result given.e w.if-long-e.true) in (omega arith, omega arith, omega arith)
-      | else-long-e w ↦ let miss = keep-miss (is_at given.r.now given.e) (order_line given.r.now) loop-was.i inside (this ∙ ne_eqb long-was.result given.e w.if-long-e.false) in (omega arith, omega arith, omega arith)
+      | then-from-e w ↦ let hit = keep-hit (is_at given.r.now given.e) (order_line given.r.now) loop-was.i inside (this ∙ eq-eqb from-was.result given.e w.if-from-e.true) in (omega arith, omega arith)
+      | else-from-e w ↦ let miss = keep-miss (is_at given.r.now given.e) (order_line given.r.now) loop-was.i inside (this ∙ ne_eqb from-was.result given.e w.if-from-e.false) in (omega arith, omega arith)
     ]
 
 pub returns : goal.returns

@@ -92,12 +92,12 @@ under_limits-requires c =
     let pre-was = c.requires in
     let line-exact-was = c.line_exact in
     let test2 = c.if-not-line_exact in
-    let long-was = c.long in
+    let from-was = c.from in
     let entry-count-was = c.entry_count-n in
     let given = c.args in
     let head-sound-was = c.head_sound in
     let test1 = c.if-not-head_sound in
-    (pre-was, passes_on line-exact-was.ensures test2.false, long-was.ensures.0 ∙ entry-count-was.ensures, omega (arith, few-entries given.r.now (passes_on head-sound-was.ensures test1.false), long-was.ensures.0 ∙ entry-count-was.ensures))
+    (pre-was, passes_on line-exact-was.ensures test2.false, from-was.ensures ∙ entry-count-was.ensures, omega (arith, few-entries given.r.now (passes_on head-sound-was.ensures test1.false), from-was.ensures ∙ entry-count-was.ensures))
 
 pub returns-then-not-under_limits : goal.returns-then-not-under_limits
 unfolding tested

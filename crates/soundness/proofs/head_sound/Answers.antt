@@ -36,14 +36,14 @@ entries_form-requires c =
     let head-form-was = c.head_form in
     let head-was = c.head in
     let test1 = c.if-not-head_form in
-    let long-was = c.long-n in
+    let from-was = c.from-n in
     let entry-count-was = c.entry_count in
-    (ap length entries-room-was.ensures ∙ length-room given.r.now pre-was, omega (arith, head-count given.r.now (passes_on (head-form-was.ensures ∙ ap head_form head-was.ensures) test1.false), long-was.ensures.0 ∙ entry-count-was.ensures))
+    (ap length entries-room-was.ensures ∙ length-room given.r.now pre-was, omega (arith, head-count given.r.now (passes_on (head-form-was.ensures ∙ ap head_form head-was.ensures) test1.false), from-was.ensures ∙ entry-count-was.ensures))
 
 pub returns-then-not-entries_form : goal.returns-then-not-entries_form
 returns-then-not-entries_form c =
     let given = c.args in
-    let long-was = c.long-n in
+    let from-was = c.from-n in
     let entry-count-was = c.entry_count in
     let head-form-was = c.head_form in
     let head-was = c.head in
@@ -51,7 +51,7 @@ returns-then-not-entries_form c =
     let entries-form-was = c.entries_form in
     let entries-room-was = c.entries_room-entries in
     let test2 = c.if-not-entries_form in
-    rw (head-sound-is given.r.now long-was.result (long-was.ensures.0 ∙ entry-count-was.ensures), passes_on (head-form-was.ensures ∙ ap head_form head-was.ensures) test1.false, fails (entries-form-was.ensures ∙ ap (entries_form long-was.result) entries-room-was.ensures) test2.true)
+    rw (head-sound-is given.r.now from-was.result (from-was.ensures ∙ entry-count-was.ensures), passes_on (head-form-was.ensures ∙ ap head_form head-was.ensures) test1.false, fails (entries-form-was.ensures ∙ ap (entries_form from-was.result) entries-room-was.ensures) test2.true)
 
 pub labels_differ-requires : goal.labels_differ-requires
 labels_differ-requires c =
@@ -61,16 +61,16 @@ labels_differ-requires c =
     let head-form-was = c.head_form in
     let head-was = c.head in
     let test1 = c.if-not-head_form in
-    let long-was = c.long-n in
+    let from-was = c.from-n in
     let entry-count-was = c.entry_count in
     let entries-form-was = c.entries_form in
     let test2 = c.if-not-entries_form in
-    (ap length entries-room-was.ensures ∙ length-room given.r.now pre-was, omega (arith, head-count given.r.now (passes_on (head-form-was.ensures ∙ ap head_form head-was.ensures) test1.false), long-was.ensures.0 ∙ entry-count-was.ensures), passes_on entries-form-was.ensures test2.false)
+    (ap length entries-room-was.ensures ∙ length-room given.r.now pre-was, omega (arith, head-count given.r.now (passes_on (head-form-was.ensures ∙ ap head_form head-was.ensures) test1.false), from-was.ensures ∙ entry-count-was.ensures), passes_on entries-form-was.ensures test2.false)
 
 pub returns-then-not-labels_differ : goal.returns-then-not-labels_differ
 returns-then-not-labels_differ c =
     let given = c.args in
-    let long-was = c.long-n in
+    let from-was = c.from-n in
     let entry-count-was = c.entry_count in
     let head-form-was = c.head_form in
     let head-was = c.head in
@@ -80,7 +80,7 @@ returns-then-not-labels_differ c =
     let test2 = c.if-not-entries_form in
     let labels-differ-was = c.labels_differ in
     let test3 = c.if-not-labels_differ in
-    rw (head-sound-is given.r.now long-was.result (long-was.ensures.0 ∙ entry-count-was.ensures), passes_on (head-form-was.ensures ∙ ap head_form head-was.ensures) test1.false, passes_on (entries-form-was.ensures ∙ ap (entries_form long-was.result) entries-room-was.ensures) test2.false, fails (labels-differ-was.ensures ∙ ap (λ (t : List ℕ). distinct same_label (labels (read_entries long-was.result t))) entries-room-was.ensures) test3.true)
+    rw (head-sound-is given.r.now from-was.result (from-was.ensures ∙ entry-count-was.ensures), passes_on (head-form-was.ensures ∙ ap head_form head-was.ensures) test1.false, passes_on (entries-form-was.ensures ∙ ap (entries_form from-was.result) entries-room-was.ensures) test2.false, fails (labels-differ-was.ensures ∙ ap (λ (t : List ℕ). distinct same_label (labels (read_entries from-was.result t))) entries-room-was.ensures) test3.true)
 
 pub limits_sum-requires : goal.limits_sum-requires
 limits_sum-requires c =
@@ -90,14 +90,14 @@ limits_sum-requires c =
     let head-form-was = c.head_form in
     let head-was = c.head in
     let test1 = c.if-not-head_form in
-    let long-was = c.long-n in
+    let from-was = c.from-n in
     let entry-count-was = c.entry_count in
-    (ap length entries-room-was.ensures ∙ length-room given.r.now pre-was, omega (arith, head-count given.r.now (passes_on (head-form-was.ensures ∙ ap head_form head-was.ensures) test1.false), long-was.ensures.0 ∙ entry-count-was.ensures))
+    (ap length entries-room-was.ensures ∙ length-room given.r.now pre-was, omega (arith, head-count given.r.now (passes_on (head-form-was.ensures ∙ ap head_form head-was.ensures) test1.false), from-was.ensures ∙ entry-count-was.ensures))
 
 pub returns : goal.returns
 returns c =
     let given = c.args in
-    let long-was = c.long-n in
+    let from-was = c.from-n in
     let entry-count-was = c.entry_count in
     let head-form-was = c.head_form in
     let head-was = c.head in
@@ -108,5 +108,5 @@ returns c =
     let labels-differ-was = c.labels_differ in
     let test3 = c.if-not-labels_differ in
     let limits-sum-was = c.limits_sum in
-    rw (head-sound-is given.r.now long-was.result (long-was.ensures.0 ∙ entry-count-was.ensures), passes_on (head-form-was.ensures ∙ ap head_form head-was.ensures) test1.false, passes_on (entries-form-was.ensures ∙ ap (entries_form long-was.result) entries-room-was.ensures) test2.false, passes_on (labels-differ-was.ensures ∙ ap (λ (t : List ℕ). distinct same_label (labels (read_entries long-was.result t))) entries-room-was.ensures) test3.false)
-    (ap (λ (k : ℕ). leb k 8) (limits-sum-was.ensures.0 ∙ ap (λ (t : List ℕ). sum_of (limits (read_entries long-was.result t))) entries-room-was.ensures))
+    rw (head-sound-is given.r.now from-was.result (from-was.ensures ∙ entry-count-was.ensures), passes_on (head-form-was.ensures ∙ ap head_form head-was.ensures) test1.false, passes_on (entries-form-was.ensures ∙ ap (entries_form from-was.result) entries-room-was.ensures) test2.false, passes_on (labels-differ-was.ensures ∙ ap (λ (t : List ℕ). distinct same_label (labels (read_entries from-was.result t))) entries-room-was.ensures) test3.false)
+    (ap (λ (k : ℕ). leb k 8) (limits-sum-was.ensures.0 ∙ ap (λ (t : List ℕ). sum_of (limits (read_entries from-was.result t))) entries-room-was.ensures))

@@ -17,7 +17,7 @@ loop-i-init c =
     let given = c.args in
     let line-room-was = c.line_room in
     let whole : line-length-was.result ≡ length (order_line given.r.now) = line-length-was.ensures.0 ∙ ap (λ (t : List ℕ). length (up_to0 t)) line-room-was.ensures in
-    (omega arith, whole, omega (arith, line-most given.r.now), used-none, refl, refl)
+    (whole, omega (arith, line-most given.r.now), used-none, refl, refl)
 
 pub line_place-k-requires : goal.line_place-k-requires
 line_place-k-requires c =
@@ -48,7 +48,7 @@ returns-then-in_use c =
     let this : get_or (order_line given.r.now) loop-was.i 0 ≡ line-place-was.result = line_at given.r.now loop-was.i (omega arith) ∙ sym line-place-was.ensures.0 in
     let low : 1 ≤ line-place-was.result = omega (arith, line_low given.r.now loop-was.i (omega arith), line-place-was.ensures.0) in
     let was : eqb (loop-was.used / 2 ^ (line-place-was.result - 1) % 2) 1 ≡ true = sym in-use-was.ensures ∙ test2.true in
-    let set-already : eqb (used_bits (take loop-was.i (order_line given.r.now)) / 2 ^ (line-place-was.result - 1) % 2) 1 ≡ true = rw loop-was.invariant.3 at was in
+    let set-already : eqb (used_bits (take loop-was.i (order_line given.r.now)) / 2 ^ (line-place-was.result - 1) % 2) 1 ≡ true = rw loop-was.invariant.2 at was in
     line-twice given.r.now loop-was.i (omega arith) (rw this (sym (used-bit (take loop-was.i (order_line given.r.now)) line-place-was.result low (omega arith)) ∙ set-already))
 
 pub with_place-used-requires : goal.with_place-used-requires
@@ -70,12 +70,12 @@ loop-i-preserved c =
     let test2 = c.if-in_use in
     let this : get_or (order_line given.r.now) loop-was.i 0 ≡ line-place-was.result = line_at given.r.now loop-was.i (omega arith) ∙ sym line-place-was.ensures.0 in
     let low : 1 ≤ line-place-was.result = omega (arith, line_low given.r.now loop-was.i (omega arith), line-place-was.ensures.0) in
-    let next = line-turn (order_line given.r.now) loop-was.i loop-was.used with-place-was.result (omega arith) (rw this low) (omega arith) loop-was.invariant.3 (rw this (sym in-use-was.ensures ∙ test2.false)) (rw this with-place-was.ensures) loop-was.invariant.4 loop-was.invariant.5 in
-    (omega arith, loop-was.invariant.1, omega arith, next.0, next.1, next.2)
+    let next = line-turn (order_line given.r.now) loop-was.i loop-was.used with-place-was.result (omega arith) (rw this low) (omega arith) loop-was.invariant.2 (rw this (sym in-use-was.ensures ∙ test2.false)) (rw this with-place-was.ensures) loop-was.invariant.3 loop-was.invariant.4 in
+    (loop-was.invariant.0, omega arith, next.0, next.1, next.2)
 
 pub returns : goal.returns
 returns c =
     let loop-was = c.loop-i in
     let used-bits-was = c.used_bits in
     let given = c.args in
-    ap (λ (x : ℕ). eqb x loop-was.used) used-bits-was.ensures ∙ line-end given.r.now loop-was.i loop-was.used (omega arith) loop-was.invariant.3 loop-was.invariant.4 loop-was.invariant.5
+    ap (λ (x : ℕ). eqb x loop-was.used) used-bits-was.ensures ∙ line-end given.r.now loop-was.i loop-was.used (omega arith) loop-was.invariant.2 loop-was.invariant.3 loop-was.invariant.4

@@ -26,11 +26,6 @@ session-this-requires c =
     let line-place-was = c.line_place in
     (pre-was.0, omega (arith, line_low given.r.now given.i (omega arith), line-place-was.ensures.0), omega (arith, place-high given.r.now given.i pre-was.1 (omega arith), line-place-was.ensures.0))
 
-pub overflow_add-j : goal.overflow_add-j
-overflow_add-j c =
-    let given = c.args in
-    omega (arith, line-most given.r.now)
-
 pub line_place-requires-in-loop-j : goal.line_place-requires-in-loop-j
 line_place-requires-in-loop-j c =
     let pre-was = c.requires in
@@ -59,12 +54,7 @@ returns-then-same_bytes c =
     let said : same-bytes-was.result ≡ same (get_or all given.i []) (get_or all loop-was.j []) =
     same-bytes-was.ensures ∙ ap (λ (t : List ℕ). same t session2-was.result.now) (session-was.ensures ∙ session-at given.r.now given.i line-place-was.result (omega arith) line-place-was.ensures.0)
     ∙ ap (same (get_or all given.i [])) (session2-was.ensures ∙ session-at given.r.now loop-was.j line-place2-was.result (omega arith) line-place2-was.ensures.0) in
-    sym (every-out [] (λ y. not (same (get_or all given.i []) y)) all loop-was.j (omega (arith, length-sessions given.r.now)) (ap not (sym said ∙ test1.true))) ∙ loop-was.invariant.2
-
-pub overflow_add-j-in-loop-j : goal.overflow_add-j-in-loop-j
-overflow_add-j-in-loop-j c =
-    let given = c.args in
-    omega (arith, line-most given.r.now)
+    sym (every-out [] (λ y. not (same (get_or all given.i []) y)) all loop-was.j (omega (arith, length-sessions given.r.now)) (ap not (sym said ∙ test1.true))) ∙ loop-was.invariant
 
 pub loop-j-preserved : goal.loop-j-preserved
 loop-j-preserved c =
@@ -80,11 +70,11 @@ loop-j-preserved c =
     let said : same-bytes-was.result ≡ same (get_or all given.i []) (get_or all loop-was.j []) =
     same-bytes-was.ensures ∙ ap (λ (t : List ℕ). same t session2-was.result.now) (session-was.ensures ∙ session-at given.r.now given.i line-place-was.result (omega arith) line-place-was.ensures.0)
     ∙ ap (same (get_or all given.i [])) (session2-was.ensures ∙ session-at given.r.now loop-was.j line-place2-was.result (omega arith) line-place2-was.ensures.0) in
-    (omega arith, omega arith, every-on-true [] (λ y. not (same (get_or all given.i []) y)) all loop-was.j (omega (arith, length-sessions given.r.now)) (ap not (sym said ∙ test1.false)) ∙ loop-was.invariant.2)
+    (every-on-true [] (λ y. not (same (get_or all given.i []) y)) all loop-was.j (omega (arith, length-sessions given.r.now)) (ap not (sym said ∙ test1.false)) ∙ loop-was.invariant)
 
 pub returns : goal.returns
 returns c =
     let given = c.args in
     let loop-was = c.loop-j in
     let all : List (List ℕ) = sessions (read_row given.r.now).accesses in
-    sym (every-end [] (λ y. not (same (get_or all given.i []) y)) all loop-was.j (omega (arith, length-sessions given.r.now))) ∙ loop-was.invariant.2
+    sym (every-end [] (λ y. not (same (get_or all given.i []) y)) all loop-was.j (omega (arith, length-sessions given.r.now))) ∙ loop-was.invariant

@@ -2,7 +2,7 @@
 use mathlib.Core.Path.{◌≡◌}
 use mathlib.Core.Bool.{not}
 use mathlib.Core.List.{[]}
-use Prim.Native.Nat.{◌+◌, ◌-◌, ◌<◌, ◌≤◌}
+use Prim.Native.Nat.{◌+◌}
 use lib.ListN.{drop, get_or}
 use Rattle.octets.specs.Lists.{every}
 use Rattle.octets.specs.Texts.{same}
@@ -11,7 +11,4 @@ use Rattle.table.specs.TheTable.{read_row}
 use Rattle.soundness.proofs.session_once.Given as goal
 
 abbrev pub invariant-loop-j : goal.invariant-loop-j
-invariant-loop-j l = (l.i < l.j) × (l.j ≤ l.n) × (every (λ y. not (same (get_or (sessions (read_row l.r).accesses) l.i []) y)) (drop l.j (sessions (read_row l.r).accesses)) ≡ every (λ y. not (same (get_or (sessions (read_row l.r).accesses) l.i []) y)) (drop (l.i + 1) (sessions (read_row l.r).accesses)))
-
-abbrev pub decreases-loop-j : goal.decreases-loop-j
-decreases-loop-j l = l.n - l.j
+invariant-loop-j l = (every (λ y. not (same (get_or (sessions (read_row l.r).accesses) l.i []) y)) (drop l.j (sessions (read_row l.r).accesses)) ≡ every (λ y. not (same (get_or (sessions (read_row l.r).accesses) l.i []) y)) (drop (l.i + 1) (sessions (read_row l.r).accesses)))

@@ -35,7 +35,7 @@ loop-i-preserved c =
     let accesses-in-use-was = c.accesses_in_use-n in
     let all : List (List ℕ) = sessions (read_row given.r.now).accesses in
     let said : every (λ y. not (same (get_or all loop-was.i []) y)) (drop (loop-was.i + 1) all) ≡ true = passes_on session-once-was.ensures test1.false in
-    (omega arith, sym (distinct-turn [] same all loop-was.i (omega (arith, length-sessions given.r.now, accesses-in-use-was.ensures.0)) ∙ rw said) ∙ loop-was.invariant.1)
+    (sym (distinct-turn [] same all loop-was.i (omega (arith, length-sessions given.r.now, accesses-in-use-was.ensures.0)) ∙ rw said) ∙ loop-was.invariant)
 
 pub returns-then-not-session_once : goal.returns-then-not-session_once
 returns-then-not-session_once c =
@@ -46,7 +46,7 @@ returns-then-not-session_once c =
     let accesses-in-use-was = c.accesses_in_use-n in
     let all : List (List ℕ) = sessions (read_row given.r.now).accesses in
     let said : every (λ y. not (same (get_or all loop-was.i []) y)) (drop (loop-was.i + 1) all) ≡ false = fails session-once-was.ensures test1.true in
-    sym (distinct-turn [] same all loop-was.i (omega (arith, length-sessions given.r.now, accesses-in-use-was.ensures.0)) ∙ rw said) ∙ loop-was.invariant.1
+    sym (distinct-turn [] same all loop-was.i (omega (arith, length-sessions given.r.now, accesses-in-use-was.ensures.0)) ∙ rw said) ∙ loop-was.invariant
 
 pub returns : goal.returns
 returns c =
@@ -54,4 +54,4 @@ returns c =
     let loop-was = c.loop-i in
     let accesses-in-use-was = c.accesses_in_use-n in
     let all : List (List ℕ) = sessions (read_row given.r.now).accesses in
-    sym (distinct-end [] same all loop-was.i (omega (arith, length-sessions given.r.now, accesses-in-use-was.ensures.0))) ∙ loop-was.invariant.1
+    sym (distinct-end [] same all loop-was.i (omega (arith, length-sessions given.r.now, accesses-in-use-was.ensures.0))) ∙ loop-was.invariant

@@ -10,11 +10,11 @@ loop-k-init c = (omega arith, omega arith, omega arith, omega arith, omega arith
 
 pub loop-k-preserved : goal.loop-k-preserved
 loop-k-preserved c =
-    let half-was = c.half-a in
+    let from-was = c.from-a in
     let given = c.args in
     let loop-was = c.loop-k in
-    let this : half-was.result ≡ get_or given.s.now (given.j + 32 * loop-was.k) 0 = half-was.ensures.0 ∙ ap (λ (i : ℕ). get_or given.s.now i 0) loop-was.invariant.1 in
-    (omega arith, omega arith, omega (arith, half-was.ensures.1), omega (arith, half-was.ensures.1), column-turn given.s.now given.j loop-was.k loop-was.a half-was.result (omega arith) this ∙ loop-was.invariant.4, column-turn2 given.s.now given.j loop-was.k loop-was.a loop-was.b half-was.result (omega arith) this ∙ loop-was.invariant.5)
+    let this : from-was.result ≡ get_or given.s.now (given.j + 32 * loop-was.k) 0 = from-was.ensures ∙ ap (λ (i : ℕ). get_or given.s.now i 0) loop-was.invariant.1 in
+    (omega arith, omega arith, omega (arith, from-was.ensures, c.type_inv.s loop-was.at), omega (arith, from-was.ensures, c.type_inv.s loop-was.at), column-turn given.s.now given.j loop-was.k loop-was.a from-was.result (omega arith) this ∙ loop-was.invariant.4, column-turn2 given.s.now given.j loop-was.k loop-was.a loop-was.b from-was.result (omega arith) this ∙ loop-was.invariant.5)
 
 pub returns : goal.returns
 returns c =

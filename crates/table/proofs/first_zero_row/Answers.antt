@@ -1,101 +1,79 @@
-use mathlib.Core.Path.{◌∙◌, ◌≡◌, ap, sym}
-use mathlib.Core.Bool.{false, true}
-use Prim.Native.Nat.{ℕ, ◌/◌}
+use mathlib.Core.Path.{◌≡◌, sym, ap, ◌∙◌}
+use mathlib.Core.List.{List}
+use mathlib.Core.Logic.{inl}
+use Prim.Native.Nat.{ℕ, ◌*◌, ◌+◌, ◌/◌}
 use native.Mathlib.Omega.{arith}
-use lib.ListN.{length}
+use native.Mathlib.Nat.{mul-zero}
+use lib.ListN.{length, length-append}
+use Rattle.std.specs.Slice.Iter.{chunks_exact_rest, chunks_exact_size}
+use Rattle.std.specs.Iterator.Adapters.{enumerate_count, enumerate_source}
 use Rattle.octets.specs.Texts.{all_zero}
 use Rattle.table.specs.Answers.{lent}
-use Rattle.table.specs.TheTable.{row_at, row_length, rows}
-use Rattle.table.proofs.Rows.{bytes_most, form-top, lent_length, lent-test, piece-row, row_inside, rows-most, rows-over, search-all, search-end, search-here, search-on, width-least}
+use Rattle.table.specs.TheTable.{first_row, row, row_length, rows}
+use Rattle.table.proofs.Rows.{form-top, rows-most, width-least, width-some}
+use Rattle.table.proofs.Chunks.{next_from, next-all, next-end, next-here, next-on}
 use Rattle.table.proofs.first_zero_row.Goals as goal
 
-pub row_length-width-requires : goal.row_length-width-requires
-row_length-width-requires c =
-    let given = c.args in
-    let pre-was = c.requires in
-    form-top (lent given.form given.t.now) pre-was
+pub row_length-requires : goal.row_length-requires
+row_length-requires c = form-top (lent c.args.form c.args.t.now) c.requires
 
-pub loop-at-init : goal.loop-at-init
+pub chunks_exact-requires : goal.chunks_exact-requires
+chunks_exact-requires c = omega (arith, c.row_length.ensures, width-least c.args.form)
+
+pub loop-i-init-derived : goal.loop-i-init-derived
+loop-i-init-derived c =
+    let form = c.args.form in
+    let source = ap enumerate_source c.into_iter-i-iterator.ensures.into_iter_gives ∙ c.enumerate-i-items.ensures.source in
+    let none = ap enumerate_count c.into_iter-i-iterator.ensures.into_iter_gives ∙ c.enumerate-i-items.ensures.count in
+    let wide : chunks_exact_size c.chunks_exact.result ≡ row_length form = c.chunks_exact.ensures.size ∙ c.row_length.ensures in
+    let few : length (chunks_exact_rest c.chunks_exact.result) / chunks_exact_size c.chunks_exact.result ≡ length c.args.t.now / row_length form = ap (λ (x : List ℕ). length x / chunks_exact_size c.chunks_exact.result) c.chunks_exact.ensures.rest ∙ ap (λ (x : ℕ). length c.args.t.now / x) wide in
+    let left = ap (λ x. length (chunks_exact_rest x) / chunks_exact_size x) source ∙ few in
+    ((omega (arith, ap chunks_exact_size source, wide, width-least form), tt, inl (omega (arith, none, left, rows-most (lent form c.args.t.now) c.requires))), tt)
+
+pub loop-i-init : goal.loop-i-init
 unfolding rows
-loop-at-init c =
-    let given = c.args in
-    (omega arith, omega arith, search-all all_zero (row_length given.form) (length given.t.now / row_length given.form) given.t.now)
-
-pub overflow_add-end : goal.overflow_add-end
-overflow_add-end c =
-    let given = c.args in
-    let pre-was = c.requires in
-    let row-length-was = c.row_length-width in
-    let most = bytes_most (lent given.form given.t.now) pre-was in
-    omega (arith, row-length-was.ensures, most.0, most.1)
-
-pub slice_bounds-zero_row-start : goal.slice_bounds-zero_row-start
-slice_bounds-zero_row-start c = omega arith
-
-pub slice_bounds-zero_row-end : goal.slice_bounds-zero_row-end
-slice_bounds-zero_row-end c =
-    let given = c.args in
-    let pre-was = c.requires in
-    let loop-was = c.loop-at in
-    let row-length-was = c.row_length-width in
-    let inside = row_inside (lent given.form given.t.now) pre-was loop-was.i 0 (omega (arith, loop-was.invariant.0)) in
-    omega (arith, row-length-was.ensures, loop-was.invariant.0, inside.1)
+loop-i-init c =
+    let form = c.args.form in
+    let w : ℕ = row_length form in
+    let source = ap enumerate_source c.into_iter-i-iterator.ensures.into_iter_gives ∙ c.enumerate-i-items.ensures.source in
+    let none = ap enumerate_count c.into_iter-i-iterator.ensures.into_iter_gives ∙ c.enumerate-i-items.ensures.count in
+    let whole = ap chunks_exact_rest source ∙ c.chunks_exact.ensures.rest in
+    record {
+      wide = ap chunks_exact_size source ∙ c.chunks_exact.ensures.size ∙ c.row_length.ensures;
+      whole = omega (arith, ap (λ (k : ℕ). w * k) none, ap length whole);
+      next = ap (λ (k : ℕ). next_from w (width-some form) all_zero k (chunks_exact_rest (enumerate_source c.into_iter-i-iterator.result))) none ∙ ap (next_from w (width-some form) all_zero 0) whole ∙ next-all w (width-some form) all_zero c.args.t.now;
+    }
 
 pub zero_row-requires : goal.zero_row-requires
-zero_row-requires c =
-    let given = c.args in
-    let pre-was = c.requires in
-    let loop-was = c.loop-at in
-    let row-length-was = c.row_length-width in
-    let inside = row_inside (lent given.form given.t.now) pre-was loop-was.i 0 (omega (arith, loop-was.invariant.0)) in
-    omega (arith, lent_length given.t.now loop-was.at row-length-was.result (omega (arith, row-length-was.ensures, loop-was.invariant.0, inside.1)), row-length-was.ensures, width-least given.form)
+zero_row-requires c = omega (arith, c.in-Some.ensures.steps.0.1.1, c.loop-i.invariant.wide, width-least c.args.form)
 
 pub returns-then-zero_row : goal.returns-then-zero_row
 returns-then-zero_row c =
-    let given = c.args in
-    let loop-was = c.loop-at in
-    let row-length-was = c.row_length-width in
-    let zero-row-was = c.zero_row in
-    let test1 = c.if-zero_row in
-    let pre-was = c.requires in
-    let t = c.args.t.now in
-    let w : ℕ = row_length given.form in
-    let here : all_zero (row_at (lent given.form t) loop-was.i) ≡ true = lent-test all_zero (lent given.form t) _ loop-was.at loop-was.i _ true row-length-was.ensures loop-was.invariant.0 zero-row-was.ensures test1.true in
-    let inside = row_inside (lent given.form t) pre-was loop-was.i 0 (omega (arith, loop-was.invariant.0)) in
-    (sym (search-here all_zero w (length t / w) t loop-was.i inside.0 (ap all_zero (piece-row (lent given.form t) loop-was.i) ∙ here)) ∙ loop-was.invariant.2, inside.1)
+    let form = c.args.form in
+    let w : ℕ = row_length form in
+    let was = c.loop-i.invariant in
+    let step = c.in-Some.ensures.steps in
+    let here = next-here w (width-some form) all_zero (enumerate_count c.loop-i.i-iterator) _ _ _ step.0.1.0 (step.0.1.1 ∙ was.wide) (sym c.zero_row.ensures ∙ c.if-zero_row.true) in
+    let size = ap length step.0.1.0 ∙ length-append c.in-Some.r.now (chunks_exact_rest (enumerate_source c.next.new.self)) in
+    (ap row step.1 ∙ sym here ∙ was.next, omega (arith, ap (λ (k : ℕ). w * k) step.1, was.whole, size, step.0.1.1, was.wide))
 
-pub overflow_add-i : goal.overflow_add-i
-overflow_add-i c =
-    let given = c.args in
-    let pre-was = c.requires in
-    omega (arith, rows-most (lent given.form given.t.now) pre-was)
-
-pub loop-at-smaller : goal.loop-at-smaller
-loop-at-smaller c =
-    let row-length-was = c.row_length-width in
-    let given = c.args in
-    omega (arith, row-length-was.ensures, width-least given.form)
-
-pub loop-at-preserved : goal.loop-at-preserved
-loop-at-preserved c =
-    let given = c.args in
-    let loop-was = c.loop-at in
-    let row-length-was = c.row_length-width in
-    let zero-row-was = c.zero_row in
-    let test1 = c.if-zero_row in
-    let pre-was = c.requires in
-    let t = c.args.t.now in
-    let w : ℕ = row_length given.form in
-    let other : all_zero (row_at (lent given.form t) loop-was.i) ≡ false = lent-test all_zero (lent given.form t) _ loop-was.at loop-was.i _ false row-length-was.ensures loop-was.invariant.0 zero-row-was.ensures test1.false in
-    let inside = row_inside (lent given.form t) pre-was loop-was.i 0 (omega (arith, loop-was.invariant.0)) in
-    (omega (arith, row-length-was.ensures, loop-was.invariant.0), omega (arith, inside.0), search-on all_zero w (length t / w) t loop-was.i inside.0 (ap all_zero (piece-row (lent given.form t) loop-was.i) ∙ other) ∙ loop-was.invariant.2)
+pub loop-i-preserved : goal.loop-i-preserved
+loop-i-preserved c =
+    let form = c.args.form in
+    let w : ℕ = row_length form in
+    let was = c.loop-i.invariant in
+    let step = c.in-Some.ensures.steps in
+    let on = next-on w (width-some form) all_zero (enumerate_count c.loop-i.i-iterator) _ _ _ step.0.1.0 (step.0.1.1 ∙ was.wide) (sym c.zero_row.ensures ∙ c.if-zero_row.false) in
+    let size = ap length step.0.1.0 ∙ length-append c.in-Some.r.now (chunks_exact_rest (enumerate_source c.next.new.self)) in
+    record {
+      wide = step.0.0 ∙ was.wide;
+      whole = omega (arith, ap (λ (k : ℕ). w * k) step.2, was.whole, size, step.0.1.1, was.wide);
+      next = ap (λ (k : ℕ). next_from w (width-some form) all_zero k (chunks_exact_rest (enumerate_source c.next.new.self))) step.2 ∙ on ∙ was.next;
+    }
 
 pub returns : goal.returns
 returns c =
-    let given = c.args in
-    let pre-was = c.requires in
-    let loop-was = c.loop-at in
-    let t = c.args.t.now in
-    let w : ℕ = row_length given.form in
-    let over = rows-over (lent given.form t) pre-was loop-was.i (omega (arith, loop-was.invariant.0)) in
-    (sym (search-end all_zero w (length t / w) t loop-was.i over) ∙ loop-was.invariant.2, omega arith)
+    let form = c.args.form in
+    let was = c.loop-i.invariant in
+    let none = next-end (row_length form) (width-some form) all_zero (enumerate_count c.loop-i.i-iterator) (chunks_exact_rest (enumerate_source c.loop-i.i-iterator)) (omega (arith, c.in-None.ensures.steps.0.1.0, was.wide)) in
+    (sym none ∙ was.next, omega arith)

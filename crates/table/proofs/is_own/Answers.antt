@@ -18,6 +18,6 @@ pub returns : goal.returns
 unfolding is_own
 returns c =
     let given = c.args in
-    let wide-was = c.wide in
+    let from-was = c.from in
     let test1 = c.if-r-ne1 in
-    ap (λ (x : ℕ). eqb x given.op) wide-was.ensures.0 ∙ sym (rw (eq-eqb (get_or given.r.now 0 0) 1 test1.false))
+    ap (λ (x : ℕ). eqb x given.op) from-was.ensures ∙ sym (rw (eq-eqb (get_or given.r.now 0 0) 1 test1.false))

@@ -1,120 +1,71 @@
-use mathlib.Core.Path.{◌∙◌, ◌≡◌, ap}
-use mathlib.Core.Bool.{false, true}
-use Prim.Native.Nat.{ℕ, ◌*◌, ◌/◌}
+use mathlib.Core.Path.{◌≡◌, sym, ap, ◌∙◌}
+use mathlib.Core.List.{List}
+use Prim.Native.Nat.{ℕ, ◌/◌}
 use native.Mathlib.Omega.{arith}
 use lib.ListN.{length}
+use Rattle.std.specs.Slice.Iter.{chunks_exact_rest, chunks_exact_size}
 use Rattle.table.specs.Answers.{lent}
-use Rattle.table.specs.TheTable.{is_own, own_rows, row_at, row_length, rows}
-use Rattle.table.proofs.Rows.{bytes_most, form-top, kept-all, kept-end, kept_here, kept_on, kept_from, lent_length, lent-test, piece-row, row_inside, rows-most, rows-over, width-least}
-use Rattle.table.proofs.Widths.{one-row-on, quotient_is}
+use Rattle.table.specs.TheTable.{is_own, own_rows, row_length, rows}
+use Rattle.table.proofs.Rows.{form-top, rows-most, width-least, width-some}
+use Rattle.table.proofs.Chunks.{left, left-all, left-end, left-here, left-on, one-less}
 use Rattle.table.proofs.own_rows.Goals as goal
 
-pub row_length-width-requires : goal.row_length-width-requires
-row_length-width-requires c =
-    let given = c.args in
-    let pre-was = c.requires in
-    form-top (lent given.form given.t.now) pre-was
+pub row_length-requires : goal.row_length-requires
+row_length-requires c = form-top (lent c.args.form c.args.t.now) c.requires
 
-pub loop-at-init : goal.loop-at-init
+pub chunks_exact-r-items-requires : goal.chunks_exact-r-items-requires
+chunks_exact-r-items-requires c = omega (arith, c.row_length.ensures, width-least c.args.form)
+
+pub loop-r-init-derived : goal.loop-r-init-derived
+loop-r-init-derived c =
+    let wide : chunks_exact_size c.into_iter-r-iterator.result ≡ row_length c.args.form = ap chunks_exact_size c.into_iter-r-iterator.ensures.into_iter_gives ∙ c.chunks_exact-r-items.ensures.size ∙ c.row_length.ensures in
+    (omega (arith, wide, width-least c.args.form), tt)
+
+pub loop-r-init : goal.loop-r-init
 unfolding own_rows rows
-loop-at-init c =
-    let given = c.args in
-    let t = c.args.t.now in
-    let w : ℕ = row_length given.form in
-    let n : ℕ = length t / w in
-    let none : 0 / w ≡ 0 = quotient_is w 0 0 0 (omega arith) (omega (arith, width-least given.form)) in
-    (omega (arith, ap (λ (x : ℕ). w * x) none), omega (arith, none), omega arith, omega (arith, ap (kept_from (is_own given.op) w n t) none, kept-all (is_own given.op) w n t))
-
-pub overflow_add-end : goal.overflow_add-end
-overflow_add-end c =
-    let given = c.args in
-    let pre-was = c.requires in
-    let row-length-was = c.row_length-width in
-    let most = bytes_most (lent given.form given.t.now) pre-was in
-    omega (arith, row-length-was.ensures, most.0, most.1)
-
-pub slice_bounds-is_own-start : goal.slice_bounds-is_own-start
-slice_bounds-is_own-start c = omega arith
-
-pub slice_bounds-is_own-end : goal.slice_bounds-is_own-end
-slice_bounds-is_own-end c =
-    let given = c.args in
-    let pre-was = c.requires in
-    let loop-was = c.loop-at in
-    let row-length-was = c.row_length-width in
-    let inside = row_inside (lent given.form given.t.now) pre-was (loop-was.at / row_length given.form) 0 (omega (arith, loop-was.invariant.0)) in
-    omega (arith, row-length-was.ensures, loop-was.invariant.0, inside.1)
+loop-r-init c =
+    let form = c.args.form in
+    let w : ℕ = row_length form in
+    let s : List ℕ = chunks_exact_rest c.into_iter-r-iterator.result in
+    let whole : s ≡ c.args.t.now = ap chunks_exact_rest c.into_iter-r-iterator.ensures.into_iter_gives ∙ c.chunks_exact-r-items.ensures.rest in
+    let all : left w (width-some form) (is_own c.args.op) s ≡ length (own_rows c.args.op (lent form c.args.t.now)) = ap (left w (width-some form) (is_own c.args.op)) whole ∙ left-all w (width-some form) (is_own c.args.op) c.args.t.now in
+    record {
+      wide = ap chunks_exact_size c.into_iter-r-iterator.ensures.into_iter_gives ∙ c.chunks_exact-r-items.ensures.size ∙ c.row_length.ensures;
+      few = omega (arith, ap (λ (x : List ℕ). length x / w) whole);
+      counted = omega (arith, all);
+    }
 
 pub is_own-requires : goal.is_own-requires
-is_own-requires c =
-    let given = c.args in
-    let pre-was = c.requires in
-    let loop-was = c.loop-at in
-    let row-length-was = c.row_length-width in
-    let inside = row_inside (lent given.form given.t.now) pre-was (loop-was.at / row_length given.form) 0 (omega (arith, loop-was.invariant.0)) in
-    omega (arith, lent_length given.t.now loop-was.at row-length-was.result (omega (arith, row-length-was.ensures, loop-was.invariant.0, inside.1)), row-length-was.ensures, width-least given.form)
+is_own-requires c = omega (arith, c.in-Some.ensures.steps.1.1, c.loop-r.invariant.wide, width-least c.args.form)
 
 pub overflow_add-count : goal.overflow_add-count
 overflow_add-count c =
-    let given = c.args in
-    let pre-was = c.requires in
-    let loop-was = c.loop-at in
-    omega (arith, rows-most (lent given.form given.t.now) pre-was, loop-was.invariant.1, loop-was.invariant.2)
+    let form = c.args.form in
+    let step = c.in-Some.ensures.steps in
+    let less = one-less (row_length form) (width-some form) _ _ _ step.1.0 (step.1.1 ∙ c.loop-r.invariant.wide) in
+    omega (arith, less, c.loop-r.invariant.few, rows-most (lent form c.args.t.now) c.requires)
 
-pub loop-at-smaller-then-is_own : goal.loop-at-smaller-then-is_own
-loop-at-smaller-then-is_own c =
-    let row-length-was = c.row_length-width in
-    let given = c.args in
-    omega (arith, row-length-was.ensures, width-least given.form)
+pub loop-r-preserved-then-is_own : goal.loop-r-preserved-then-is_own
+loop-r-preserved-then-is_own c =
+    let form = c.args.form in
+    let was = c.loop-r.invariant in
+    let step = c.in-Some.ensures.steps in
+    let less = one-less (row_length form) (width-some form) _ _ _ step.1.0 (step.1.1 ∙ was.wide) in
+    let here = left-here (row_length form) (width-some form) (is_own c.args.op) _ _ _ step.1.0 (step.1.1 ∙ was.wide) (sym c.is_own.ensures ∙ c.if-is_own.true) in
+    record { wide = step.0 ∙ was.wide; few = omega (arith, less, was.few); counted = omega (arith, here, was.counted) }
 
-pub loop-at-preserved-then-is_own : goal.loop-at-preserved-then-is_own
-loop-at-preserved-then-is_own c =
-    let given = c.args in
-    let loop-was = c.loop-at in
-    let pre-was = c.requires in
-    let row-length-was = c.row_length-width in
-    let is-own-was = c.is_own in
-    let test1 = c.if-is_own in
-    let t = c.args.t.now in
-    let w : ℕ = row_length given.form in
-    let n : ℕ = length t / w in
-    let i : ℕ = loop-was.at / w in
-    let inside = row_inside (lent given.form t) pre-was i 0 (omega (arith, loop-was.invariant.0)) in
-    let next = (one-row-on w loop-was.at _ row-length-was.ensures (omega (arith, width-least given.form))).0 in
-    let this : is_own given.op (row_at (lent given.form t) i) ≡ true = lent-test (is_own given.op) (lent given.form t) _ loop-was.at i _ true row-length-was.ensures loop-was.invariant.0 is-own-was.ensures test1.true in
-    let step = kept_here (is_own given.op) w n t i inside.0 (ap (is_own given.op) (piece-row (lent given.form t) i) ∙ this) in
-    (omega (arith, ap (λ (x : ℕ). w * x) next, row-length-was.ensures, loop-was.invariant.0), omega (arith, next, inside.0), omega (arith, next, loop-was.invariant.2), omega (arith, ap (kept_from (is_own given.op) w n t) next, step, loop-was.invariant.3))
-
-pub loop-at-smaller : goal.loop-at-smaller
-loop-at-smaller c =
-    let row-length-was = c.row_length-width in
-    let given = c.args in
-    omega (arith, row-length-was.ensures, width-least given.form)
-
-pub loop-at-preserved : goal.loop-at-preserved
-loop-at-preserved c =
-    let given = c.args in
-    let loop-was = c.loop-at in
-    let pre-was = c.requires in
-    let row-length-was = c.row_length-width in
-    let is-own-was = c.is_own in
-    let test1 = c.if-is_own in
-    let t = c.args.t.now in
-    let w : ℕ = row_length given.form in
-    let n : ℕ = length t / w in
-    let i : ℕ = loop-was.at / w in
-    let inside = row_inside (lent given.form t) pre-was i 0 (omega (arith, loop-was.invariant.0)) in
-    let next = (one-row-on w loop-was.at _ row-length-was.ensures (omega (arith, width-least given.form))).0 in
-    let this : is_own given.op (row_at (lent given.form t) i) ≡ false = lent-test (is_own given.op) (lent given.form t) _ loop-was.at i _ false row-length-was.ensures loop-was.invariant.0 is-own-was.ensures test1.false in
-    let step = kept_on (is_own given.op) w n t i inside.0 (ap (is_own given.op) (piece-row (lent given.form t) i) ∙ this) in
-    (omega (arith, ap (λ (x : ℕ). w * x) next, row-length-was.ensures, loop-was.invariant.0), omega (arith, next, inside.0), omega (arith, next, loop-was.invariant.2), omega (arith, ap (kept_from (is_own given.op) w n t) next, step, loop-was.invariant.3))
+pub loop-r-preserved : goal.loop-r-preserved
+loop-r-preserved c =
+    let form = c.args.form in
+    let was = c.loop-r.invariant in
+    let step = c.in-Some.ensures.steps in
+    let less = one-less (row_length form) (width-some form) _ _ _ step.1.0 (step.1.1 ∙ was.wide) in
+    let on = left-on (row_length form) (width-some form) (is_own c.args.op) _ _ _ step.1.0 (step.1.1 ∙ was.wide) (sym c.is_own.ensures ∙ c.if-is_own.false) in
+    record { wide = step.0 ∙ was.wide; few = omega (arith, less, was.few); counted = omega (arith, on, was.counted) }
 
 pub returns : goal.returns
 returns c =
-    let given = c.args in
-    let pre-was = c.requires in
-    let loop-was = c.loop-at in
-    let t = c.args.t.now in
-    let w : ℕ = row_length given.form in
-    let over = rows-over (lent given.form t) pre-was (loop-was.at / w) (omega (arith, loop-was.invariant.0)) in
-    omega (arith, kept-end (is_own given.op) w (length t / w) t (loop-was.at / w) over, loop-was.invariant.3)
+    let form = c.args.form in
+    let was = c.loop-r.invariant in
+    let none = left-end (row_length form) (width-some form) (is_own c.args.op) (chunks_exact_rest c.loop-r.r-iterator) (omega (arith, c.in-None.ensures.steps.1.0, was.wide)) in
+    omega (arith, none, was.counted)

@@ -136,8 +136,8 @@ loop-at-preserved c =
     let pre-was = c.requires in
     let loop-was = c.loop-at in
     let row-length-was = c.row_length-width in
-    let test3 = c.if-wide-op in
-    let wide-was = c.wide in
+    let test3 = c.if-from-op in
+    let from-was = c.from in
     let next-like2-was = c.next_like-at-in-loop-at in
     let eight-was = c.eight-end in
     let name = c.args.name.now in
@@ -152,7 +152,7 @@ loop-at-preserved c =
     let b : ℕ = 25 - length name in
     let seen : get_or (part given.t.now b (length given.t.now - b)) loop-was.at 0 ≡ get_or given.t.now (b + loop-was.at) 0 =
     get_or-take (length given.t.now - b) (drop b given.t.now) loop-was.at 0 (omega (arith, here, width-least given.form, (row_inside t pre-was.0 k o (omega (arith, here))).1)) ∙ get_or-drop b given.t.now loop-was.at 0 in
-    let other : is_row_of a (row_at t k) ≡ false = other-operator t a k (b + loop-was.at) (omega (arith, here)) (λ e. test3.false (wide-was.ensures.0 ∙ seen ∙ e)) in (
+    let other : is_row_of a (row_at t k) ≡ false = other-operator t a k (b + loop-was.at) (omega (arith, here)) (λ e. test3.false (from-was.ensures ∙ seen ∙ e)) in (
       next-like2-was.ensures.0 ∙ d,
       omega (arith, next.0, loop-was.invariant.1, next-like2-was.ensures.1),
       next-like2-was.ensures.2,

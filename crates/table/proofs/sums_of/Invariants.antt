@@ -6,7 +6,4 @@ use Rattle.table.proofs.Columns.{column_share, total}
 use Rattle.table.proofs.sums_of.Given as goal
 
 abbrev pub invariant-loop-j : goal.invariant-loop-j
-invariant-loop-j l = (l.j ≤ 32) × (l.weight + l.j ≡ 32) × (l.a ≤ 270 * l.j) × (l.b ≤ 352 * l.j) × (l.a % 255 ≡ total (column_first 16 l.s) l.j % 255) × (l.b % 255 ≡ total (column_share 16 l.s) l.j % 255)
-
-abbrev pub decreases-loop-j : goal.decreases-loop-j
-decreases-loop-j l = 32 - l.j
+invariant-loop-j l = (l.weight + l.j ≡ 32) × (l.a ≤ 270 * l.j) × (l.b ≤ 352 * l.j) × (l.a % 255 ≡ total (column_first 16 l.s) l.j % 255) × (l.b % 255 ≡ total (column_share 16 l.s) l.j % 255)

@@ -8,6 +8,6 @@ pub returns : goal.returns
 returns c =
     let a = c.args in
     let p = c.requires in
-    c.put_16-4.ensures
-    ∙ rw (c.put_16-3.ensures, c.put_16-2.ensures, c.put_16.ensures)
+    c.put_word-4.ensures
+    ∙ rw (c.put_word-3.ensures, c.put_word-2.ensures, c.put_word.ensures)
     (words-64 a.room.now a.at a.src.now a.from p.0 p.1)

@@ -15,8 +15,8 @@ returns-then-n-ge8 c =
     let n = length s in
     let p = c.requires in
     let t : part s (n - 8) 8 ≡ drop (n - 8) s = tail-part s (n - 8) 8 (omega arith) in
-    c.put_8-then-n-ge8.ensures
-    ∙ rw (c.put_8.ensures, t)
+    c.put_word-then-n-ge8.ensures
+    ∙ rw (c.put_word.ensures, t)
     (put_last a.room.now a.at s (n - 8) 8 p.1 (omega (arith, p.0)) (omega arith))
 
 pub returns-then-n-ge4 : goal.returns-then-n-ge4
@@ -26,6 +26,6 @@ returns-then-n-ge4 c =
     let n = length s in
     let p = c.requires in
     let t : part s (n - 4) 4 ≡ drop (n - 4) s = tail-part s (n - 4) 4 (omega arith) in
-    c.put_4-then-n-ge4.ensures
-    ∙ rw (c.put_4.ensures, t)
+    c.put_word-then-n-ge4-2.ensures
+    ∙ rw (c.put_word-then-n-ge4.ensures, t)
     (put_last a.room.now a.at s (n - 4) 4 p.1 (omega (arith, p.0)) (omega arith))

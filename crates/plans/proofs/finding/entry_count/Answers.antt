@@ -14,9 +14,9 @@ entry_count-requires c =
 
 pub returns : goal.returns
 returns c =
-    let long-was = c.long in
+    let from-was = c.from in
     let given = c.args in
     let entry-count-was = c.entry_count in
     let pre-was = c.requires in
-    let e : long-was.result ≡ length (read_row given.row.now).entries = long-was.ensures.0 ∙ entry-count-was.ensures ∙ sym (count-is given.row.now) in
+    let e : from-was.result ≡ length (read_row given.row.now).entries = from-was.ensures ∙ entry-count-was.ensures ∙ sym (count-is given.row.now) in
     (e, omega (arith, e, most-four given.row.now pre-was))

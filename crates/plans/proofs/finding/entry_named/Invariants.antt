@@ -7,7 +7,4 @@ use lib.ListN.{length, drop}
 use Rattle.plans.proofs.finding.entry_named.Given as goal
 
 abbrev pub invariant-loop-n : goal.invariant-loop-n
-invariant-loop-n l = (l.count ≡ length (read_row l.row).entries) × (l.count ≤ 4) × (1 ≤ l.n) × (l.n ≤ l.count + 1) × (entry_from l.n l.label (drop (l.n - 1) (read_row l.row).entries) ≡ entry_named l.label (read_row l.row))
-
-abbrev pub decreases-loop-n : goal.decreases-loop-n
-decreases-loop-n l = l.count + 1 - l.n
+invariant-loop-n l = entry_from l.n l.label (drop (l.n - 1) (read_row l.row).entries) ≡ entry_named l.label (read_row l.row)

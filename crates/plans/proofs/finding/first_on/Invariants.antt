@@ -6,12 +6,8 @@ use Rattle.table.specs.TheTable.{order_line}
 use Rattle.plans.proofs.Search.{hunt}
 use Rattle.plans.proofs.Found.{entry_is}
 use mathlib.Core.Path.{◌≡◌}
-use Prim.Native.Nat.{◌-◌, ◌≤◌}
 use lib.ListN.{drop}
 use Rattle.plans.proofs.finding.first_on.Given as goal
 
-abbrev pub invariant-loop-first : goal.invariant-loop-first
-invariant-loop-first l = (l.i ≤ 8) × (every (within 1 8) (drop l.i (order_line l.row)) ≡ true) × (hunt (entry_is l.row l.entry) (order_line l.row) l.i ≡ hunt (entry_is l.row l.entry) (order_line l.row) 0)
-
-abbrev pub decreases-loop-first : goal.decreases-loop-first
-decreases-loop-first l = 8 - l.i
+abbrev pub invariant-loop-i : goal.invariant-loop-i
+invariant-loop-i l = (every (within 1 8) (drop l.i (order_line l.row)) ≡ true) × (hunt (entry_is l.row l.entry) (order_line l.row) l.i ≡ hunt (entry_is l.row l.entry) (order_line l.row) 0)

@@ -6,23 +6,22 @@ use borrow.Author.Tests.{eq-eqb, ne_eqb}
 use Rattle.table.specs.TheTable.{read_row}
 use Rattle.rules.specs.Deciding.{none, with_session, place_of}
 use Rattle.plans.specs.Plans.{planned, plan_code}
+use Rattle.plans.proofs.Search.{found-is, not-found}
 use Rattle.plans.proofs.Found.{none-with}
 use Rattle.plans.proofs.Verdicts.{no_access, gateway-no, gateway-yes, fit-place}
 use mathlib.Core.Path.{◌≡◌, refl, sym, ap, ◌∙◌}
 use Prim.Native.Nat.{ℕ}
 use Rattle.plans.proofs.planning.plan_policy.Goals as goal
 
-pub returns-then-k-eq0 : goal.returns-then-k-eq0
+pub returns-in_default : goal.returns-in_default
 unfolding planned plan_code fit_plan
-returns-then-k-eq0 c =
+returns-in_default c =
     let a = c.args in
     let s = read_row a.row.now in
     let session = c.args.session.now in
-    let at : c.place_of-k.result ≡ place_of (with_session session s.accesses) = c.place_of-k.ensures.0 in
-    let there : none (with_session session s.accesses) ≡ eqb c.place_of-k.result 0 = none-with a.row.now session c.requires ∙ ap (λ (k : ℕ). eqb k 0) (sym at) in (
-      λ o p. sym (no_access session s p a.wag (there ∙ eq-eqb _ 0 c.if-k-eq0.true)),
-      λ p w. refl,
-    )
+    let none-there : place_of (with_session session s.accesses) ≡ 0 = not-found _ (λ k e. c.in_default.not-Some k (c.place_of.ensures.0 ∙ e)) in
+    let there : none (with_session session s.accesses) ≡ true = none-with a.row.now session c.requires ∙ eq-eqb _ 0 none-there in
+    (λ o p. sym (no_access session s p a.wag there), λ p w. refl)
 
 pub returns-then-wag : goal.returns-then-wag
 unfolding planned plan_code fit_plan
@@ -30,11 +29,11 @@ returns-then-wag c =
     let a = c.args in
     let s = read_row a.row.now in
     let session = c.args.session.now in
-    let at : c.place_of-k.result ≡ place_of (with_session session s.accesses) = c.place_of-k.ensures.0 in
-    let there : none (with_session session s.accesses) ≡ eqb c.place_of-k.result 0 = none-with a.row.now session c.requires ∙ ap (λ (k : ℕ). eqb k 0) (sym at) in
+    let is = found-is _ _ (sym c.place_of.ensures.0 ∙ c.in-Some.is) in
+    let there : none (with_session session s.accesses) ≡ false = none-with a.row.now session c.requires ∙ ne_eqb _ 0 is.1 in
     let yes : a.wag ≡ true = c.if-wag.true in (
-      λ o p. rw (yes, at) (sym (gateway-yes session s (record { opening = o; policies = p }) (there ∙ ne_eqb _ 0 c.if-k-eq0.false))),
-      λ p w. rw (at, fit-place a.row.now c.requires session (λ z. c.if-k-eq0.false (at ∙ z)), w),
+      λ o p. rw (yes, sym is.0) (sym (gateway-yes session s (record { opening = o; policies = p }) there)),
+      λ p w. rw (sym is.0, fit-place a.row.now c.requires session is.1, w),
     )
 
 pub returns : goal.returns
@@ -43,9 +42,9 @@ returns c =
     let a = c.args in
     let s = read_row a.row.now in
     let session = c.args.session.now in
-    let at : c.place_of-k.result ≡ place_of (with_session session s.accesses) = c.place_of-k.ensures.0 in
-    let there : none (with_session session s.accesses) ≡ eqb c.place_of-k.result 0 = none-with a.row.now session c.requires ∙ ap (λ (k : ℕ). eqb k 0) (sym at) in
+    let is = found-is _ _ (sym c.place_of.ensures.0 ∙ c.in-Some.is) in
+    let there : none (with_session session s.accesses) ≡ false = none-with a.row.now session c.requires ∙ ne_eqb _ 0 is.1 in
     let no : a.wag ≡ false = c.if-wag.false in (
-      λ o p. rw no (sym (gateway-no session s p (there ∙ ne_eqb _ 0 c.if-k-eq0.false))),
+      λ o p. rw no (sym (gateway-no session s p there)),
       λ p w. refl,
     )

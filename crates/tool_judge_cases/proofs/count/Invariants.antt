@@ -1,9 +1,0 @@
--- The number of turns left falls.
-use Prim.Native.Nat.{◌≤◌}
-use Rattle.tool_judge_cases.proofs.count.Given as goal
-
-abbrev pub invariant-loop-turns : goal.invariant-loop-turns
-invariant-loop-turns l = l.turns ≤ 4294967296
-
-abbrev pub decreases-loop-turns : goal.decreases-loop-turns
-decreases-loop-turns l = l.turns

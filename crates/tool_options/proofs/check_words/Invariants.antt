@@ -1,9 +1,0 @@
--- The number of the word stays within its bound.
-use Prim.Native.Nat.{◌-◌, ◌≤◌}
-use Rattle.tool_options.proofs.check_words.Given as goal
-
-abbrev pub invariant-loop-i : goal.invariant-loop-i
-invariant-loop-i l = l.i ≤ 16
-
-abbrev pub decreases-loop-i : goal.decreases-loop-i
-decreases-loop-i l = 16 - l.i

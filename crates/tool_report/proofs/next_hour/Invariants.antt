@@ -1,9 +1,0 @@
--- A line has at most five bytes.
-use Prim.Native.Nat.{◌-◌, ◌≤◌}
-use Rattle.tool_report.proofs.next_hour.Given as goal
-
-abbrev pub invariant-loop-n : goal.invariant-loop-n
-invariant-loop-n l = l.n ≤ 5
-
-abbrev pub decreases-loop-n : goal.decreases-loop-n
-decreases-loop-n l = 5 - l.n

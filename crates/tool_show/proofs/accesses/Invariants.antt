@@ -1,9 +1,0 @@
--- The number stays within the line.
-use Prim.Native.Nat.{◌-◌, ◌≤◌}
-use Rattle.tool_show.proofs.accesses.Given as goal
-
-abbrev pub invariant-loop-i : goal.invariant-loop-i
-invariant-loop-i l = l.i ≤ 9
-
-abbrev pub decreases-loop-i : goal.decreases-loop-i
-decreases-loop-i l = 9 - l.i
