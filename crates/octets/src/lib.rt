@@ -77,15 +77,15 @@ pub fn same_bytes(a: &[u8], b: &[u8]) -> bool
         return same_few(a, b);
     }
     let last = n - 8;
-    for i in (0..last).step_by(8) {
-        if eight(a, i) != eight(b, i) {
+    for k in 0..(last + 7) / 8 {
+        if eight(a, 8 * k) != eight(b, 8 * k) {
             return false;
         }
     }
     eight(a, last) == eight(b, last)
 }
 
-// Whether all of a few bytes are zero, by the largest.
+// Whether all of a few bytes are zero.
 fn zero_few(s: &[u8]) -> bool
     ensures { result ≡ all_zero s.now }
 {
@@ -103,8 +103,8 @@ pub fn all_zero(s: &[u8]) -> bool
     }
     let last = n - 8;
     let mut some: u64 = eight(s, last);
-    for i in (0..last).step_by(8) {
-        some |= eight(s, i);
+    for k in 0..(last + 7) / 8 {
+        some |= eight(s, 8 * k);
     }
     some == 0
 }
@@ -114,8 +114,10 @@ pub fn put_bytes(room: &mut [u8], at: usize, src: &[u8])
     requires { at + length src.now ≤ length room.old }
     ensures { room.new ≡ put room.old at src.now }
 {
-    let end = at + src.len();
-    room[at..end].copy_from_slice(src);
+    // By index: `copy_from_slice` calls the C library's `memmove`, and the archives call `memset` alone.
+    for j in 0..src.len() {
+        room[at + j] = src[j];
+    }
 }
 
 // All bytes of `s` zero.

@@ -95,9 +95,7 @@ fn policy_end(
         → Listed m.now (policy_code most (avps m.now)) (policy_of (avps m.now)) result }
 {
     text_field(m, index, message::WLAN_APN_ID, 1, message::LABEL_MOST)?;
-    let Some(brought) = routes? else {
-        return Err(Failure::MissingAvp);
-    };
+    let brought = message::required(routes)?;
     Ok(UserRequest {
         user,
         asked: Asked::Policy {

@@ -179,7 +179,7 @@ fn is_of(e: &Screen, session: &[u8]) -> bool
     requires { e.now.size ≤ 128 }
     ensures { result ≡ is_of session.now e.now }
 {
-    same_session(session_of(e), session)
+    same_session(session, session_of(e))
 }
 
 // Whether one of these entries has this Session-Id.
@@ -205,7 +205,7 @@ struct Seen {
 }
 
 // None of a list that has a Session-Id of the wrong length or twice.
-fn look(screens: &[Screen], session: &[u8]) -> Option<Seen>
+fn survey(screens: &[Screen], session: &[u8]) -> Option<Seen>
     requires { length screens.now ≤ 64 }
     ensures counted { counts result ≡ count_connected screens.now }
     ensures found { IfSome result (λ s. Found screens.now session.now s.at) }
@@ -226,17 +226,6 @@ fn look(screens: &[Screen], session: &[u8]) -> Option<Seen>
     Some(Seen { at, connected })
 }
 
-// None of a list that is over 64 entries long too.
-fn survey(screens: &[Screen], session: &[u8]) -> Option<Seen>
-    ensures counted { counts result ≡ count_connected screens.now }
-    ensures found { IfSome result (λ s. Found screens.now session.now s.at) }
-{
-    if screens.len() > 64 {
-        return None;
-    }
-    look(screens, session)
-}
-
 // COUNTING
 
 // A number, and how many screens are connected.
@@ -251,7 +240,13 @@ pub struct Count {
 pub fn connected(screens: &[Screen]) -> Count
     ensures { count_said result ≡ count_connected screens.now }
 {
-    match survey(screens, b"") {
+    // before anything else
+    let seen = if screens.len() > 64 {
+        None
+    } else {
+        survey(screens, b"")
+    };
+    match seen {
         Some(s) => Count {
             number: 0,
             screens: s.connected,
@@ -276,6 +271,9 @@ enum Refusal {
 fn find(screens: &[Screen], session: &[u8]) -> Result<usize, Refusal>
     ensures { Finds screens.now session.now result }
 {
+    if screens.len() > 64 { // before anything else
+        return Err(Refusal::WrongList);
+    }
     let seen = survey(screens, session).ok_or(Refusal::WrongList)?;
     seen.at.ok_or(Refusal::NoScreen)
 }

@@ -13,7 +13,7 @@ pub const ENTRY_LENGTH: usize = 140;
 
 pub type Entry = [u8; ENTRY_LENGTH];
 
-// THE BOARD. Its list is one of structs. A copy of the list goes to it and comes back by value, and two thin functions lend it: `fed` and `counted`.
+// THE BOARD. Its list is one of structs, so a copy of the list is lent to it.
 
 // The state, the place, the length of the Session-Id and the room that it stands in.
 fn screen_of(e: Entry) -> Screen {
@@ -39,24 +39,18 @@ fn bytes_of(s: Screen) -> Entry {
 
 // The first 65 entries, and blank ones behind them.
 fn list_of(screens: &[Entry]) -> [Screen; 65] {
-    let mut list = [screen_of([0u8; ENTRY_LENGTH]); 65];
+    let blank = screen_of([0u8; ENTRY_LENGTH]);
+    let mut list = [blank; 65];
     for (s, e) in list.iter_mut().zip(screens) {
         *s = screen_of(*e);
     }
     list
 }
 
-fn put_list(screens: &mut [Entry], list: [Screen; 65]) {
+fn put_list(screens: &mut [Entry], list: &[Screen; 65]) {
     for (e, s) in screens.iter_mut().zip(list) {
-        *e = bytes_of(s);
+        *e = bytes_of(*s);
     }
-}
-
-fn fed(mut list: [Screen; 65], n: usize, session: &[u8], event: Event) -> [Screen; 65]
-    requires { n ≤ 65 }
-{
-    screen::feed(&mut list[..n], session, event);
-    list
 }
 
 fn counted(list: [Screen; 65], n: usize) -> Count
@@ -71,8 +65,9 @@ pub fn feed(screens: &mut [Entry], session: &[u8], event: Event) {
     if n > 65 {
         return;
     }
-    let list = fed(list_of(screens), n, session, event);
-    put_list(screens, list);
+    let mut list = list_of(screens);
+    screen::feed(&mut list[..n], session, event);
+    put_list(screens, &list);
 }
 
 // The number of connected screens. Number 0, or 25 with none, as for a list of over 64.

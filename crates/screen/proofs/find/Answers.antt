@@ -1,10 +1,18 @@
 -- One law for each way out.
-use Rattle.std.proofs.Common.{◌≡◌, Option, Some, None, Err, sym, subst, arith, IfSome}
-use Rattle.screen.specs.Code.{Found, Finds}
+use Rattle.std.proofs.Common.{◌≡◌, Option, Some, None, Err, refl, sym, subst, arith, IfSome}
+use Rattle.screen.specs.Code.{counts, Found, Finds}
 use Rattle.screen.specs.declared.Refusal.TheVariants.{WrongList}
 use Rattle.screen.specs.declared.Seen.{Seen}
+use Rattle.screen.proofs.Surveying.{over_64, refusal}
 use Rattle.screen.proofs.Leaving.{finds-wrong, finds-at}
 use Rattle.screen.proofs.find.Goals as goal
+
+pub returns-then-screens-gt64 : goal.returns-then-screens-gt64
+unfolding counts
+returns-then-screens-gt64 c =
+    let ys = c.args.screens.now in
+    let session = c.args.session.now in
+    finds-wrong ys session None (refusal ys session (over_64 ys session c.if-screens-gt64.true)) refl
 
 pub returns-in_err-seen : goal.returns-in_err-seen
 returns-in_err-seen c =
